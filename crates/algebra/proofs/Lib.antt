@@ -1,1 +1,4 @@
 pub mod Tables
+pub mod Remainders
+pub mod Inverse
+pub mod Trial

@@ -1,4 +1,16 @@
 pub mod Tables
+pub mod Members
+pub mod Rearrangement
 pub mod Remainders
 pub mod Inverse
 pub mod Trial
+pub mod Ring
+pub mod Residues
+pub mod Sums
+pub mod Polynomial
+pub mod Roots
+pub mod Interpolation
+pub mod Weights
+pub mod Count
+pub mod Pairs
+pub mod Homs

@@ -1,0 +1,131 @@
+// Numbers as bytes, lowest byte first, and runs of elements of four bytes. The definitions that the contracts cite, over
+// any width, are in specs/Bytes.antt. Each function asks that what it reads or writes lies within the slice.
+ghost use mathlib.Core.Path.{_≡_};
+ghost use Prim.Native.Nat.{_+_, _*_, _≤_};
+ghost use lib.ListN.{length, getD};
+ghost use Rattle.words.specs.Bytes.{valueOf, bytesOf, bytesOfAll, part, splice, elementsOf, allBelow, sameBytes};
+
+// The number of two bytes.
+fn half(a: u8, b: u8) -> u32
+    ensures { λ r. ⌜ r ≡ a + 256 * b ⌝ }
+{
+    (a as u32) + 256 * (b as u32)
+}
+
+// The number of four bytes.
+fn word(a: u8, b: u8, c: u8, d: u8) -> u32
+    ensures { λ r. ⌜ r ≡ a + 256 * (b + 256 * (c + 256 * d)) ⌝ }
+{
+    (a as u32) + 256 * ((b as u32) + 256 * ((c as u32) + 256 * (d as u32)))
+}
+
+// The number that the two bytes from `at` say.
+pub fn read_u16(s: &[u8], at: usize) -> u32
+    requires { ⌜ at + 2 ≤ length (now s) ⌝ }
+    ensures { λ r. ⌜ r ≡ valueOf (part at 2 (now (s .entry))) ⌝ }
+{
+    half(s[at], s[at + 1])
+}
+
+// The number that the four bytes from `at` say.
+pub fn read_u32(s: &[u8], at: usize) -> u32
+    requires { ⌜ at + 4 ≤ length (now s) ⌝ }
+    ensures { λ r. ⌜ r ≡ valueOf (part at 4 (now (s .entry))) ⌝ }
+{
+    word(s[at], s[at + 1], s[at + 2], s[at + 3])
+}
+
+// Writes the two lowest bytes of `v` from `at`.
+pub fn write_u16(s: &mut [u8], at: usize, v: u32)
+    requires { ⌜ at + 2 ≤ length (now s) ⌝ }
+    ensures { λ _. ⌜ now (s .exit) ≡ splice (now (s .entry)) at (bytesOf 2 v) ⌝ }
+{
+    s[at] = (v % 256) as u8;
+    s[at + 1] = (v / 256 % 256) as u8;
+}
+
+// Writes the four bytes of `v` from `at`.
+pub fn write_u32(s: &mut [u8], at: usize, v: u32)
+    requires { ⌜ at + 4 ≤ length (now s) ⌝ }
+    ensures { λ _. ⌜ now (s .exit) ≡ splice (now (s .entry)) at (bytesOf 4 v) ⌝ }
+{
+    s[at] = (v % 256) as u8;
+    s[at + 1] = (v / 256 % 256) as u8;
+    s[at + 2] = (v / 256 / 256 % 256) as u8;
+    s[at + 3] = (v / 256 / 256 / 256 % 256) as u8;
+}
+
+// Element `i` of a run of elements.
+pub fn element(s: &[u8], i: usize) -> u32
+    requires { ⌜ 4 * i + 4 ≤ length (now s) ⌝ }
+    ensures { λ r. ⌜ r ≡ getD (elementsOf 4 (now (s .entry))) i 0 ⌝ }
+{
+    read_u32(s, 4 * i)
+}
+
+// Reads a run of elements, which fill `out`.
+pub fn read_elements(s: &[u8], out: &mut [u32])
+    requires { ⌜ length (now s) ≡ 4 * length (now out) ⌝ }
+    ensures { λ _. ⌜ now (out .exit) ≡ elementsOf 4 (now (s .entry)) ⌝ }
+{
+    let mut i: usize = 0;
+    while i < out.len() {
+        out[i] = read_u32(s, 4 * i);
+        i += 1;
+    }
+}
+
+// Writes the elements `xs` from `at`.
+pub fn write_elements(s: &mut [u8], at: usize, xs: &[u32])
+    requires { ⌜ at + 4 * length (now xs) ≤ length (now s) ⌝ }
+    ensures { λ _. ⌜ now (s .exit) ≡ splice (now (s .entry)) at (bytesOfAll 4 (now (xs .entry))) ⌝ }
+{
+    let mut i: usize = 0;
+    while i < xs.len() {
+        write_u32(s, at + 4 * i, xs[i]);
+        i += 1;
+    }
+}
+
+// Whether each element of a run is below `bound`.
+pub fn elements_below(s: &[u8], bound: u32) -> bool
+    ensures { λ r. ⌜ r ≡ allBelow bound (elementsOf 4 (now (s .entry))) ⌝ }
+{
+    let mut at: usize = 0;
+    while 4 <= s.len() - at {
+        if bound <= read_u32(s, at) {
+            return false;
+        }
+        at += 4;
+    }
+    true
+}
+
+// Writes the bytes `from` from `at`.
+pub fn copy(s: &mut [u8], at: usize, from: &[u8])
+    requires { ⌜ at + length (now from) ≤ length (now s) ⌝ }
+    ensures { λ _. ⌜ now (s .exit) ≡ splice (now (s .entry)) at (now (from .entry)) ⌝ }
+{
+    let mut i: usize = 0;
+    while i < from.len() {
+        s[at + i] = from[i];
+        i += 1;
+    }
+}
+
+// Whether two runs of bytes are equal.
+pub fn equal(a: &[u8], b: &[u8]) -> bool
+    ensures { λ r. ⌜ r ≡ sameBytes (now (a .entry)) (now (b .entry)) ⌝ }
+{
+    if a.len() != b.len() {
+        return false;
+    }
+    let mut i: usize = 0;
+    while i < a.len() {
+        if a[i] != b[i] {
+            return false;
+        }
+        i += 1;
+    }
+    true
+}

@@ -51,7 +51,7 @@ part-bytes-all w (v ∷ vs) (suc i) h =
 -- ---- the elements of a run
 pub length-elements : (w : ℕ) (s : List ℕ) → length (elementsOf w s) ≡ length s / w
 unfolding elementsOf
-length-elements w s = length-tabulate (λ i. valueOf (part (w * i) w s)) (length s / w)
+length-elements w s = length-tabulate _ (length s / w)
 
 pub element-at : (w : ℕ) (s : List ℕ) (i : ℕ) → i < length s / w → getD (elementsOf w s) i 0 ≡ valueOf (part (w * i) w s)
 unfolding elementsOf

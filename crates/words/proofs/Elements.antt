@@ -5,17 +5,8 @@ use mathlib.Core.Path.{_≡_, refl, sym, ap, ap₂, _∙_}
 use mathlib.Core.Logic.{_⊎_, inl, inr, ⊎-elim}
 use mathlib.Core.List.{List, [], _∷_, _++_, append-assoc, append-nil}
 use Prim.Native.Nat.{ℕ, zero, suc, _+_, _*_, _/_, _-_, _^_, _≤_, _<_}
-use native.Mathlib.Nat.{
-  mul-zero,
-  mul-add,
-  mul-add-div,
-  mul-le-mul-left,
-  mul-comm,
-  mul-div-right,
-  div-lt-iff-lt-mul,
-  le-div-iff-mul-le,
-  div-eq-of-lt,
-}
+use native.Mathlib.Nat.{mul-zero, mul-add, mul-comm, mul-le-mul-left, mul-add-div, mul-div-right}
+use native.Mathlib.Nat.{div-eq-of-lt, div-lt-iff-lt-mul, le-div-iff-mul-le}
 use native.Mathlib.Omega.{arith}
 use lib.ListN.{length, getD, take, drop, length-append, length-drop, take-append-drop, drop-of-length-le}
 use lib.Seq.{length-take-le, take-append-le, drop-append-le, drop-append-add, take-at, drop-at, take-all}
@@ -60,7 +51,7 @@ part-bytes-all w (v ∷ vs) (suc i) h =
 -- ---- the elements of a run
 pub length-elements : (w : ℕ) (s : List ℕ) → length (elementsOf w s) ≡ length s / w
 unfolding elementsOf
-length-elements w s = length-tabulate (λ i. valueOf (part (w * i) w s)) (length s / w)
+length-elements w s = length-tabulate _ (length s / w)
 
 pub element-at : (w : ℕ) (s : List ℕ) (i : ℕ) → i < length s / w → getD (elementsOf w s) i 0 ≡ valueOf (part (w * i) w s)
 unfolding elementsOf

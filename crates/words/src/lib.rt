@@ -35,13 +35,13 @@ pub fn read_u32(s: &[u8], at: usize) -> u32
     word(s[at], s[at + 1], s[at + 2], s[at + 3])
 }
 
-// Writes the two lowest bytes of `v` from `at`.
-pub fn write_u16(s: &mut [u8], at: usize, v: u32)
+// Writes the two lowest bytes of `n` from `at`.
+pub fn write_u16(s: &mut [u8], at: usize, n: u32)
     requires { ⌜ at + 2 ≤ length (now s) ⌝ }
-    ensures { λ _. ⌜ now (s .exit) ≡ splice (now (s .entry)) at (bytesOf 2 v) ⌝ }
+    ensures { λ _. ⌜ now (s .exit) ≡ splice (now (s .entry)) at (bytesOf 2 n) ⌝ }
 {
-    s[at] = (v % 256) as u8;
-    s[at + 1] = (v / 256 % 256) as u8;
+    s[at] = (n % 256) as u8;
+    s[at + 1] = (n / 256 % 256) as u8;
 }
 
 // Writes the four bytes of `v` from `at`.
@@ -68,10 +68,10 @@ pub fn read_elements(s: &[u8], out: &mut [u32])
     requires { ⌜ length (now s) ≡ 4 * length (now out) ⌝ }
     ensures { λ _. ⌜ now (out .exit) ≡ elementsOf 4 (now (s .entry)) ⌝ }
 {
-    let mut i: usize = 0;
-    while i < out.len() {
-        out[i] = read_u32(s, 4 * i);
-        i += 1;
+    let mut k: usize = 0;
+    while k < out.len() {
+        out[k] = read_u32(s, 4 * k);
+        k += 1;
     }
 }
 

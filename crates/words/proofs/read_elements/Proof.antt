@@ -1,5 +1,5 @@
--- `words::read_elements` meets its contract. The loop's invariant: the first i places of `out` hold the table of elements
--- up to i, the others what they held (`fill-next`); the measure is what is left of `out`. Assumes nothing.
+-- `words::read_elements` meets its contract. The loop's invariant: the first k places of `out` hold the table of elements
+-- up to k, the others what they held (`fill-next`); the measure is what is left of `out`. Assumes nothing.
 use mathlib.Core.Path.{_≡_, refl, sym, _∙_}
 use mathlib.Core.List.{_++_}
 use Prim.Native.Nat.{_≤_, _-_, _*_}
@@ -15,11 +15,11 @@ use Rattle.words.proofs.read_elements.Statement.{statement}
 use Rattle.words.proofs.read_elements.Tie as tie
 
 abbrev Inv-loop : tie.InvT-loop
-Inv-loop s out₀ i₀ out i =
-    (i ≤ length out₀) × (out ≡ tabulate (λ j. valueOf (part (4 * j) 4 s)) i ++ drop i out₀) × (length out ≡ length out₀)
+Inv-loop s out₀ k₀ out k =
+    (k ≤ length out₀) × (out ≡ tabulate (λ j. valueOf (part (4 * j) 4 s)) k ++ drop k out₀) × (length out ≡ length out₀)
 
 abbrev μ-loop : tie.MeasureT-loop
-μ-loop s out₀ i₀ out i = length out₀ - i
+μ-loop s out₀ k₀ out k = length out₀ - k
 
 loop-holds : tie.Need-loop-holds Inv-loop μ-loop
 loop-holds c =
@@ -38,8 +38,8 @@ mul-out c = search needs
 slice-write-out : tie.Need-slice-write-out Inv-loop μ-loop
 slice-write-out c = search needs
 
-add-i : tie.Need-add-i Inv-loop μ-loop
-add-i c = search needs
+add-k : tie.Need-add-k Inv-loop μ-loop
+add-k c = search needs
 
 loop-less : tie.Need-loop-less Inv-loop μ-loop
 loop-less c = search needs
@@ -49,7 +49,7 @@ loop-again c =
     let l = c .before .before in
     let a = l .before .before .before in (
       search needs,
-      fill-next (λ j. valueOf (part (4 * j) 4 (a .args .s .now))) (a .args .out .now) (l .loop .out) (l .loop .i) _
+      fill-next (λ j. valueOf (part (4 * j) 4 (a .args .s .now))) (a .args .out .now) (l .loop .out) (l .loop .k) _
           (search needs) (l .loop .inv .1) (c .read-u32 .ensures),
       simp length-set (omega arith),
     )
@@ -61,7 +61,7 @@ returns : tie.Need-returns Inv-loop μ-loop
 returns c =
     let l = c .before in
     let a = l .before .before .before in
-    fill-all (λ j. valueOf (part (4 * j) 4 (a .args .s .now))) (a .args .out .now) (l .loop .out) (l .loop .i)
+    fill-all (λ j. valueOf (part (4 * j) 4 (a .args .s .now))) (a .args .out .now) (l .loop .out) (l .loop .k)
     (search needs) (search needs) (l .loop .inv .1)
     ∙ sym (elements-whole 4 (lit< tt) (a .args .s .now) (length (a .args .out .now)) (a .pre))
 
@@ -76,7 +76,7 @@ read-elements-spec =
     read-u32-requires
     mul-out
     slice-write-out
-    add-i
+    add-k
     loop-less
     loop-again
     same-length

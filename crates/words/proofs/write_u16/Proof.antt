@@ -31,7 +31,7 @@ returns : tie.Need-returns
 unfolding bytesOf
 returns c =
     rw (add-one)
-    (sets-splice (c .args .s .now) (c .args .at) (bytesOf 2 (c .args .v)) (c .pre))
+    (sets-splice (c .args .s .now) (c .args .at) (bytesOf 2 (c .args .n)) (c .pre))
 
 pub write-u16-spec : {M : Type 1} → statement M
 write-u16-spec =

@@ -1,0 +1,4 @@
+pub mod Outcome
+pub mod Records
+pub mod Runs
+pub mod Example

@@ -1,0 +1,124 @@
+-- Document 01, "Sheet and circuit": columns, and the reading of a sheet. Each kind of column is one case of each function.
+-- Assumes nothing.
+use mathlib.Core.Bool.{Bool, cond, _&&_, not}
+use mathlib.Core.List.{List, [], _∷_, _++_, map}
+use mathlib.Core.Option.{Option, some, none}
+use Prim.Native.Nat.{ℕ, zero, suc, _+_, _-_, _*_, _^_, _≤_}
+use lib.Dec.{leb, ltb, eqb}
+use lib.ListN.{getD}
+use Rattle.algebra.specs.Lists.{every, tabulate, countFrom}
+use Rattle.records.specs.Outcome.{Outcome, ok, refused}
+use Rattle.records.specs.Records.{Format, read}
+use Rattle.rules.specs.Settings.{Setting}
+
+-- "17, yes/no: no body. 18, choice: 1 byte B, 2 to 64. 19, number: 1 byte b, 1 to 24."
+pub data Column : Type 0 where
+  yesNo : Column
+  choice number : ℕ → Column
+
+-- low to high, both included
+abbrev pub within : ℕ → ℕ → ℕ → Bool
+within low high n = leb low n && leb n high
+
+-- a column, or refusal 2 where its count is outside its limits
+unfoldable pub counted : Bool → Column → Outcome Column
+counted fits c = cond fits (ok c) (refused 2)
+
+-- "Each is one kind byte, then a body whose length the kind fixes."
+unfoldable pub columnBody : ℕ → Option ℕ
+columnBody k = cond (eqb k 17) (some 0) (cond (eqb k 18) (some 1) (cond (eqb k 19) (some 1) none))
+
+unfoldable pub columnOf : ℕ → List ℕ → Outcome Column
+columnOf k body =
+    cond (eqb k 17) (ok yesNo)
+    (cond (eqb k 18) (counted (within 2 64 (getD body 0 0)) (choice (getD body 0 0)))
+    (counted (within 1 24 (getD body 0 0)) (number (getD body 0 0))))
+
+abbrev pub columnFormat : Format Column
+columnFormat = record { bodyOf = columnBody; atFault = 1; judge = λ done k body. columnOf k body }
+
+-- "One entry, 0 or 1. B entries; the chosen one is 1, the rest 0. Entry v, then b bit entries, lowest first."
+unfoldable pub entriesOf : Column → ℕ
+entriesOf yesNo = 1
+entriesOf (choice n) = n
+entriesOf (number n) = suc n
+
+-- "Published entries: every entry of kinds 17 and 18, and v of kind 19." They are the first of a column's entries
+unfoldable pub publishedOf : Column → ℕ
+publishedOf yesNo = 1
+publishedOf (choice n) = n
+publishedOf (number n) = 1
+
+-- "A value is 0 or 1, the chosen option from 0 to B - 1, or v from 0 to 2^b - 1": how many values there are
+unfoldable pub valuesOf : Column → ℕ
+valuesOf yesNo = 2
+valuesOf (choice n) = n
+valuesOf (number n) = 2 ^ n
+
+-- "a column's largest value (2^b - 1 for kind 19, else 1)"
+unfoldable pub largestOf : Column → ℕ
+largestOf yesNo = 1
+largestOf (choice n) = 1
+largestOf (number n) = 2 ^ n - 1
+
+-- the entries and the published entries of a sheet
+unfoldable pub entriesIn : List Column → ℕ
+entriesIn [] = 0
+entriesIn (c ∷ cs) = entriesOf c + entriesIn cs
+
+unfoldable pub publishedIn : List Column → ℕ
+publishedIn [] = 0
+publishedIn (c ∷ cs) = publishedOf c + publishedIn cs
+
+-- the numbers of the published entries, in entry order, where e entries stand before the columns
+unfoldable pub publishedFrom : ℕ → List Column → List ℕ
+publishedFrom e [] = []
+publishedFrom e (c ∷ cs) = countFrom e (publishedOf c) ++ publishedFrom (e + entriesOf c) cs
+
+-- "Reading stops at the first record at fault, and its number is the refusal; the total limits last." Of the limits only
+-- "entries 1 to 256" can be broken by a sheet: `circuit-is-read` in proofs
+unfoldable pub sheetLimits : List Column → Outcome (List Column)
+sheetLimits cs = cond (within 1 256 (entriesIn cs)) (ok cs) (refused 2)
+
+unfoldable pub limitedSheet : Outcome (List Column) → Outcome (List Column)
+limitedSheet (ok cs) = sheetLimits cs
+limitedSheet (refused n) = refused n
+
+unfoldable pub readSheet : List ℕ → Outcome (List Column)
+readSheet s = limitedSheet (read columnFormat s)
+
+-- the refusal, 0 for none; and the columns of a sheet that is read
+unfoldable pub faultIn : {A : Type 0} → Outcome A → ℕ
+faultIn (ok a) = 0
+faultIn (refused n) = n
+
+unfoldable pub listIn : {A : Type 0} → Outcome (List A) → List A
+listIn (ok l) = l
+listIn (refused n) = []
+
+abbrev pub sheetFault : List ℕ → ℕ
+sheetFault s = faultIn (readSheet s)
+
+abbrev pub columnsOf : List ℕ → List Column
+columnsOf s = listIn (readSheet s)
+
+-- a check: its number where it fails, 0 for none
+abbrev pub check : Bool → ℕ → ℕ
+check holds n = cond holds 0 n
+
+-- "4: N times a column's largest value is p or more"
+unfoldable pub totalsFit : Setting → ℕ → List Column → Bool
+totalsFit σ n cs = every (λ c. ltb (n * largestOf c) (σ .modulus)) cs
+
+-- S from 2 to 8; a server's number below S; N from 1 to 1,024: else 2
+abbrev pub serversFault : ℕ → ℕ
+serversFault servers = check (within 2 8 servers) 2
+
+abbrev pub ownFault : ℕ → ℕ → ℕ
+ownFault servers own = check (ltb own servers) 2
+
+abbrev pub returnsFault : ℕ → ℕ
+returnsFault n = check (within 1 1024 n) 2
+
+abbrev pub totalsFault : Setting → ℕ → List Column → ℕ
+totalsFault σ n cs = check (totalsFit σ n cs) 4

@@ -1,0 +1,185 @@
+-- Document 01, "Whole runs": the ledger of one server, fed the arguments of opening and of each call, never the table.
+-- Assumes nothing.
+use mathlib.Core.Bool.{Bool, true, false, cond}
+use mathlib.Core.List.{List, [], _∷_, _++_, map}
+use Prim.Native.Nat.{ℕ, _%_}
+use lib.Dec.{eqb}
+use lib.ListN.{length, getD}
+use Rattle.algebra.specs.Lists.{sumOver}
+use Rattle.rules.specs.Settings.{Setting}
+use Rattle.rules.specs.Columns.{publishedFrom}
+use Rattle.rules.specs.Messages.{idIn, shareElements, firstSum, secondSum, bothZero}
+use Rattle.rules.specs.Server.{Opened, Waiting, Stage, idle, awaitsOne, awaitsTwo, closed, Known, waitingOf}
+use Rattle.rules.specs.Server.{messageOne, messageTwo, summed, totalsMessage}
+use Rattle.rules.specs.Server.{shareRefusal, oneRefusal, twoRefusal, dropRefusal, closeRefusal}
+
+-- The calls of a list: a share with r and s, rounds one and two with the joined messages, a drop, a close. `room` is the
+-- length of the output buffer that is lent
+pub data Call : Type 0 where
+  share : List ℕ → ℕ → ℕ → ℕ → Call
+  roundOne : List ℕ → ℕ → Call
+  roundTwo : List ℕ → Call
+  drop : Call
+  close : ℕ → Call
+
+-- What a call hands back: its refusal; the message written by a share, round one or close; the verdict of round two;
+-- nothing more for a drop
+pub data Answer : Type 0 where
+  refused : ℕ → Answer
+  wrote : List ℕ → Answer
+  judged : Bool → Answer
+  done : Answer
+
+-- "Share: note id, elements, r and s."
+pub record Note : Type 0 where
+  pub id : ℕ
+  pub elements : List ℕ
+  pub r : ℕ
+  pub s : ℕ
+
+-- "await round one. Round one: note the sums d and e; await round two."
+pub data Progress : Type 0 where
+  isIdle : Progress
+  waitsOne : Note → Progress
+  waitsTwo : Note → ℕ → ℕ → Progress
+  isClosed : Progress
+
+-- "A return is decided when accepted, rejected or dropped."
+pub data Decision : Type 0 where
+  accepted rejected dropped : Decision
+
+pub record Decided : Type 0 where
+  pub note : Note
+  pub decision : Decision
+
+-- the ledger; the returns decided stand in the order in which they were
+pub record Ledger : Type 0 where
+  pub progress : Progress
+  pub decided : List Decided
+
+-- "It starts idle and without ids."
+abbrev pub empty : Ledger
+empty = record { progress = isIdle; decided = [] }
+
+abbrev pub isAccepted : Decision → Bool
+isAccepted accepted = true
+isAccepted rejected = false
+isAccepted dropped = false
+
+abbrev pub isDropped : Decision → Bool
+isDropped accepted = false
+isDropped rejected = false
+isDropped dropped = true
+
+-- the notes of the returns whose decision passes t
+unfoldable pub notesWith : (Decision → Bool) → List Decided → List Note
+notesWith t [] = []
+notesWith t (k ∷ ks) = cond (t (k .decision)) (k .note ∷ notesWith t ks) (notesWith t ks)
+
+abbrev pub idsOf : List Note → List ℕ
+idsOf ns = map (λ n. n .id) ns
+
+abbrev pub notesOf : List Decided → List Note
+notesOf ks = map (λ k. k .note) ks
+
+module _ (σ : Setting) (o : Opened) where
+  -- "A closing message holds the number of accepted ids and, for each published entry, the sum modulo p of the server's
+  -- shares of it over these ids."
+  unfoldable pub ledgerTotals : List Note → List ℕ
+  ledgerTotals ns = map (λ e. sumOver (λ n. getD (n .elements) e 0) ns % σ .modulus) (publishedFrom 0 (o .columns))
+
+  unfoldable pub closingMessage : Ledger → List ℕ
+  closingMessage l =
+      let ns = notesWith isAccepted (l .decided) in
+      totalsMessage σ o (length ns) (ledgerTotals ns)
+
+  -- "its stage, ids and own messages told from the ledger"
+  abbrev pub noted : Note → Waiting
+  noted n = waitingOf σ o (n .id) (n .elements) (n .r) (n .s)
+
+  abbrev pub withSums : Waiting → ℕ → ℕ → Waiting
+  withSums w d e =
+      record { id = w .id; r = w .r; s = w .s; d = d; e = e; rh = w .rh; tau = w .tau; elements = w .elements }
+
+  unfoldable pub stageTold : Progress → Stage
+  stageTold isIdle = idle
+  stageTold (waitsOne n) = awaitsOne (noted n)
+  stageTold (waitsTwo n d e) = awaitsTwo (withSums (noted n) d e)
+  stageTold isClosed = closed
+
+  unfoldable pub told : Ledger → Known
+  told l = record {
+    opened = o;
+    stage = stageTold (l .progress);
+    used = idsOf (notesOf (l .decided));
+    accepted = length (notesWith isAccepted (l .decided));
+    totals = ledgerTotals (notesWith isAccepted (l .decided));
+  }
+
+  -- the refusal of a call, told from the ledger
+  unfoldable pub refusalOf : Ledger → Call → ℕ
+  refusalOf l (share m r s room) = shareRefusal σ (told l) m r s room
+  refusalOf l (roundOne joined room) = oneRefusal σ (told l) joined room
+  refusalOf l (roundTwo joined) = twoRefusal σ (told l) joined
+  refusalOf l drop = dropRefusal (told l)
+  refusalOf l (close room) = closeRefusal σ (told l) room
+
+  -- the return that waits is decided
+  abbrev pub decide : Ledger → Note → Decision → Ledger
+  decide l n d = record { progress = isIdle; decided = l .decided ++ (record { note = n; decision = d } ∷ []) }
+
+  unfoldable pub decideWaiting : Ledger → Progress → Decision → Ledger
+  decideWaiting l isIdle d = l
+  decideWaiting l (waitsOne n) d = decide l n d
+  decideWaiting l (waitsTwo n x y) d = decide l n d
+  decideWaiting l isClosed d = l
+
+  abbrev pub noteOf : List ℕ → ℕ → ℕ → Note
+  noteOf m r s = record { id = idIn m; elements = shareElements σ m; r = r; s = s }
+
+  unfoldable pub sumsNoted : Progress → ℕ → ℕ → Progress
+  sumsNoted isIdle d e = isIdle
+  sumsNoted (waitsOne n) d e = waitsTwo n d e
+  sumsNoted (waitsTwo n x y) d e = waitsTwo n x y
+  sumsNoted isClosed d e = isClosed
+
+  -- a call that is not refused
+  unfoldable pub ledgerAfter : Ledger → Call → Ledger
+  ledgerAfter l (share m r s room) = record { progress = waitsOne (noteOf m r s); decided = l .decided }
+  ledgerAfter l (roundOne joined room) = record {
+    progress = sumsNoted (l .progress) (firstSum σ (o .servers) joined) (secondSum σ (o .servers) joined);
+    decided = l .decided;
+  }
+  ledgerAfter l (roundTwo joined) = decideWaiting l (l .progress) (cond (bothZero σ (o .servers) joined) accepted rejected)
+  ledgerAfter l drop = decideWaiting l (l .progress) dropped
+  ledgerAfter l (close room) = record { progress = isClosed; decided = l .decided }
+
+  -- what it hands back: the messages are those that Judging works out from what is noted
+  unfoldable pub messageTold : Stage → List ℕ
+  messageTold idle = []
+  messageTold (awaitsOne w) = messageOne σ o w
+  messageTold (awaitsTwo w) = messageTwo σ o w
+  messageTold closed = []
+
+  unfoldable pub answerOf : Ledger → Call → Answer
+  answerOf l (share m r s room) = wrote (messageTold (stageTold (ledgerAfter l (share m r s room) .progress)))
+  answerOf l (roundOne joined room) = wrote (messageTold (stageTold (ledgerAfter l (roundOne joined room) .progress)))
+  answerOf l (roundTwo joined) = judged (bothZero σ (o .servers) joined)
+  answerOf l drop = done
+  answerOf l (close room) = wrote (closingMessage l)
+
+  -- "A call that the rules refuse leaves it as it was."
+  abbrev pub ledgerStep : Ledger → Call → ℕ → Ledger
+  ledgerStep l c fault = cond (eqb fault 0) (ledgerAfter l c) l
+
+  abbrev pub ledgerSays : Ledger → Call → ℕ → Answer
+  ledgerSays l c fault = cond (eqb fault 0) (answerOf l c) (refused fault)
+
+  -- what a list of calls comes to, from a ledger: the ledger after it, and the answers in their order
+  unfoldable pub runLedger : Ledger → List Call → Ledger
+  runLedger l [] = l
+  runLedger l (c ∷ cs) = runLedger (ledgerStep l c (refusalOf l c)) cs
+
+  unfoldable pub ledgerAnswers : Ledger → List Call → List Answer
+  ledgerAnswers l [] = []
+  ledgerAnswers l (c ∷ cs) = ledgerSays l c (refusalOf l c) ∷ ledgerAnswers (ledgerStep l c (refusalOf l c)) cs

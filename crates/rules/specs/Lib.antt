@@ -1,0 +1,18 @@
+-- Document 01 as definitions, in the order of the paper: settings, columns, circuit, run, values, a return, judging,
+-- messages, one server, its table, joining, recount, and the ledger of whole runs.
+pub mod Settings
+pub mod Columns
+pub mod Circuit
+pub mod CircuitReader
+pub mod Run
+pub mod Walk
+pub mod Values
+pub mod Judging
+pub mod Making
+pub mod Messages
+pub mod Server
+pub mod Table
+pub mod Joining
+pub mod Recount
+pub mod Ledger
+pub mod Examples

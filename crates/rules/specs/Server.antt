@@ -1,0 +1,178 @@
+-- Document 01, "Judging" and "Who can cause which refusal": the rules of one server, as functions of what it knows. A
+-- table's bytes say what a server knows (Table), and so does the ledger (Ledger).
+-- Assumes nothing.
+use mathlib.Core.Bool.{Bool, true, false, not, _||_}
+use mathlib.Core.List.{List, [], _∷_, _++_, map}
+use Prim.Native.Nat.{ℕ, _+_, _*_}
+use lib.Dec.{eqb, ltb, leb}
+use lib.ListN.{length, getD}
+use Rattle.algebra.specs.Modulo.{modulo}
+use Rattle.words.specs.Bytes.{bytesOf, bytesOfAll}
+use Rattle.records.specs.Outcome.{orElse}
+use Rattle.rules.specs.Settings.{Setting}
+use Rattle.rules.specs.Columns.{Column, check, publishedIn, publishedFrom, columnsOf, sheetFault}
+use Rattle.rules.specs.Columns.{serversFault, ownFault, returnsFault, totalsFault}
+use Rattle.rules.specs.Judging.{firstOnly, aOf, bOf, cOf, hAt, dOf, eOf, sigmaFrom, tauOf, allowedPair}
+use Rattle.rules.specs.Messages.{idIn, shareElements, headerFault, elementsFault, roundMessage, roundLength, roundFault}
+use Rattle.rules.specs.Messages.{firstSum, secondSum}
+
+-- "A server's table opens with S, its own number, a sheet and N."
+pub record Opened : Type 0 where
+  pub servers : ℕ
+  pub own : ℕ
+  pub columns : List Column
+  pub returns : ℕ
+
+-- A return that waits: its id, its pair, in the first wait d_i and e_i, in the second the sums d and e; r × h_i(r), tau_i
+-- and the elements of the share
+pub record Waiting : Type 0 where
+  pub id : ℕ
+  pub r : ℕ
+  pub s : ℕ
+  pub d : ℕ
+  pub e : ℕ
+  pub rh : ℕ
+  pub tau : ℕ
+  pub elements : List ℕ
+
+-- "It is idle (takes a share or a close), awaits round one or awaits round two (takes that round's joined messages or a
+-- drop), or is closed (takes nothing)."
+pub data Stage : Type 0 where
+  idle : Stage
+  awaitsOne awaitsTwo : Waiting → Stage
+  closed : Stage
+
+-- What a server knows: what it was opened with, its stage, the ids decided, the number accepted and the totals
+pub record Known : Type 0 where
+  pub opened : Opened
+  pub stage : Stage
+  pub used : List ℕ
+  pub accepted : ℕ
+  pub totals : List ℕ
+
+-- whether x is among the members
+unfoldable pub has : ℕ → List ℕ → Bool
+has x [] = false
+has x (y ∷ ys) = eqb y x || has x ys
+
+-- Opening: "S and own number, sheet, N, 4, 14"; `size` is the length of the table
+unfoldable pub openFault : Setting → ℕ → ℕ → List ℕ → ℕ → ℕ
+openFault σ servers own sheet returns =
+    orElse (serversFault servers)
+    (orElse (ownFault servers own)
+    (orElse (sheetFault sheet)
+    (orElse (returnsFault returns) (totalsFault σ returns (columnsOf sheet)))))
+
+module _ (σ : Setting) (o : Opened) where
+  -- what server `own` works out from a share that it takes
+  unfoldable pub waitingOf : ℕ → List ℕ → ℕ → ℕ → Waiting
+  waitingOf id xs r s =
+      let O = modulo (σ .modulus) in
+      let x : ℕ → ℕ = λ k. getD xs k 0 in
+      let k = firstOnly O (o .own) in
+      record {
+        id = id;
+        r = r;
+        s = s;
+        d = dOf O σ (o .columns) k x r;
+        e = eOf O σ (o .columns) k x r;
+        rh = O ._⊗_ r (hAt O σ (o .columns) x r);
+        tau = tauOf O σ (o .columns) k x s;
+        elements = xs;
+      }
+
+  -- sigma_i, with the sums d and e
+  unfoldable pub sigmaIn : Waiting → ℕ
+  sigmaIn w =
+      let O = modulo (σ .modulus) in
+      let x : ℕ → ℕ = λ k. getD (w .elements) k 0 in
+      let cs = o .columns in
+      sigmaFrom O (firstOnly O (o .own)) (w .d) (w .e) (aOf O σ cs x) (bOf O σ cs x) (cOf O σ cs x) (w .rh)
+
+  -- the messages that the server writes in the two rounds
+  unfoldable pub messageOne : Waiting → List ℕ
+  messageOne w = roundMessage σ 34 (w .id) (o .own) (w .d) (w .e)
+
+  unfoldable pub messageTwo : Waiting → List ℕ
+  messageTwo w = roundMessage σ 35 (w .id) (o .own) (sigmaIn w) (w .tau)
+
+  -- the return after round one: with the sums of the joined messages
+  unfoldable pub summed : Waiting → List ℕ → Waiting
+  summed w joined = record {
+    id = w .id;
+    r = w .r;
+    s = w .s;
+    d = firstSum σ (o .servers) joined;
+    e = secondSum σ (o .servers) joined;
+    rh = w .rh;
+    tau = w .tau;
+    elements = w .elements;
+  }
+
+  -- the shares of the published entries
+  unfoldable pub publishedShares : List ℕ → List ℕ
+  publishedShares xs = map (λ e. getD xs e 0) (publishedFrom 0 (o .columns))
+
+  -- "Closing writes byte 36, server, accepted count (4 bytes), published totals."
+  unfoldable pub totalsMessage : ℕ → List ℕ → List ℕ
+  totalsMessage count totals = σ .totalsByte ∷ o .own ∷ bytesOf 4 count ++ bytesOfAll (σ .width) totals
+
+  unfoldable pub totalsLength : ℕ
+  totalsLength = 6 + σ .width * publishedIn (o .columns)
+
+-- "11: a call the stage does not allow": what a check says at the stages that allow the call, 11 at the others
+unfoldable pub whileIdle : Stage → ℕ → ℕ
+whileIdle idle n = n
+whileIdle (awaitsOne w) n = 11
+whileIdle (awaitsTwo w) n = 11
+whileIdle closed n = 11
+
+unfoldable pub whileOne : Stage → (Waiting → ℕ) → ℕ
+whileOne idle f = 11
+whileOne (awaitsOne w) f = f w
+whileOne (awaitsTwo w) f = 11
+whileOne closed f = 11
+
+unfoldable pub whileTwo : Stage → (Waiting → ℕ) → ℕ
+whileTwo idle f = 11
+whileTwo (awaitsOne w) f = 11
+whileTwo (awaitsTwo w) f = f w
+whileTwo closed f = 11
+
+unfoldable pub whileWaiting : Stage → ℕ
+whileWaiting idle = 11
+whileWaiting (awaitsOne w) = 0
+whileWaiting (awaitsTwo w) = 0
+whileWaiting closed = 11
+
+-- The refusals of each call, 0 for none, in the order told. A share with its pair and the room of the output buffer:
+-- "11, 13, 7, 8, 10, 9, 14"
+unfoldable pub shareRefusal : Setting → Known → List ℕ → ℕ → ℕ → ℕ → ℕ
+shareRefusal σ k m r s room =
+    whileIdle (k .stage)
+    (orElse (check (ltb (length (k .used)) (k .opened .returns)) 13)
+    (orElse (headerFault σ (k .opened .columns) (k .opened .own) m)
+    (orElse (elementsFault σ m)
+    (orElse (check (not (has (idIn m) (k .used))) 10)
+    (orElse (check (allowedPair σ (k .opened .columns) r s) 9) (check (leb (roundLength σ) room) 14))))))
+
+-- "Round one: 11, 12, 14."
+unfoldable pub oneRefusal : Setting → Known → List ℕ → ℕ → ℕ
+oneRefusal σ k joined room =
+    let o = k .opened in
+    whileOne (k .stage)
+    (λ w. orElse (roundFault σ (o .servers) 34 (w .id) (o .own) (messageOne σ o w) joined) (check (leb (roundLength σ) room) 14))
+
+-- "Round two, which writes no message: 11, 12."
+unfoldable pub twoRefusal : Setting → Known → List ℕ → ℕ
+twoRefusal σ k joined =
+    let o = k .opened in
+    whileTwo (k .stage) (λ w. roundFault σ (o .servers) 35 (w .id) (o .own) (messageTwo σ o w) joined)
+
+-- "Drop: 11." "Dropping is allowed while a return waits."
+unfoldable pub dropRefusal : Known → ℕ
+dropRefusal k = whileWaiting (k .stage)
+
+-- "Close: 11, 14."
+unfoldable pub closeRefusal : Setting → Known → ℕ → ℕ
+closeRefusal σ k room = whileIdle (k .stage) (check (leb (totalsLength σ (k .opened)) room) 14)

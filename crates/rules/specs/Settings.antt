@@ -1,0 +1,30 @@
+-- Document 01, "Field and bytes": the numbers that a second prime would change.
+-- Assumes nothing.
+use Prim.Native.Nat.{ℕ, _+_, _*_, _^_, _≤_, _<_}
+use Rattle.algebra.specs.Prime.{Prime}
+
+pub record Setting : Type 0 where
+  -- p
+  pub modulus : ℕ
+  -- the bytes of an element
+  pub width : ℕ
+  -- the most bytes of a circuit
+  pub circuitLimit : ℕ
+  -- the first byte of a totals message
+  pub totalsByte : ℕ
+  -- the first byte of a table
+  pub tableByte : ℕ
+
+-- "p = 2147483647. An element is a whole number from 0 to p - 1. Elements travel as 4 bytes."
+abbrev pub document01 : Setting
+document01 = record { modulus = 2147483647; width = 4; circuitLimit = 17920; totalsByte = 36; tableByte = 1 }
+
+-- What the theorems assume of a setting
+pub record Facts (σ : Setting) : Type 0 where
+  pub prime : Prime (σ .modulus)
+  -- points up to 513 differ, 2 ^ 24 fits, 64 ones do not wrap
+  pub large : 16777216 < σ .modulus
+  -- an element fits its bytes
+  pub fits : σ .modulus ≤ 256 ^ σ .width
+  -- the circuit of every sheet with at most 256 entries fits
+  pub roomy : 1 + σ .width + 256 * (24 + σ .width) ≤ σ .circuitLimit

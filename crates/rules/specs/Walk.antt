@@ -1,0 +1,60 @@
+-- The inputs of the multiplications and the tests of a sheet's circuit, column by column and with no wires: what code
+-- computes. `walk-is-run` in proofs says that this is the run of the circuit.
+-- Assumes nothing.
+use mathlib.Core.List.{List, [], _∷_, _++_}
+use Prim.Native.Nat.{ℕ, zero, suc, _+_, _-_, _^_}
+use Rattle.algebra.specs.Lists.{tabulate}
+use Rattle.rules.specs.Settings.{Setting}
+use Rattle.rules.specs.Columns.{Column, yesNo, choice, number, entriesOf}
+use Rattle.rules.specs.Circuit.{gatesOf}
+use Rattle.rules.specs.Run.{Meaning}
+
+module _ {X : Type 0} (σ : Setting) (μ : Meaning X) where
+  -- a + f 0 + .. + f (n - 1)
+  unfoldable pub sumFrom : X → (ℕ → X) → ℕ → X
+  sumFrom a f zero = a
+  sumFrom a f (suc n) = μ .plus (sumFrom a f n) (f n)
+
+  -- the two inputs and the output of the bit check of entry e, where t multiplications stand before it
+  unfoldable pub lessOne : ℕ → X
+  lessOne e = μ .plus (μ .entryAt e) (μ .constantOf (σ .modulus - 1))
+
+  unfoldable pub bitOut : ℕ → ℕ → X
+  bitOut e t = μ .gate (suc t) (μ .entryAt e) (lessOne e)
+
+  -- the first bit entry of a column whose first entry is e
+  unfoldable pub bitsAt : ℕ → Column → ℕ
+  bitsAt e yesNo = e
+  bitsAt e (choice n) = e
+  bitsAt e (number n) = suc e
+
+  -- a column whose first entry is e, where t multiplications stand before it
+  unfoldable pub columnLefts : ℕ → Column → List X
+  columnLefts e c = tabulate (λ i. μ .entryAt (bitsAt e c + i)) (gatesOf c)
+
+  unfoldable pub columnRights : ℕ → Column → List X
+  columnRights e c = tabulate (λ i. lessOne (bitsAt e c + i)) (gatesOf c)
+
+  unfoldable pub bitTests : ℕ → ℕ → Column → List X
+  bitTests e t c = tabulate (λ i. bitOut (bitsAt e c + i) (t + i)) (gatesOf c)
+
+  unfoldable pub sumTests : ℕ → Column → List X
+  sumTests e yesNo = []
+  sumTests e (choice n) = sumFrom (μ .constantOf (σ .modulus - 1)) (λ i. μ .entryAt (e + i)) n ∷ []
+  sumTests e (number n) =
+      sumFrom (μ .times (μ .entryAt e) (σ .modulus - 1)) (λ i. μ .times (μ .entryAt (suc e + i)) (2 ^ i)) n ∷ []
+
+  unfoldable pub columnTests : ℕ → ℕ → Column → List X
+  columnTests e t c = bitTests e t c ++ sumTests e c
+
+  unfoldable pub walkLefts : ℕ → List Column → List X
+  walkLefts e [] = []
+  walkLefts e (c ∷ cs) = columnLefts e c ++ walkLefts (e + entriesOf c) cs
+
+  unfoldable pub walkRights : ℕ → List Column → List X
+  walkRights e [] = []
+  walkRights e (c ∷ cs) = columnRights e c ++ walkRights (e + entriesOf c) cs
+
+  unfoldable pub walkTests : ℕ → ℕ → List Column → List X
+  walkTests e t [] = []
+  walkTests e t (c ∷ cs) = columnTests e t c ++ walkTests (e + entriesOf c) (t + gatesOf c) cs

@@ -16,3 +16,5 @@ pub mod Joining
 pub mod Recount
 pub mod Ledger
 pub mod Examples
+pub mod Runs
+pub mod WholeRun

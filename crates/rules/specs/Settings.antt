@@ -28,3 +28,7 @@ pub record Facts (σ : Setting) : Type 0 where
   pub fits : σ .modulus ≤ 256 ^ σ .width
   -- the circuit of every sheet with at most 256 entries fits
   pub roomy : 1 + σ .width + 256 * (24 + σ .width) ≤ σ .circuitLimit
+  -- a totals message is no round message, and its first byte and a table's are bytes
+  pub apart : 35 < σ .totalsByte
+  pub totals-fits : σ .totalsByte < 256
+  pub table-fits : σ .tableByte < 256

@@ -1,0 +1,241 @@
+-- Document 01, "Whole runs": S servers, each with its own list of calls. The conditions, and what demand 3 claims.
+-- Assumes nothing.
+use mathlib.Core.Path.{_≡_}
+use mathlib.Core.Logic.{_⊎_}
+use mathlib.Core.Bool.{Bool, true, false, cond}
+use mathlib.Core.List.{List, [], _∷_, _++_, map}
+use Prim.Native.Nat.{ℕ, zero, suc, _+_, _-_, _*_, _%_, _≤_, _<_, max}
+use lib.Dec.{eqb, leb}
+use lib.ListN.{length, getD}
+use Rattle.algebra.specs.Lists.{All, In, Distinct, Rearranged, sumOver, tabulate}
+use Rattle.algebra.specs.Modulo.{modulo}
+use Rattle.algebra.specs.Count.{countPairs}
+use Rattle.words.specs.Bytes.{allBelow}
+use Rattle.rules.specs.Settings.{Setting}
+use Rattle.rules.specs.Columns.{Column, check, publishedIn, publishedFrom, columnsOf}
+use Rattle.rules.specs.Circuit.{gatesIn, testsIn}
+use Rattle.rules.specs.Run.{Valid}
+use Rattle.rules.specs.Values.{legalValues}
+use Rattle.rules.specs.Judging.{shareSize, addedUp, letsIn, allowedPair}
+use Rattle.rules.specs.Making.{madeShare, randomCount, shareMessage}
+use Rattle.rules.specs.Messages.{placeIn, roundLength}
+use Rattle.rules.specs.Server.{Opened, Waiting, waitingOf, messageOne, messageTwo, summed}
+use Rattle.rules.specs.Table.{openRefusal}
+use Rattle.rules.specs.Joining.{joinRefusal, joinCount, joinTotals}
+use Rattle.rules.specs.Ledger.{Call, share, roundOne, roundTwo, drop, close, Answer, refused, wrote, judged, done}
+use Rattle.rules.specs.Ledger.{Note, Progress, isIdle, waitsOne, waitsTwo, isClosed, Decided, Ledger, empty}
+use Rattle.rules.specs.Ledger.{isAccepted, isDropped, notesWith, idsOf, notesOf, refusalOf, ledgerStep, runLedger, ledgerAnswers}
+use Rattle.rules.specs.Ledger.{closingMessage}
+use Rattle.rules.specs.Runs.{openedTable, tableAnswers}
+
+-- the bytes of a call are bytes
+abbrev pub Bytes : List ℕ → Type 0
+Bytes s = All (λ b. b < 256) s
+
+abbrev pub BytesIn : Call → Type 0
+BytesIn (share m r s room) = Bytes m
+BytesIn (roundOne joined room) = Bytes joined
+BytesIn (roundTwo joined) = Bytes joined
+BytesIn drop = Unit {0}
+BytesIn (close room) = Unit {0}
+
+-- "Servers are opened alike when S, sheet and N are the same and their numbers are 0 to S - 1, one each." Server i's table
+-- is opened in the buffer i, without refusal, and has the list `calls i`
+pub record Pool (σ : Setting) : Type 0 where
+  pub servers : ℕ
+  pub sheet : List ℕ
+  pub returns : ℕ
+  pub buffers : ℕ → List ℕ
+  pub calls : ℕ → List Call
+  pub sheet-bytes : Bytes sheet
+  pub buffer-bytes : (i : ℕ) → i < servers → Bytes (buffers i)
+  pub call-bytes : (i : ℕ) → i < servers → All BytesIn (calls i)
+  pub opens : (i : ℕ) → i < servers → openRefusal σ servers i sheet returns (length (buffers i)) ≡ 0
+
+module _ (σ : Setting) (𝓟 : Pool σ) where
+  abbrev pub columns : List Column
+  columns = columnsOf (𝓟 .sheet)
+
+  abbrev pub openedAt : ℕ → Opened
+  openedAt i = record { servers = 𝓟 .servers; own = i; columns = columns; returns = 𝓟 .returns }
+
+  abbrev pub tableAt : ℕ → List ℕ
+  tableAt i = openedTable σ (𝓟 .servers) i (𝓟 .sheet) (𝓟 .returns) (𝓟 .buffers i)
+
+  -- what server i's list comes to
+  abbrev pub ledgerAt : ℕ → Ledger
+  ledgerAt i = runLedger σ (openedAt i) empty (𝓟 .calls i)
+
+  abbrev pub answersAt : ℕ → List Answer
+  answersAt i = ledgerAnswers σ (openedAt i) empty (𝓟 .calls i)
+
+  abbrev pub acceptedAt : ℕ → List ℕ
+  acceptedAt i = idsOf (notesWith isAccepted (ledgerAt i .decided))
+
+  abbrev pub droppedAt : ℕ → List ℕ
+  droppedAt i = idsOf (notesWith isDropped (ledgerAt i .decided))
+
+-- the share that waits
+unfoldable pub waitingNote : Progress → List Note
+waitingNote isIdle = []
+waitingNote (waitsOne n) = n ∷ []
+waitingNote (waitsTwo n d e) = n ∷ []
+waitingNote isClosed = []
+
+-- every share that a ledger notes
+unfoldable pub notesIn : Ledger → List Note
+notesIn l = notesOf (l .decided) ++ waitingNote (l .progress)
+
+-- the share noted under an id; one without elements where there is none
+unfoldable pub under : ℕ → List Note → Note
+under id [] = record { id = id; elements = []; r = 0; s = 0 }
+under id (n ∷ ns) = cond (eqb (n .id) id) n (under id ns)
+
+-- the joined messages of the round calls of a list that are not refused
+module _ (σ : Setting) (o : Opened) where
+  unfoldable pub joinedIn : Call → List (List ℕ)
+  joinedIn (share m r s room) = []
+  joinedIn (roundOne joined room) = joined ∷ []
+  joinedIn (roundTwo joined) = joined ∷ []
+  joinedIn drop = []
+  joinedIn (close room) = []
+
+  unfoldable pub handedIn : Ledger → List Call → List (List ℕ)
+  handedIn l [] = []
+  handedIn l (c ∷ cs) =
+      cond (eqb (refusalOf σ o l c) 0) (joinedIn c) [] ++ handedIn (ledgerStep σ o l c (refusalOf σ o l c)) cs
+
+module _ (σ : Setting) (𝓟 : Pool σ) where
+  abbrev pub notesAt : ℕ → List Note
+  notesAt i = notesIn (ledgerAt σ 𝓟 i)
+
+  -- "A return is the S shares noted under one id."
+  abbrev pub returnOf : ℕ → ℕ → ℕ → ℕ
+  returnOf id i e = getD (under id (notesAt i) .elements) e 0
+
+  -- "Its added-up entries are their sums modulo p; it keeps its form when they are a valid list."
+  abbrev pub addedEntry : ℕ → ℕ → ℕ
+  addedEntry id = addedUp (modulo (σ .modulus)) σ (columns σ 𝓟) (𝓟 .servers) (returnOf id)
+
+  abbrev pub KeepsForm : ℕ → Type 0
+  KeepsForm id = Valid (modulo (σ .modulus)) σ (columns σ 𝓟) (addedEntry id)
+
+  -- "An id has one pair when every share taken under it came with the same r and s."
+  abbrev pub OnePair : ℕ → ℕ → ℕ → Type 0
+  OnePair id r s =
+      (i : ℕ) → i < 𝓟 .servers → (n : Note) → In n (notesAt i) → n .id ≡ id → (n .r ≡ r) × (n .s ≡ s)
+
+  -- "Round messages are unaltered when each one in a round call that is not refused is the one that the named server wrote
+  -- for that id and round": a message holds its id, its round and its server. "Drops are in the same order when no id
+  -- dropped at one server is accepted at another."
+  pub record Conditions : Type 0 where
+    pub unaltered : (i j : ℕ) → i < 𝓟 .servers → j < 𝓟 .servers → (joined : List ℕ)
+        → In joined (handedIn σ (openedAt σ 𝓟 i) empty (𝓟 .calls i)) → In (wrote (placeIn σ joined j)) (answersAt σ 𝓟 j)
+    pub same-drops : (i j : ℕ) → i < 𝓟 .servers → j < 𝓟 .servers → (id : ℕ) → In id (droppedAt σ 𝓟 i)
+        → In id (acceptedAt σ 𝓟 j) → ⊥
+
+  -- "delivered whole when each server noted the share that making wrote for it"
+  pub record DeliveredWhole (id : ℕ) : Type 0 where
+    pub values : List ℕ
+    pub random : List ℕ
+    pub legal : legalValues (columns σ 𝓟) values ≡ true
+    pub enough : length random ≡ randomCount (𝓟 .servers) (columns σ 𝓟)
+    pub below : allBelow (σ .modulus) random ≡ true
+    pub noted : (i : ℕ) → i < 𝓟 .servers
+        → under id (notesAt i) .elements ≡ madeShare σ (columns σ 𝓟) (𝓟 .servers) values random i
+
+  abbrev pub AllClosed : Type 0
+  AllClosed = (i : ℕ) → i < 𝓟 .servers → ledgerAt σ 𝓟 i .progress ≡ isClosed
+
+  -- the closing messages, one after another in server order
+  unfoldable pub closingsFrom : ℕ → ℕ → List ℕ
+  closingsFrom i zero = []
+  closingsFrom i (suc n) = closingMessage σ (openedAt σ 𝓟 i) (ledgerAt σ 𝓟 i) ++ closingsFrom (suc i) n
+
+  abbrev pub closings : List ℕ
+  closings = closingsFrom 0 (𝓟 .servers)
+
+  -- When all servers have closed
+  pub record Closed : Type 0 where
+    -- the accepted ids are the same at each
+    pub ids : List ℕ
+    pub distinct : Distinct ids
+    pub same-ids : (i : ℕ) → i < 𝓟 .servers → Rearranged (acceptedAt σ 𝓟 i) ids
+    -- each wrote the closing message that the ledger tells
+    pub wrote-closing : (i : ℕ) → i < 𝓟 .servers
+        → In (wrote (closingMessage σ (openedAt σ 𝓟 i) (ledgerAt σ 𝓟 i))) (answersAt σ 𝓟 i)
+    -- joining them is refused 14 at most, gives their number and the sums of the added-up published entries
+    pub joins : (room : ℕ)
+        → joinRefusal σ (𝓟 .servers) (𝓟 .sheet) (𝓟 .returns) closings room
+        ≡ check (leb (σ .width * publishedIn (columns σ 𝓟)) room) 14
+    pub count : joinCount closings ≡ length ids
+    pub totals : joinTotals σ (𝓟 .servers) (𝓟 .sheet) closings
+        ≡ map (λ e. sumOver (λ id. addedEntry id e) ids % σ .modulus) (publishedFrom 0 (columns σ 𝓟))
+    -- where every accepted return keeps its form these are the sums themselves
+    pub whole : ((id : ℕ) → In id ids → KeepsForm id)
+        → joinTotals σ (𝓟 .servers) (𝓟 .sheet) closings
+        ≡ map (λ e. sumOver (λ id. addedEntry id e) ids) (publishedFrom 0 (columns σ 𝓟))
+
+-- A return of sound shares handed to idle servers: the share, and both rounds with the messages as they were written
+module _ (σ : Setting) (𝓟 : Pool σ) (id : ℕ) (shares : ℕ → List ℕ) (r s : ℕ) where
+  abbrev pub firstWait : ℕ → Waiting
+  firstWait i = waitingOf σ (openedAt σ 𝓟 i) id (shares i) r s
+
+  unfoldable pub firstsFrom : ℕ → ℕ → List ℕ
+  firstsFrom i zero = []
+  firstsFrom i (suc n) = messageOne σ (openedAt σ 𝓟 i) (firstWait i) ++ firstsFrom (suc i) n
+
+  abbrev pub firsts : List ℕ
+  firsts = firstsFrom 0 (𝓟 .servers)
+
+  abbrev pub secondWait : ℕ → Waiting
+  secondWait i = summed σ (openedAt σ 𝓟 i) (firstWait i) firsts
+
+  unfoldable pub secondsFrom : ℕ → ℕ → List ℕ
+  secondsFrom i zero = []
+  secondsFrom i (suc n) = messageTwo σ (openedAt σ 𝓟 i) (secondWait i) ++ secondsFrom (suc i) n
+
+  abbrev pub seconds : List ℕ
+  seconds = secondsFrom 0 (𝓟 .servers)
+
+  abbrev pub threeCalls : ℕ → ℕ → List Call
+  threeCalls room i = share (shareMessage σ id i (shares i)) r s room ∷ roundOne firsts room ∷ roundTwo seconds ∷ []
+
+  -- what has to be so for the return to be taken
+  pub record Ready (room : ℕ) : Type 0 where
+    pub idle-all : (i : ℕ) → i < 𝓟 .servers → ledgerAt σ 𝓟 i .progress ≡ isIdle
+    pub fewer : (i : ℕ) → i < 𝓟 .servers → length (ledgerAt σ 𝓟 i .decided) < 𝓟 .returns
+    pub unused : (i : ℕ) → i < 𝓟 .servers → In id (idsOf (notesOf (ledgerAt σ 𝓟 i .decided))) → ⊥
+    pub id-fits : id < 4294967296
+    pub sized : (i : ℕ) → i < 𝓟 .servers → length (shares i) ≡ shareSize (columns σ 𝓟)
+    pub below : (i : ℕ) → i < 𝓟 .servers → All (λ x. x < σ .modulus) (shares i)
+    pub pair : allowedPair σ (columns σ 𝓟) r s ≡ true
+    pub enough : roundLength σ ≤ room
+
+-- DEMAND 3: what every list of calls at S servers comes to
+pub record WholeRun (σ : Setting) (𝓟 : Pool σ) : Type 0 where
+  -- 1. Each table hands back what the ledger tells: refusals, messages and verdicts. No condition is needed
+  pub tables : (i : ℕ) → i < 𝓟 .servers → tableAnswers σ (tableAt σ 𝓟 i) (𝓟 .calls i) ≡ answersAt σ 𝓟 i
+  -- 2, 3, 4. The accepted ids are the same, joining gives their number and sums, in whole numbers where form is kept
+  pub closed : Conditions σ 𝓟 → AllClosed σ 𝓟 → Closed σ 𝓟
+  -- 5. A return judged to the end is accepted exactly when its pair lets it in
+  pub verdict : Conditions σ 𝓟 → (i : ℕ) → i < 𝓟 .servers → (k : Decided) → In k (ledgerAt σ 𝓟 i .decided)
+      → isDropped (k .decision) ≡ false → (r s : ℕ) → OnePair σ 𝓟 (k .note .id) r s
+      → isAccepted (k .decision) ≡ letsIn σ (columns σ 𝓟) (𝓟 .servers) (returnOf σ 𝓟 (k .note .id)) r s
+  -- 6. A return that is delivered whole is never rejected
+  pub honest : Conditions σ 𝓟 → (i : ℕ) → i < 𝓟 .servers → (k : Decided) → In k (ledgerAt σ 𝓟 i .decided)
+      → isDropped (k .decision) ≡ false → (r s : ℕ) → OnePair σ 𝓟 (k .note .id) r s
+      → DeliveredWhole σ 𝓟 (k .note .id) → isAccepted (k .decision) ≡ true
+  -- 7. At most p × max(2M + 1, K - 1) pairs let shares in whose added-up entries are no valid list
+  pub few : (x : ℕ → ℕ → ℕ) → ((i e : ℕ) → x i e < σ .modulus)
+      → (Valid (modulo (σ .modulus)) σ (columns σ 𝓟) (addedUp (modulo (σ .modulus)) σ (columns σ 𝓟) (𝓟 .servers) x) → ⊥)
+      → countPairs (σ .modulus) (σ .modulus) (letsIn σ (columns σ 𝓟) (𝓟 .servers) x)
+      ≤ σ .modulus * max (suc (gatesIn (columns σ 𝓟) + gatesIn (columns σ 𝓟))) (testsIn (columns σ 𝓟) - 1)
+  -- 8. A return of sound shares is handled to its end: nothing is refused, and the verdict is that of its pair
+  pub handled : (id : ℕ) (shares : ℕ → List ℕ) (r s room : ℕ) → Ready σ 𝓟 id shares r s room
+      → (i : ℕ) → i < 𝓟 .servers
+      → ledgerAnswers σ (openedAt σ 𝓟 i) (ledgerAt σ 𝓟 i) (threeCalls σ 𝓟 id shares r s room i)
+      ≡ wrote (messageOne σ (openedAt σ 𝓟 i) (firstWait σ 𝓟 id shares r s i))
+      ∷ wrote (messageTwo σ (openedAt σ 𝓟 i) (secondWait σ 𝓟 id shares r s i))
+      ∷ judged (letsIn σ (columns σ 𝓟) (𝓟 .servers) (λ j e. getD (shares j) e 0) r s)
+      ∷ []

@@ -1,3 +1,9 @@
 pub mod Computing
 pub mod Examples
 pub mod Natural
+pub mod TableParts
+pub mod TableKnown
+pub mod TableSound
+pub mod TableWrites
+pub mod TableInvariant
+pub mod WaitBytes

@@ -7,3 +7,6 @@ pub mod TableSound
 pub mod TableWrites
 pub mod TableInvariant
 pub mod WaitBytes
+pub mod TableTaken
+pub mod LedgerGrows
+pub mod TableDecided

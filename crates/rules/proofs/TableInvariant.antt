@@ -88,23 +88,23 @@ module _ (σ : Setting) (facts : Facts σ) where
   sum-below (suc m) g = mod-lt _ positive
 
   module _ (o : Opened) (n : Note) where
-    d-below : noted σ o n .d < σ .modulus
+    pub d-below : noted σ o n .d < σ .modulus
     unfolding waitingOf dOf
     d-below = mod-lt _ positive
 
-    e-below : noted σ o n .e < σ .modulus
+    pub e-below : noted σ o n .e < σ .modulus
     unfolding waitingOf eOf
     e-below = mod-lt _ positive
 
-    rh-below : noted σ o n .rh < σ .modulus
+    pub rh-below : noted σ o n .rh < σ .modulus
     unfolding waitingOf
     rh-below = mod-lt _ positive
 
-    tau-below : noted σ o n .tau < σ .modulus
+    pub tau-below : noted σ o n .tau < σ .modulus
     unfolding waitingOf tauOf folded
     tau-below = sum-below _ _
 
-    fields-are : (noted σ o n .r ≡ n .r) × (noted σ o n .s ≡ n .s) × (noted σ o n .elements ≡ n .elements) × (noted σ o n .id ≡ n .id)
+    pub fields-are : (noted σ o n .r ≡ n .r) × (noted σ o n .s ≡ n .s) × (noted σ o n .elements ≡ n .elements) × (noted σ o n .id ≡ n .id)
     unfolding waitingOf
     fields-are = (refl, refl, refl, refl)
 
@@ -124,7 +124,7 @@ module _ (σ : Setting) (facts : Facts σ) where
       at (suc (suc (suc (suc (suc zero))))) l = rw (ap (λ (v : Waiting). v .tau) e) ht
       at (suc (suc (suc (suc (suc (suc i)))))) l = absurd (omega arith)
 
-  pair-below : (cs : List Column) (r s : ℕ) → allowedPair σ cs r s ≡ true → (r < σ .modulus) × (s < σ .modulus)
+  pub pair-below : (cs : List Column) (r s : ℕ) → allowedPair σ cs r s ≡ true → (r < σ .modulus) × (s < σ .modulus)
   unfolding allowedPair
   pair-below cs r s e =
       let both = and-right (ltb (gatesIn cs) r) _ e in

@@ -8,3 +8,4 @@ pub mod InLimits
 pub mod Digits
 pub mod ColumnTests
 pub mod Encoding
+pub mod Legal

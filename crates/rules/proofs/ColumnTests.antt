@@ -1,17 +1,17 @@
 -- One column in a field: its tests are all zero exactly when its entries encode a legal value. A bit check says that an
 -- entry is 0 or 1; the last test says that the options' entries add up to 1, or that v is the number with those bits.
 -- Assumes nothing.
-use mathlib.Core.Path.{_≡_, refl, sym, _∙_, ap, ap₂}
+use mathlib.Core.Path.{_≡_, sym, _∙_, ap, ap₂}
 use mathlib.Core.Logic.{_⊎_, inl, inr}
 use mathlib.Core.Bool.{Bool, cond, true, false}
-use mathlib.Core.List.{List, [], _∷_, _++_}
+use mathlib.Core.List.{List, [], _∷_}
 use Prim.Native.Nat.{ℕ, zero, suc, _+_, _-_, _*_, _/_, _%_, _^_, _≤_, _<_}
 use native.Mathlib.Nat.{add-zero as n-add-zero, mul-zero as n-mul-zero, mul-suc as n-mul-suc}
 use native.Mathlib.Omega.{arith}
-use lib.ListN.{getD}
 use Rattle.algebra.specs.Lists.{All, all[], all∷, tabulate}
 use Rattle.algebra.specs.Ops.{Ops, Field}
-use Rattle.algebra.proofs.Ring.{ring, add-zero, zero-add, add-assoc, add-neg, neg-add, mul-zero, zero-mul, mul-one, mul-add, sub-zero, ι-add}
+use Rattle.algebra.proofs.Ring.{ring, add-zero, zero-add, add-assoc, add-neg, neg-add, mul-zero, zero-mul, mul-one, mul-add}
+use Rattle.algebra.proofs.Ring.{sub-zero, ι-add}
 use Rattle.algebra.proofs.Members.{all-append, all-left, all-right, all-getD, all-tabulate}
 use Rattle.algebra.proofs.Tables.{length-tabulate, getD-tabulate}
 use Rattle.rules.specs.Settings.{Setting}
@@ -21,8 +21,8 @@ use Rattle.rules.specs.Run.{Meaning, onList}
 use Rattle.rules.specs.Walk.{sumFrom, lessOne, bitOut, bitsAt, bitTests, sumTests, columnTests}
 use Rattle.rules.specs.Values.{encoded}
 use Rattle.rules.proofs.InLimits.{InLimits}
-use Rattle.rules.proofs.Digits.{total, Bits, numberOf, number-below, digit-at, number-again, oneAt, one-at-below, total-most}
-use Rattle.rules.proofs.Digits.{One, total-one, one-total}
+use Rattle.rules.proofs.Digits.{total, Bits, numberOf, number-below, digit-at, number-again, oneAt, one-at-below}
+use Rattle.rules.proofs.Digits.{flag-below, total-most, One, total-one, one-total}
 
 tabulate-all : {A : Type 0} {P : A → Type 0} (f : ℕ → A) (n : ℕ) → All P (tabulate f n) → (i : ℕ) → i < n → P (f i)
 tabulate-all f n h i l =
@@ -69,11 +69,7 @@ module _ (𝓕 : Field) where
 
       bit-below : (a : F) → bitOf a < 2
       unfolding bitOf
-      bit-below a = go (isYes (𝓕 .dec a 𝟙))
-        where
-          go : (b : Bool) → cond b 1 0 < 2
-          go true = omega arith
-          go false = omega arith
+      bit-below a = flag-below (isYes (𝓕 .dec a 𝟙))
 
       bit-zero : (a : F) → a ⊗ (a ⊕ ι m) ≡ 𝟘 → a ≡ ι (bitOf a)
       unfolding bitOf
@@ -156,10 +152,10 @@ module _ (𝓕 : Field) where
           column-is = λ i l. let i0 : i ≡ 0 = omega arith in ap (λ k. x (e + k)) i0 ∙ bits-are e t yesNo z 0 (omega arith);
         }
         by-tests (choice n) w e t z s = record {
-            value = one .chosen;
-            value-below = one .chosen-below;
-            column-is = λ i l. at i l ∙ ap ι (one .digits-are i l);
-          }
+          value = one .chosen;
+          value-below = one .chosen-below;
+          column-is = λ i l. at i l ∙ ap ι (one .digits-are i l);
+        }
           where
             at : (i : ℕ) → i < n → x (e + i) ≡ ι (bits e i)
             at = bits-are e t (choice n) z
@@ -172,10 +168,10 @@ module _ (𝓕 : Field) where
                 let most : total (bits e) n ≤ n = total-most (bits e) n (bits-below e n) in
                 total-one (bits e) n (bits-below e n) (choice-one (total (bits e) n) (omega (arith, w .1)) last)
         by-tests (number n) w e t z s = record {
-            value = numberOf (bits (suc e)) n;
-            value-below = number-below (bits (suc e)) n (bits-below (suc e) n);
-            column-is = at-entry;
-          }
+          value = numberOf (bits (suc e)) n;
+          value-below = number-below (bits (suc e)) n (bits-below (suc e) n);
+          column-is = at-entry;
+        }
           where
             d : ℕ → ℕ
             d = bits (suc e)

@@ -80,12 +80,12 @@ one-at v i e = ap (λ (b : Bool). cond b 1 0) (eq-eqb v i e)
 none-at : (v i : ℕ) → (v ≡ i → ⊥) → oneAt v i ≡ 0
 none-at v i ne = ap (λ (b : Bool). cond b 1 0) (ne-eqb v i ne)
 
+pub flag-below : (b : Bool) → cond b 1 0 < 2
+flag-below true = omega arith
+flag-below false = omega arith
+
 pub one-at-below : (v i : ℕ) → oneAt v i < 2
-one-at-below v i = go (eqb v i)
-  where
-    go : (b : Bool) → cond b 1 0 < 2
-    go true = omega arith
-    go false = omega arith
+one-at-below v i = flag-below (eqb v i)
 
 pub total-most : (d : ℕ → ℕ) (n : ℕ) → Bits d n → total d n ≤ n
 unfolding total
@@ -117,10 +117,10 @@ total-one d (suc n) h e = go (ℕ-discrete (d n) 0) (total-one d n (λ i l. h i 
 
     go : Dec (d n ≡ 0) → (total d n ≡ 1 → One d n) → One d (suc n)
     go (yes z) ih = record {
-        chosen = r .chosen;
-        chosen-below = omega (arith, r .chosen-below);
-        digits-are = λ i l. at i l (ℕ-discrete i n);
-      }
+      chosen = r .chosen;
+      chosen-below = omega (arith, r .chosen-below);
+      digits-are = λ i l. at i l (ℕ-discrete i n);
+    }
       where
         r : One d n
         r = ih (omega arith)

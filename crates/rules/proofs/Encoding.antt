@@ -2,9 +2,9 @@
 -- and a published entry is at most its column's largest value, so that n of them stay below p. Assumes nothing.
 use mathlib.Core.Path.{_≡_, refl, sym, _∙_, ap, ap₂, subst}
 use mathlib.Core.Logic.{⊎-elim}
-use mathlib.Core.Bool.{Bool, true, false, _&&_}
+use mathlib.Core.Bool.{Bool, true, false}
 use mathlib.Core.List.{List, [], _∷_, _++_}
-use Prim.Native.Nat.{ℕ, zero, suc, _+_, _-_, _*_, _/_, _%_, _^_, _≤_, _<_}
+use Prim.Native.Nat.{ℕ, zero, suc, _+_, _-_, _*_, _^_, _≤_, _<_}
 use native.Mathlib.Nat.{pow-le-pow-right, mul-le-mul-right, mul-comm, zero-add}
 use native.Mathlib.Omega.{arith}
 use borrow.Author.Tests.{ltb-true}
@@ -12,7 +12,7 @@ use lib.Dec.{ltb}
 use lib.ListN.{length, getD, length-append, List·getD-append}
 use lib.Seq.{getD-append-add}
 use Rattle.algebra.specs.Lists.{All, all[], all∷, In, tabulate, every, countFrom}
-use Rattle.algebra.proofs.Members.{all-append, all-tabulate, all-getD, and-left, and-right, in-append, in-count}
+use Rattle.algebra.proofs.Members.{all-append, all-tabulate, and-left, and-right, in-append, in-count}
 use Rattle.algebra.proofs.Tables.{length-tabulate, getD-tabulate}
 use Rattle.rules.specs.Settings.{Setting, Facts}
 use Rattle.rules.specs.Columns.{Column, yesNo, choice, number, entriesOf, publishedOf, valuesOf, largestOf, entriesIn}
@@ -139,7 +139,7 @@ module _ (σ : Setting) (n : ℕ) where
           rw (encoding-head c cs v vs i (published-entry c i low)) (omega (arith, fit-head c cs f))
 
       later : ((j : ℕ) → In (a + entriesOf c + j) (publishedFrom (a + entriesOf c) cs)
-              → getD (encoding cs vs) j 0 * n < σ .modulus)
+          → getD (encoding cs vs) j 0 * n < σ .modulus)
           → In (a + i) (publishedFrom (a + entriesOf c) cs) → getD (encoding (c ∷ cs) (v ∷ vs)) i 0 * n < σ .modulus
       later rest q =
           let past : a + entriesOf c ≤ a + i = published-from (a + entriesOf c) (a + i) cs q in

@@ -1,7 +1,7 @@
 -- The limits of a column's count, and that a sheet that is read keeps them: the judge of a record lets no other column
 -- pass, and what each good record keeps holds of the columns read. Assumes nothing.
 use mathlib.Core.Path.{_≡_, refl, subst}
-use mathlib.Core.Bool.{Bool, true, false, cond, _&&_}
+use mathlib.Core.Bool.{Bool, true, false, cond}
 use mathlib.Core.List.{List}
 use Prim.Native.Nat.{ℕ, _≤_}
 use native.Mathlib.Omega.{arith}

@@ -27,7 +27,7 @@ use Rattle.rules.specs.Values.{encoded, legalValues, encoding, Encodes}
 use Rattle.rules.proofs.Natural.{run-map, list-keeps}
 use Rattle.rules.proofs.Walk.{walk-is-run}
 use Rattle.rules.proofs.InLimits.{InLimits, sheet-in-limits}
-use Rattle.rules.proofs.ColumnTests.{Encoded, column-encoded, encoded-column}
+use Rattle.rules.proofs.ColumnTests.{column-encoded, encoded-column}
 use Rattle.rules.proofs.Encoding.{not-legal, legal-head, legal-tail, encoding-head, encoding-tail}
 
 -- ---- in a field
@@ -37,10 +37,10 @@ module _ (O : Ops) (x : ℕ → O .F) (e : ℕ) (c : Column) (cs : List Column) 
       → Encodes O cs (λ i. x (e + entriesOf c + i)) → Encodes O (c ∷ cs) (λ i. x (e + i))
   unfolding legalValues entriesIn
   front-encodes v l at q = record {
-      values = v ∷ q .values;
-      legal = and-true (ltb v (valuesOf c)) (legalValues cs (q .values)) (lt-ltb v (valuesOf c) l) (q .legal);
-      entries-are = λ i h. entry i h (decLt i (entriesOf c));
-    }
+    values = v ∷ q .values;
+    legal = and-true (ltb v (valuesOf c)) (legalValues cs (q .values)) (lt-ltb v (valuesOf c) l) (q .legal);
+    entries-are = λ i h. entry i h (decLt i (entriesOf c));
+  }
     where
       entry : (i : ℕ) → i < entriesOf c + entriesIn cs → Dec (i < entriesOf c)
           → x (e + i) ≡ O .ι (getD (encoding (c ∷ cs) (v ∷ q .values)) i 0)
@@ -82,7 +82,7 @@ module _
     values-walk (c ∷ cs) (v ∷ vs) h e t at =
         all-append
         (encoded-column 𝓕 σ minus-one only-one x c e t
-          (record { value = v; value-below = legal-head c cs v vs h; column-is = here }))
+        (record { value = v; value-below = legal-head c cs v vs h; column-is = here }))
         (values-walk cs vs (legal-tail c cs v vs h) (e + entriesOf c) (t + gatesOf c) there)
       where
         here : (i : ℕ) → i < entriesOf c → x (e + i) ≡ ι (encoded c v i)
@@ -152,22 +152,24 @@ module _ (σ : Setting) (facts : Facts σ) where
         ∙ λ j. run (onList (modulo p) (λ i. lifted-value i j)) (circuitOf σ cs) .tests
 
     pub valid-lifts : Valid (modulo (σ .modulus)) σ cs x ↔ Valid R σ cs lifted
-    valid-lifts =
-        (λ z. zeros-up (run (onList R lifted) (circuitOf σ cs) .tests) (subst (All (λ y. y ≡ 0)) (sym tests-value) z),
-        λ z. subst (All (λ y. y ≡ 0)) tests-value (zeros-down z))
+    valid-lifts = (
+      λ z. zeros-up (run (onList R lifted) (circuitOf σ cs) .tests) (subst (All (λ y. y ≡ 0)) (sym tests-value) z),
+      λ z. subst (All (λ y. y ≡ 0)) tests-value (zeros-down z),
+    )
 
     pub encodes-lifts : Encodes (modulo (σ .modulus)) cs x ↔ Encodes R cs lifted
-    encodes-lifts =
-        (λ r. record {
-          values = r .values;
-          legal = r .legal;
-          entries-are = λ i l. ap (R .ι) (r .entries-are i l ∙ sym (left (r .values) i)) ∙ of-value p (facts .prime) _;
-        },
-        λ r. record {
-          values = r .values;
-          legal = r .legal;
-          entries-are = λ i l. sym (lifted-value i) ∙ ap value (r .entries-are i l) ∙ left (r .values) i;
-        })
+    encodes-lifts = (
+      λ r. record {
+        values = r .values;
+        legal = r .legal;
+        entries-are = λ i l. ap (R .ι) (r .entries-are i l ∙ sym (left (r .values) i)) ∙ of-value p (facts .prime) _;
+      },
+      λ r. record {
+        values = r .values;
+        legal = r .legal;
+        entries-are = λ i l. sym (lifted-value i) ∙ ap value (r .entries-are i l) ∙ left (r .values) i;
+      },
+    )
       where
         left : (vs : List ℕ) (i : ℕ) → value (R .ι (getD (encoding cs vs) i 0)) ≡ modulo p .ι (getD (encoding cs vs) i 0)
         left vs i = toNumbers p (facts .prime) .num (getD (encoding cs vs) i 0)

@@ -8,4 +8,5 @@ pub mod InLimits
 pub mod Digits
 pub mod ColumnTests
 pub mod Encoding
+pub mod Published
 pub mod Legal

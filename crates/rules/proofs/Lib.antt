@@ -10,3 +10,13 @@ pub mod WaitBytes
 pub mod TableTaken
 pub mod LedgerGrows
 pub mod TableDecided
+pub mod Facts
+pub mod Growth
+pub mod Stretches
+pub mod Walk
+pub mod InLimits
+pub mod Digits
+pub mod ColumnTests
+pub mod Encoding
+pub mod Published
+pub mod Legal

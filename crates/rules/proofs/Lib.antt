@@ -4,3 +4,6 @@ pub mod Facts
 pub mod Growth
 pub mod Stretches
 pub mod Walk
+pub mod Limits
+pub mod Refusals
+pub mod Size

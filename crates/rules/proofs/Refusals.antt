@@ -1,0 +1,104 @@
+-- The refusals of reading: a number that is refused comes from an unknown kind, a cut body or the judge of a record. So a
+-- sheet is refused 1 or 2, and one without a fault is read as its columns. Assumes nothing.
+use mathlib.Core.Path.{_≡_, refl, subst, ap, _∙_}
+use mathlib.Core.Logic.{_⊎_, inl, inr, ⊎-elim}
+use mathlib.Core.Bool.{Bool, true, false, cond}
+use mathlib.Core.List.{List, [], _∷_, _++_}
+use mathlib.Core.Option.{Option, some, none}
+use Prim.Native.Nat.{ℕ, zero, suc}
+use native.Mathlib.Omega.{arith}
+use lib.Dec.{leb, eqb}
+use lib.ListN.{length, getD, take}
+use Rattle.records.specs.Outcome.{Outcome, ok, refused}
+use Rattle.records.specs.Records.{Format, andOn, oneRecord, readFrom, read}
+use Rattle.rules.specs.Columns.{Column, yesNo, choice, number, within, counted, columnOf, columnFormat, entriesIn}
+use Rattle.rules.specs.Columns.{sheetLimits, limitedSheet, readSheet, faultIn, listIn, sheetFault, columnsOf}
+use Rattle.rules.proofs.Limits.{Limits, limits}
+
+module _ {A : Type 0} where
+  not-refused : {a : A} {n : ℕ} → _≡_ {A = Outcome A} (ok a) (refused n) → ⊥
+  not-refused h = let z : _≡_ {A = ℕ} 0 1 = cc in omega arith
+
+-- what holds of the refusal of a kind or a cut, and of each refusal of the judge, holds of the refusal of a run
+module _
+    {A : Type 0} (f : Format A) (P : ℕ → Type 0) (at-fault : P (f .atFault))
+    (by-judge : (done : List A) (k : ℕ) (body : List ℕ) (n : ℕ) → f .judge done k body ≡ refused n → P n)
+  where
+    refused-from : (s : List ℕ) (j : ℕ) (done : List A) (n : ℕ) → readFrom f s j done ≡ refused n → P n
+    unfolding readFrom
+    refused-from [] j done n h = absurd (not-refused h)
+    refused-from (b ∷ s) (suc j) done n h = refused-from s j done n h
+    refused-from (k ∷ s) zero done n h = known (f .bodyOf k) (λ j d. refused-from s j d n) h
+      where
+        Rest : Type 0
+        Rest = (j : ℕ) (d : List A) → readFrom f s j d ≡ refused n → P n
+
+        judged : (m : ℕ) → Rest → (r : Outcome A) → f .judge done k (take m s) ≡ r
+            → andOn r done (readFrom f s m) ≡ refused n → P n
+        judged m rest (ok a) q g = rest m (done ++ (a ∷ [])) g
+        judged m rest (refused l) q g = let e : l ≡ n = cc in by-judge done k (take m s) n (q ∙ ap refused e)
+
+        whole : (m : ℕ) → Rest → (b : Bool)
+            → cond b (andOn (f .judge done k (take m s)) done (readFrom f s m)) (refused (f .atFault)) ≡ refused n → P n
+        whole m rest true g = judged m rest (f .judge done k (take m s)) refl g
+        whole m rest false g = let e : f .atFault ≡ n = cc in subst P e at-fault
+
+        known : (o : Option ℕ) → Rest → oneRecord f o done k s (readFrom f s) ≡ refused n → P n
+        known none rest g = let e : f .atFault ≡ n = cc in subst P e at-fault
+        known (some m) rest g = whole m rest (leb m (length s)) g
+
+    pub refused-by : (s : List ℕ) (n : ℕ) → read f s ≡ refused n → P n
+    refused-by s n h = refused-from s 0 [] n h
+
+-- ---- a sheet
+abbrev OneOrTwo : ℕ → Type 0
+OneOrTwo n = (n ≡ 1) ⊎ (n ≡ 2)
+
+counted-refused : (fits : Bool) (c : Column) (n : ℕ) → counted fits c ≡ refused n → OneOrTwo n
+unfolding counted
+counted-refused true c n h = absurd (not-refused h)
+counted-refused false c n h = inr (cc)
+
+column-refused : (k : ℕ) (body : List ℕ) (n : ℕ) → columnOf k body ≡ refused n → OneOrTwo n
+unfolding columnOf
+column-refused k body n h = by-kind (eqb k 17) (eqb k 18) h
+  where
+    x : ℕ
+    x = getD body 0 0
+
+    by-kind : (a b : Bool)
+        → cond a (ok yesNo) (cond b (counted (within 2 64 x) (choice x)) (counted (within 1 24 x) (number x))) ≡ refused n
+        → OneOrTwo n
+    by-kind true b g = absurd (not-refused g)
+    by-kind false true g = counted-refused (within 2 64 x) (choice x) n g
+    by-kind false false g = counted-refused (within 1 24 x) (number x) n g
+
+limits-refused : (cs : List Column) (b : Bool) (n : ℕ) → cond b (ok cs) (refused 2) ≡ refused n → OneOrTwo n
+limits-refused cs true n h = absurd (not-refused h)
+limits-refused cs false n h = inr (cc)
+
+pub sheet-refusals : (s : List ℕ) (n : ℕ) → readSheet s ≡ refused n → (n ≡ 1) ⊎ (n ≡ 2)
+unfolding readSheet limitedSheet sheetLimits
+sheet-refusals s n h = outcome (read columnFormat s) refl h
+  where
+    outcome : (r : Outcome (List Column)) → read columnFormat s ≡ r → limitedSheet r ≡ refused n → OneOrTwo n
+    outcome (ok cs) q g = limits-refused cs (within 1 256 (entriesIn cs)) n g
+    outcome (refused m) q g =
+        refused-by columnFormat OneOrTwo (inl refl) (λ done k body l. column-refused k body l) s n
+        (let e : m ≡ n = cc in q ∙ ap refused e)
+
+-- a sheet without a fault is read as its columns, and a sheet that is read has no fault
+pub sheet-read : (s : List ℕ) → sheetFault s ≡ 0 → readSheet s ≡ ok (columnsOf s)
+unfolding faultIn listIn
+sheet-read s h = outcome (readSheet s) refl h
+  where
+    outcome : (r : Outcome (List Column)) → readSheet s ≡ r → faultIn r ≡ 0 → r ≡ ok (listIn r)
+    outcome (ok cs) q g = refl
+    outcome (refused n) q g = absurd (⊎-elim (λ e. omega arith) (λ e. omega arith) (sheet-refusals s n q))
+
+pub sheet-limits : (s : List ℕ) → sheetFault s ≡ 0 → Limits s (columnsOf s)
+sheet-limits s h = limits s (columnsOf s) (sheet-read s h)
+
+pub sheet-fault : (s : List ℕ) (cs : List Column) → readSheet s ≡ ok cs → (sheetFault s ≡ 0) × (columnsOf s ≡ cs)
+unfolding faultIn listIn
+sheet-fault s cs h = (ap faultIn h, ap listIn h)

@@ -7,3 +7,6 @@ pub mod Walk
 pub mod Limits
 pub mod Refusals
 pub mod Size
+pub mod Counts
+pub mod Sound
+pub mod ReadBack

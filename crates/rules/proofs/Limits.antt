@@ -6,11 +6,11 @@ use mathlib.Core.List.{List, [], _∷_, _++_}
 use mathlib.Core.Option.{some, none}
 use Prim.Native.Nat.{ℕ, zero, suc, _+_, _*_, _≤_, _<_}
 use native.Mathlib.Omega.{arith}
-use borrow.Author.Tests.{leb-true}
+use borrow.Author.Tests.{leb-true, le-leb}
 use lib.Dec.{leb, eqb}
 use lib.ListN.{length, getD, length-append}
 use Rattle.algebra.specs.Lists.{All, all[], all∷, countFrom}
-use Rattle.algebra.proofs.Members.{all-map, all-append, in-all, in-count, and-left, and-right}
+use Rattle.algebra.proofs.Members.{all-map, all-append, in-all, in-count, and-true, and-left, and-right}
 use Rattle.records.specs.Outcome.{Outcome, ok, refused}
 use Rattle.records.specs.Records.{readFrom, Says, nothing, more}
 use Rattle.records.proofs.Runs.{says-of-read}
@@ -52,7 +52,7 @@ numbersIn (yesNo ∷ cs) = numbersIn cs
 numbersIn (choice n ∷ cs) = numbersIn cs
 numbersIn (number n ∷ cs) = suc (numbersIn cs)
 
-pub record Counts (cs : List Column) : Type 0 where
+pub record Bounds (cs : List Column) : Type 0 where
   pub columns-few : length cs ≤ entriesIn cs
   pub gates-few : gatesIn cs ≤ entriesIn cs
   pub gates-many : entriesIn cs ≤ 2 * gatesIn cs
@@ -64,12 +64,12 @@ pub record Counts (cs : List Column) : Type 0 where
   pub wires-few : wiresIn cs + 3 * numbersIn cs ≤ 5 * entriesIn cs
   pub wires-few' : wiresIn cs ≤ 4 * entriesIn cs + 22 * numbersIn cs
 
-pub counts : (cs : List Column) → All InLimits cs → Counts cs
+pub bounds : (cs : List Column) → All InLimits cs → Bounds cs
 unfolding entriesOf publishedOf gatesOf testsOf wiresOf entriesIn publishedIn gatesIn testsIn wiresIn numbersIn
-counts [] all[] = search arith
-counts (yesNo ∷ cs) (all∷ h hs) = let r = counts cs hs in search arith
-counts (choice n ∷ cs) (all∷ h hs) = let r = counts cs hs in search arith
-counts (number n ∷ cs) (all∷ h hs) = let r = counts cs hs in search arith
+bounds [] all[] = search arith
+bounds (yesNo ∷ cs) (all∷ h hs) = let r = bounds cs hs in search arith
+bounds (choice n ∷ cs) (all∷ h hs) = let r = bounds cs hs in search arith
+bounds (number n ∷ cs) (all∷ h hs) = let r = bounds cs hs in search arith
 
 -- ---- published entries
 published-length : (cs : List Column) (e : ℕ) → length (publishedFrom e cs) ≡ publishedIn cs
@@ -99,9 +99,12 @@ published-low (c ∷ cs) e =
     (all-map (λ j h. omega arith) (published-low cs (e + entriesOf c)))
 
 -- ---- what reading takes
-within-both : (low high n : ℕ) → within low high n ≡ true → (low ≤ n) × (n ≤ high)
+pub within-both : (low high n : ℕ) → within low high n ≡ true → (low ≤ n) × (n ≤ high)
 within-both low high n h =
     (leb-true low n (and-left (leb low n) (leb n high) h), leb-true n high (and-right (leb low n) (leb n high) h))
+
+pub within-is : (low high n : ℕ) → low ≤ n → n ≤ high → within low high n ≡ true
+within-is low high n h h' = and-true (leb low n) (leb n high) (le-leb low n h) (le-leb n high h')
 
 counted-ok : (fits : Bool) (a c : Column) → counted fits a ≡ ok c → (fits ≡ true) × (a ≡ c)
 unfolding counted
@@ -171,6 +174,6 @@ limits s cs h =
     let is-read = sheet-ok (readFrom columnFormat s 0 []) cs h in
     let taken = columns-taken (says-of-read columnFormat s cs (is-read .0)) in
     let few = within-both 1 256 (entriesIn cs) (is-read .1) in
-    let r = counts cs (taken .0) in
+    let r = bounds cs (taken .0) in
     let below : All (λ e. e < entriesIn cs) (publishedFrom 0 cs) = all-map (λ j l. omega arith) (published-low cs 0) in
     search (arith, published-length cs 0)

@@ -2,30 +2,27 @@
 -- again, since its wire and entry numbers fit 2 bytes and its constants an element; the totals are within their limits.
 -- Assumes nothing.
 use mathlib.Core.Path.{_≡_, refl, sym, _∙_, ap, ap₂}
-use mathlib.Core.Bool.{true}
 use mathlib.Core.List.{List, [], _∷_, _++_, append-nil, append-assoc}
 use mathlib.Core.Option.{some}
 use Prim.Native.Nat.{ℕ, suc, _+_, _^_, _≤_, _<_}
 use native.Mathlib.Nat.{le-refl}
 use native.Mathlib.Omega.{arith}
 use borrow.Author.Tests.{le-leb, lt-ltb}
-use lib.Dec.{leb}
 use lib.ListN.{length, length-append}
 use lib.Seq.{take-all}
 use Rattle.algebra.specs.Lists.{sumOver}
-use Rattle.algebra.proofs.Members.{and-true}
 use Rattle.words.specs.Bytes.{bytesOf, valueOf, part}
 use Rattle.words.proofs.Numbers.{length-bytes, value-bytes}
 use Rattle.records.specs.Outcome.{ok, orElse}
 use Rattle.records.specs.Records.{readFrom, read}
 use Rattle.records.proofs.Runs.{read-record}
 use Rattle.rules.specs.Settings.{Setting, Facts}
-use Rattle.rules.specs.Columns.{Column, within, entriesIn, readSheet}
+use Rattle.rules.specs.Columns.{Column, entriesIn, readSheet}
 use Rattle.rules.specs.Circuit.{Step, constant, entry, add, scale, multiply, test, stepBytes, circuitBytes, circuitOf}
 use Rattle.rules.specs.Circuit.{wiresIn, gatesIn, testsIn}
 use Rattle.rules.specs.CircuitReader.{stepBody, stepOf, stepWires, stepFault, judgedStep, judgeStep}
 use Rattle.rules.specs.CircuitReader.{stepFormat, circuitLimits, limitedCircuit, readCircuit}
-use Rattle.rules.proofs.Limits.{limits}
+use Rattle.rules.proofs.Limits.{limits, within-is}
 use Rattle.rules.proofs.Size.{circuit-fits}
 use Rattle.rules.proofs.Counts.{circuit-counts}
 use Rattle.rules.proofs.Sound.{Sound, Steps, steps[], steps∷, circuit-sound}
@@ -54,21 +51,21 @@ module _ (σ : Setting) (l : ℕ) where
   unfolding judgedStep
   judged-is done k k' e h = rw (e, no-fault (sumOver stepWires done) k h)
 
-  module _ (fits : σ .modulus ≤ 256 ^ σ .width) (few : l ≤ 65536) where
-    two : (v : ℕ) → v < 65536 → valueOf (bytesOf 2 v) ≡ v
-    two v h = value-bytes 2 v h
+  module _ (fits : σ .modulus ≤ 256 ^ σ .width) (few-entries : l ≤ 65536) where
+    value-two : (v : ℕ) → v < 65536 → valueOf (bytesOf 2 v) ≡ v
+    value-two v h = value-bytes 2 v h
 
-    one : (c : ℕ) → c < σ .modulus → valueOf (bytesOf (σ .width) c) ≡ c
-    one c h = value-bytes (σ .width) c (omega arith)
+    value-element : (c : ℕ) → c < σ .modulus → valueOf (bytesOf (σ .width) c) ≡ c
+    value-element c h = value-bytes (σ .width) c (omega arith)
 
     -- a wire number and what follows it
-    first : (a : ℕ) (t : List ℕ) → a < 65536 → valueOf (part 0 2 (bytesOf 2 a ++ t)) ≡ a
+    first-wire : (a : ℕ) (t : List ℕ) → a < 65536 → valueOf (part 0 2 (bytesOf 2 a ++ t)) ≡ a
     unfolding bytesOf
-    first a t h = two a h
+    first-wire a t h = value-two a h
 
-    second : (a n v : ℕ) → valueOf (part 2 n (bytesOf 2 a ++ bytesOf n v)) ≡ valueOf (bytesOf n v)
+    second-number : (a n v : ℕ) → valueOf (part 2 n (bytesOf 2 a ++ bytesOf n v)) ≡ valueOf (bytesOf n v)
     unfolding bytesOf
-    second a n v = ap valueOf (take-all n (bytesOf n v) (rw length-bytes (le-refl n)))
+    second-number a n v = ap valueOf (take-all n (bytesOf n v) (rw length-bytes (le-refl n)))
 
     pair-length : (a n v : ℕ) → length (bytesOf 2 a ++ bytesOf n v) ≡ 2 + n
     pair-length a n v = simp (length-append, length-bytes)
@@ -81,29 +78,30 @@ module _ (σ : Setting) (l : ℕ) where
     step-back (constant c) rest done most h =
         read-record (stepFormat σ l) 1 (bytesOf (σ .width) c) (constant c) rest done
         (ap some (sym (length-bytes (σ .width) c)))
-        (judged-is done (constant c) _ (ap constant (one c h)) h)
+        (judged-is done (constant c) _ (ap constant (value-element c h)) h)
     step-back (entry e) rest done most h =
         read-record (stepFormat σ l) 2 (bytesOf 2 e) (entry e) rest done
         (ap some (sym (length-bytes 2 e)))
-        (judged-is done (entry e) _ (ap entry (two e (omega arith))) h)
+        (judged-is done (entry e) _ (ap entry (value-two e (omega arith))) h)
     step-back (add a b) rest done most h =
         read-record (stepFormat σ l) 3 (bytesOf 2 a ++ bytesOf 2 b) (add a b) rest done
         (ap some (sym (pair-length a 2 b)))
-        (judged-is done (add a b) _ (ap₂ add (first a (bytesOf 2 b) (omega arith)) (second a 2 b ∙ two b (omega arith))) h)
+        (judged-is done (add a b) _
+        (ap₂ add (first-wire a (bytesOf 2 b) (omega arith)) (second-number a 2 b ∙ value-two b (omega arith))) h)
     step-back (scale a c) rest done most h =
         read-record (stepFormat σ l) 4 (bytesOf 2 a ++ bytesOf (σ .width) c) (scale a c) rest done
         (ap some (sym (pair-length a (σ .width) c)))
         (judged-is done (scale a c) _
-        (ap₂ scale (first a (bytesOf (σ .width) c) (omega arith)) (second a (σ .width) c ∙ one c (h .0))) h)
+        (ap₂ scale (first-wire a (bytesOf (σ .width) c) (omega arith)) (second-number a (σ .width) c ∙ value-element c (h .0))) h)
     step-back (multiply a b) rest done most h =
         read-record (stepFormat σ l) 5 (bytesOf 2 a ++ bytesOf 2 b) (multiply a b) rest done
         (ap some (sym (pair-length a 2 b)))
         (judged-is done (multiply a b) _
-        (ap₂ multiply (first a (bytesOf 2 b) (omega arith)) (second a 2 b ∙ two b (omega arith))) h)
+        (ap₂ multiply (first-wire a (bytesOf 2 b) (omega arith)) (second-number a 2 b ∙ value-two b (omega arith))) h)
     step-back (test a) rest done most h =
         read-record (stepFormat σ l) 6 (bytesOf 2 a) (test a) rest done
         (ap some (sym (length-bytes 2 a)))
-        (judged-is done (test a) _ (ap test (two a (omega arith))) h)
+        (judged-is done (test a) _ (ap test (value-two a (omega arith))) h)
 
     -- a run of sound steps, written and read
     steps-back : {w w' : ℕ} {ks : List Step} → Steps σ l w ks w' → w' ≤ 65536
@@ -116,9 +114,6 @@ module _ (σ : Setting) (l : ℕ) where
         step-back k (circuitBytes σ ks) done (omega (arith, steps-grow r)) h'
         ∙ steps-back r most (done ++ (k ∷ [])) (wires-next done k ∙ ap (_+ stepWires k) e)
         ∙ ap ok (append-assoc done (k ∷ []) ks)
-
-within-is : (low high n : ℕ) → low ≤ n → n ≤ high → within low high n ≡ true
-within-is low high n h h' = and-true (leb low n) (leb n high) (le-leb low n h) (le-leb n high h')
 
 module _ (σ : Setting) (facts : Facts σ) (s : List ℕ) (cs : List Column) (is-read : readSheet s ≡ ok cs) where
   steps-are-read : read (stepFormat σ (entriesIn cs)) (circuitBytes σ (circuitOf σ cs)) ≡ ok (circuitOf σ cs)

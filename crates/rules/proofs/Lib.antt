@@ -1,6 +1,22 @@
+-- Theorems about the definitions of specs/. Examples: the examples come out. Legal, ReadBack, Walk: demand 2.
 pub mod Computing
 pub mod Examples
+pub mod Facts
 pub mod Natural
+pub mod Growth
+pub mod Stretches
+pub mod Walk
+pub mod Limits
+pub mod Refusals
+pub mod Size
+pub mod Counts
+pub mod Sound
+pub mod ReadBack
+pub mod Digits
+pub mod ColumnTests
+pub mod Encoding
+pub mod Published
+pub mod Legal
 pub mod TableParts
 pub mod TableKnown
 pub mod TableSound
@@ -10,13 +26,3 @@ pub mod WaitBytes
 pub mod TableTaken
 pub mod LedgerGrows
 pub mod TableDecided
-pub mod Facts
-pub mod Growth
-pub mod Stretches
-pub mod Walk
-pub mod InLimits
-pub mod Digits
-pub mod ColumnTests
-pub mod Encoding
-pub mod Published
-pub mod Legal

@@ -51,7 +51,7 @@ module _ (σ : Setting) (o : Opened) where
   -- "Then the published entries are added to the totals."
   pub totals-grow : (ns : List Note) (n : Note)
       → tabulate (λ k. (getD (ledgerTotals σ o ns) k 0 + getD (publishedShares σ o (n .elements)) k 0) % σ .modulus)
-        (length (publishedFrom 0 (o .columns)))
+      (length (publishedFrom 0 (o .columns)))
       ≡ ledgerTotals σ o (ns ++ (n ∷ []))
   unfolding ledgerTotals publishedShares
   totals-grow ns n =

@@ -26,3 +26,4 @@ pub mod WaitBytes
 pub mod TableTaken
 pub mod LedgerGrows
 pub mod TableDecided
+pub mod TableRun

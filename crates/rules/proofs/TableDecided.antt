@@ -78,17 +78,17 @@ module _ (σ : Setting) (cs : List Column) (g : Parts) (z : Sized σ cs g) where
         let id = waitingAt σ cs (g .wait) .id in
         let place = idsPlace σ (length (g .sheet)) cs (g .returns) in
         (λ i.
-            splice
-            (splice
-            (splice u 6 (bytesOf 2 (decided-are σ cs g z i + 1) ++ bytesOf 2 (accepted-are σ cs g z i + a)))
-            (placed σ cs g z (idsPlace σ) i + 4 * decided-are σ cs g z i)
-            (bytesOf 4 (waiting-is σ cs g z i .id)))
-            1 (0 ∷ []))
+        splice
+        (splice
+        (splice u 6 (bytesOf 2 (decided-are σ cs g z i + 1) ++ bytesOf 2 (accepted-are σ cs g z i + a)))
+        (placed σ cs g z (idsPlace σ) i + 4 * decided-are σ cs g z i)
+        (bytesOf 4 (waiting-is σ cs g z i .id)))
+        1 (0 ∷ []))
         ∙ ap (λ (v : List ℕ). splice v 1 (0 ∷ []))
-          (ap (λ (v : List ℕ). splice v (place + 4 * g .decided) (bytesOf 4 id))
-            (put-counts σ (setRuns t (g .ids) (g .wait) g) (g .decided + 1) (g .accepted + a))
-          ∙ put-ids σ cs (setCounts (g .decided + 1) (g .accepted + a) (setRuns t (g .ids) (g .wait) g)) counted (4 * g .decided)
-            (bytesOf 4 id) (id-inside id))
+        (ap (λ (v : List ℕ). splice v (place + 4 * g .decided) (bytesOf 4 id))
+        (put-counts σ (setRuns t (g .ids) (g .wait) g) (g .decided + 1) (g .accepted + a))
+        ∙ put-ids σ cs (setCounts (g .decided + 1) (g .accepted + a) (setRuns t (g .ids) (g .wait) g)) counted (4 * g .decided)
+        (bytesOf 4 id) (id-inside id))
         ∙ put-stage σ _ 0
 
 module _ (σ : Setting) (facts : Facts σ) (o : Opened) (sheet : List ℕ) (many : length (publishedFrom 0 (o .columns)) ≡ publishedIn (o .columns)) where
@@ -156,7 +156,7 @@ module _ (σ : Setting) (facts : Facts σ) (o : Opened) (sheet : List ℕ) (many
         → Beside σ o sheet (decidedTable σ T 0 T) (record { progress = isIdle; decided = ds ++ (decidedAs n d ∷ []) })
     kept d no-more =
         let same : grown d ≡ notesWith isAccepted ds =
-            notes-grow isAccepted ds n d ∙ ap (λ (t : Bool). notesWith isAccepted ds ++ cond t (n ∷ []) []) no-more ∙ append-nil _ in
+        notes-grow isAccepted ds n d ∙ ap (λ (t : Bool). notesWith isAccepted ds ++ cond t (n ∷ []) []) no-more ∙ append-nil _ in
         decide-as d 0 (g .totals) T (omega arith) (add-zero (g .accepted) ∙ b .accepted-is ∙ ap length (sym same)) refl
         (b .totals-are ∙ ap (ledgerTotals σ o) (sym same)) (b .totals-below) (b .is)
 
@@ -166,14 +166,14 @@ module _ (σ : Setting) (facts : Facts σ) (o : Opened) (sheet : List ℕ) (many
     added-are =
         ap (addedTotals σ) (b .is)
         ∙ (λ i.
-            tabulate
-            (λ k.
-                (getD ((totals-are σ (o .columns) g (b .sized) ∙ b .totals-are) i) k 0
-                + getD
-                  (publishedShares σ (opened-o σ facts o sheet g (b .sized) (b .servers-are) (b .own-is) (b .returns-are) i)
-                  ((ap (λ (v : Waiting). v .elements) (waiting-is σ (o .columns) g (b .sized)) ∙ w .elements-are) i)) k 0)
-                % σ .modulus)
-            ((ap publishedIn (columns-in σ (o .columns) g (b .sized)) ∙ sym many) i))
+        tabulate
+        (λ k.
+        (getD ((totals-are σ (o .columns) g (b .sized) ∙ b .totals-are) i) k 0
+        + getD
+        (publishedShares σ (opened-o σ facts o sheet g (b .sized) (b .servers-are) (b .own-is) (b .returns-are) i)
+        ((ap (λ (v : Waiting). v .elements) (waiting-is σ (o .columns) g (b .sized)) ∙ w .elements-are) i)) k 0)
+        % σ .modulus)
+        ((ap publishedIn (columns-in σ (o .columns) g (b .sized)) ∙ sym many) i))
         ∙ totals-grow σ o (notesWith isAccepted ds) n
 
     totals-low : (ns : List Note) → All (λ x. x < σ .modulus) (ledgerTotals σ o ns)
@@ -196,14 +196,14 @@ module _ (σ : Setting) (facts : Facts σ) (o : Opened) (sheet : List ℕ) (many
         let new = ledgerTotals σ o (notesWith isAccepted ds ++ (n ∷ [])) in
         let t = bytesOfAll W new in
         let back : elementsOf W t ≡ new =
-            elements-bytes W width-positive new (all-map (λ x h. fits-bytes σ facts o sheet x h) (totals-low (notesWith isAccepted ds ++ (n ∷ [])))) in
+        elements-bytes W width-positive new (all-map (λ x h. fits-bytes σ facts o sheet x h) (totals-low (notesWith isAccepted ds ++ (n ∷ [])))) in
         let long : length t ≡ length (g .totals) =
-            length-bytes-all W new ∙ ap (W *_) (totals-many (notesWith isAccepted ds ++ (n ∷ []))) ∙ sym (b .sized .totals-long) in
+        length-bytes-all W new ∙ ap (W *_) (totals-many (notesWith isAccepted ds ++ (n ∷ []))) ∙ sym (b .sized .totals-long) in
         let put : splice T (totalsPlace σ (sheetSize σ T) (columnsIn σ T) (returnsIn σ T)) (bytesOfAll W (addedTotals σ T))
-            ≡ assemble σ (setRuns t (g .ids) (g .wait) g) =
-            ap₂ (λ (u v : List ℕ). splice u (totalsPlace σ (sheetSize σ u) (columnsIn σ u) (returnsIn σ u)) (bytesOfAll W v)) (b .is) added-are
-            ∙ ap (λ (k : ℕ). splice (assemble σ g) k t) (placed σ (o .columns) g (b .sized) (totalsPlace σ))
-            ∙ put-totals σ (o .columns) g (b .sized) t long in
+        ≡ assemble σ (setRuns t (g .ids) (g .wait) g) =
+        ap₂ (λ (u v : List ℕ). splice u (totalsPlace σ (sheetSize σ u) (columnsIn σ u) (returnsIn σ u)) (bytesOfAll W v)) (b .is) added-are
+        ∙ ap (λ (k : ℕ). splice (assemble σ g) k t) (placed σ (o .columns) g (b .sized) (totalsPlace σ))
+        ∙ put-totals σ (o .columns) g (b .sized) t long in
         decide-as accepted 1 t _ (omega arith)
         (ap (_+ 1) (b .accepted-is) ∙ sym (ap length more ∙ length-append (notesWith isAccepted ds) (n ∷ []))) long
         (back ∙ ap (ledgerTotals σ o) (sym more))

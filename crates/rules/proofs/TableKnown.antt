@@ -62,16 +62,16 @@ module _ (σ : Setting) (cs : List Column) (g : Parts) (z : Sized σ cs g) where
   totals-are =
       placed σ cs g z (λ n c N. elementsOf (σ .width) (part (totalsPlace σ n c N) (σ .width * publishedIn c) T))
       ∙ ap (elementsOf (σ .width))
-        (ap (λ (k : ℕ). part k (σ .width * publishedIn cs) T) (sym (add-zero (totalsPlace σ (length (g .sheet)) cs (g .returns))))
-        ∙ part-totals σ cs g z 0 (σ .width * publishedIn cs) (omega (arith, z .totals-long))
-        ∙ take-all (σ .width * publishedIn cs) (g .totals) (omega (arith, z .totals-long)))
+      (ap (λ (k : ℕ). part k (σ .width * publishedIn cs) T) (sym (add-zero (totalsPlace σ (length (g .sheet)) cs (g .returns))))
+      ∙ part-totals σ cs g z 0 (σ .width * publishedIn cs) (omega (arith, z .totals-long))
+      ∙ take-all (σ .width * publishedIn cs) (g .totals) (omega (arith, z .totals-long)))
 
   pub ids-are : idsIn σ T ≡ elementsOf 4 (take (4 * g .decided) (g .ids))
   ids-are =
       placed σ cs g z (λ n c N. elementsOf 4 (part (idsPlace σ n c N) (4 * decidedIn σ T) T))
       ∙ ap (elementsOf 4)
-        (ap₂ (λ (k m : ℕ). part k (4 * m) T) (sym (add-zero (idsPlace σ (length (g .sheet)) cs (g .returns)))) (decided-are σ cs g z)
-        ∙ part-ids σ cs g z 0 (4 * g .decided) (omega (arith, z .ids-long, z .decided-few)))
+      (ap₂ (λ (k m : ℕ). part k (4 * m) T) (sym (add-zero (idsPlace σ (length (g .sheet)) cs (g .returns)))) (decided-are σ cs g z)
+      ∙ part-ids σ cs g z 0 (4 * g .decided) (omega (arith, z .ids-long, z .decided-few)))
 
   pub word-is : (k : ℕ) → k < 6 → wordIn σ T k ≡ wordAt σ (g .wait) k
   word-is k h =
@@ -81,7 +81,7 @@ module _ (σ : Setting) (cs : List Column) (g : Parts) (z : Sized σ cs g) where
       let one : w * k + w ≤ 6 * w = six k h in
       placed σ cs g z (λ n c N. valueOf (part (waitPlace σ n c N + 4 + w * k) w T))
       ∙ ap valueOf
-        (ap (λ (i : ℕ). part i w T) shift ∙ part-wait σ cs g z (4 + w * k) w (omega (arith, z .wait-long, one)))
+      (ap (λ (i : ℕ). part i w T) shift ∙ part-wait σ cs g z (4 + w * k) w (omega (arith, z .wait-long, one)))
     where
       six : (k : ℕ) → k < 6 → σ .width * k + σ .width ≤ 6 * σ .width
       six zero h = omega arith
@@ -100,15 +100,15 @@ module _ (σ : Setting) (cs : List Column) (g : Parts) (z : Sized σ cs g) where
       let shift : place + 4 + 6 * w ≡ place + (4 + 6 * w) = omega arith in
       placed σ cs g z (λ n c N. elementsOf w (part (sharePlace σ n c N) (w * shareSize c) T))
       ∙ ap (elementsOf w)
-        (ap (λ (i : ℕ). part i (w * shareSize cs) T) shift
-        ∙ part-wait σ cs g z (4 + 6 * w) (w * shareSize cs) (omega (arith, z .wait-long)))
+      (ap (λ (i : ℕ). part i (w * shareSize cs) T) shift
+      ∙ part-wait σ cs g z (4 + 6 * w) (w * shareSize cs) (omega (arith, z .wait-long)))
 
   id-is : waitingIn σ T .id ≡ valueOf (part 0 4 (g .wait))
   id-is =
       placed σ cs g z (λ n c N. valueOf (part (waitPlace σ n c N) 4 T))
       ∙ ap valueOf
-        (ap (λ (k : ℕ). part k 4 T) (sym (add-zero (waitPlace σ (length (g .sheet)) cs (g .returns))))
-        ∙ part-wait σ cs g z 0 4 (omega (arith, z .wait-long)))
+      (ap (λ (k : ℕ). part k 4 T) (sym (add-zero (waitPlace σ (length (g .sheet)) cs (g .returns))))
+      ∙ part-wait σ cs g z 0 4 (omega (arith, z .wait-long)))
 
   pub waiting-is : waitingIn σ T ≡ waitingAt σ cs (g .wait)
   unfolding waitingAt

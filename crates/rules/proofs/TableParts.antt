@@ -138,7 +138,7 @@ module _ (σ : Setting) (cs : List Column) (g : Parts) (z : Sized σ cs g) where
   unfolding idsPlace
   part-ids i n h =
       let e : 12 + length (g .sheet) + σ .width * publishedIn cs + i ≡ 12 + (length (g .sheet ++ g .totals) + i)
-          = omega (arith, ids-at) in
+      = omega (arith, ids-at) in
       ap (λ (k : ℕ). part k n T) e
       ∙ part-body (length (g .sheet ++ g .totals) + i) n
       ∙ ap (part (length (g .sheet ++ g .totals) + i) n) ids-body
@@ -149,7 +149,7 @@ module _ (σ : Setting) (cs : List Column) (g : Parts) (z : Sized σ cs g) where
   unfolding waitPlace
   part-wait i n h =
       let e : 12 + length (g .sheet) + σ .width * publishedIn cs + 4 * g .returns + i
-          ≡ 12 + (length (g .sheet ++ (g .totals ++ g .ids)) + i) = omega (arith, wait-at) in
+      ≡ 12 + (length (g .sheet ++ (g .totals ++ g .ids)) + i) = omega (arith, wait-at) in
       ap (λ (k : ℕ). part k n T) e
       ∙ part-body (length (g .sheet ++ (g .totals ++ g .ids)) + i) n
       ∙ ap (part (length (g .sheet ++ (g .totals ++ g .ids)) + i) n) wait-body

@@ -49,8 +49,8 @@ module _ (σ : Setting) (cs : List Column) (g : Parts) (z : Sized σ cs g) (m : 
   unfolding assemble bytesOf
   length-is =
       let parts : length (body g)
-          ≡ length (g .sheet) + (length (g .totals) + (length (g .ids) + (length (g .wait) + length (g .rest))))
-          = simp length-append in
+      ≡ length (g .sheet) + (length (g .totals) + (length (g .ids) + (length (g .wait) + length (g .rest))))
+      = simp length-append in
       omega arith
 
   header-sound : headerSound σ T ≡ true
@@ -59,7 +59,7 @@ module _ (σ : Setting) (cs : List Column) (g : Parts) (z : Sized σ cs g) (m : 
       let long : 12 ≤ length T = omega (arith, length-is) in
       let sheet : 12 + sheetSize σ T ≤ length T = omega (arith, length-is, size-is σ cs g z) in
       let no-fault : sheetFault (sheetIn σ T) ≡ 0 =
-          ap sheetFault (sheet-is σ cs g z) ∙ ap faultIn (z .reads) ∙ (unfold faultIn in refl) in
+      ap sheetFault (sheet-is σ cs g z) ∙ ap faultIn (z .reads) ∙ (unfold faultIn in refl) in
       and-true _ _ (le-leb 12 (length T) long)
       (and-true _ _ (eq-eqb (σ .tableByte) (σ .tableByte) refl)
       (and-true _ _ (le-leb (g .stage) 3 (m .stage-fits))
@@ -72,7 +72,7 @@ module _ (σ : Setting) (cs : List Column) (g : Parts) (z : Sized σ cs g) (m : 
   unfolding countsSound assemble tableLength
   counts-sound =
       let room : tableLength σ (sheetSize σ T) (columnsIn σ T) (returnsIn σ T)
-          ≡ tableLength σ (length (g .sheet)) cs (g .returns) = placed σ cs g z (tableLength σ) in
+      ≡ tableLength σ (length (g .sheet)) cs (g .returns) = placed σ cs g z (tableLength σ) in
       and-true _ _ (placed σ cs g z (λ n c N. totalsFit σ N c) ∙ m .totals-fit)
       (and-true _ _
       (le-leb (tableLength σ (sheetSize σ T) (columnsIn σ T) (returnsIn σ T)) (length T)
@@ -87,8 +87,8 @@ module _ (σ : Setting) (cs : List Column) (g : Parts) (z : Sized σ cs g) (m : 
   waiting-sound h =
       let s : WaitSound σ cs (g .wait) = m .wait-sound h in
       let pair : allowedPair σ (columnsIn σ T) (wordIn σ T 0) (wordIn σ T 1)
-          ≡ allowedPair σ cs (wordAt σ (g .wait) 0) (wordAt σ (g .wait) 1) =
-          (λ i. allowedPair σ (columns-in σ cs g z i) (word-is σ cs g z 0 (omega arith) i) (word-is σ cs g z 1 (omega arith) i)) in
+      ≡ allowedPair σ cs (wordAt σ (g .wait) 0) (wordAt σ (g .wait) 1) =
+      (λ i. allowedPair σ (columns-in σ cs g z i) (word-is σ cs g z 0 (omega arith) i) (word-is σ cs g z 1 (omega arith) i)) in
       and-true _ _ (pair ∙ s .pair)
       (and-true _ _
       (ap (allBelow (σ .modulus)) (tabulate-cong (wordIn σ T) (wordAt σ (g .wait)) 6 (λ k l. word-is σ cs g z k l)) ∙ s .words-below)

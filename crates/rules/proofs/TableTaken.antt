@@ -55,21 +55,21 @@ module _ (σ : Setting) (facts : Facts σ) (o : Opened) (sheet : List ℕ) where
         let ys = waitBytes σ (noted σ o (noteOf σ o m r s)) (drop 6 m) in
         let place = waitPlace σ (length (g .sheet)) (o .columns) (g .returns) in
         let all : length ys ≡ length (g .wait) =
-            wait-long σ (o .columns) (noted σ o (noteOf σ o m r s)) (drop 6 m) long ∙ sym (z .wait-long) in
+        wait-long σ (o .columns) (noted σ o (noteOf σ o m r s)) (drop 6 m) long ∙ sym (z .wait-long) in
         ap₂ (λ (k : ℕ) (p : Opened). splice (splice T k (waitBytes σ (waitingOf σ p (idIn m) (shareElements σ m) r s) (drop 6 m))) 1 (1 ∷ []))
-          (placed σ (o .columns) g z (waitPlace σ)) opened-o
+        (placed σ (o .columns) g z (waitPlace σ)) opened-o
         ∙ ap (λ (t : List ℕ). splice t 1 (1 ∷ []))
-          (ap (λ (k : ℕ). splice T k ys) (sym (add-zero place))
-          ∙ put-wait σ (o .columns) g z 0 ys (omega arith)
-          ∙ ap (λ (t : List ℕ). assemble σ (setRuns (g .totals) (g .ids) t g)) (splice-all (g .wait) ys all))
+        (ap (λ (k : ℕ). splice T k ys) (sym (add-zero place))
+        ∙ put-wait σ (o .columns) g z 0 ys (omega arith)
+        ∙ ap (λ (t : List ℕ). assemble σ (setRuns (g .totals) (g .ids) t g)) (splice-all (g .wait) ys all))
         ∙ put-stage σ (setRuns (g .totals) (g .ids) ys g) 1
 
     -- the table after round one
     one-parts : (w : Waiting) → waitingAt σ (o .columns) (g .wait) ≡ w → (joined : List ℕ)
         → oneTable σ (assemble σ g) joined
         ≡ assemble σ
-          (setStage 2 (setRuns (g .totals) (g .ids)
-            (summedBytes σ (o .columns) (g .wait) (firstSum σ (o .servers) joined) (secondSum σ (o .servers) joined) (z .wait-long)) g))
+        (setStage 2 (setRuns (g .totals) (g .ids)
+        (summedBytes σ (o .columns) (g .wait) (firstSum σ (o .servers) joined) (secondSum σ (o .servers) joined) (z .wait-long)) g))
     unfolding oneTable summed
     one-parts w e joined =
         let T = assemble σ g in
@@ -80,10 +80,10 @@ module _ (σ : Setting) (facts : Facts σ) (o : Opened) (sheet : List ℕ) where
         let shift : place + 4 + W * 2 ≡ place + (4 + W * 2) = omega arith in
         let two : length ys ≡ W * 2 = length-bytes-all W (d ∷ x ∷ []) in
         ap₂ (λ (k : ℕ) (p : Opened).
-            splice (splice T (k + 4 + W * 2) (bytesOfAll W (firstSum σ (p .servers) joined ∷ secondSum σ (p .servers) joined ∷ []))) 1 (2 ∷ []))
-          (placed σ (o .columns) g z (waitPlace σ)) opened-o
+        splice (splice T (k + 4 + W * 2) (bytesOfAll W (firstSum σ (p .servers) joined ∷ secondSum σ (p .servers) joined ∷ []))) 1 (2 ∷ []))
+        (placed σ (o .columns) g z (waitPlace σ)) opened-o
         ∙ ap (λ (t : List ℕ). splice t 1 (2 ∷ []))
-          (ap (λ (k : ℕ). splice T k ys) shift ∙ put-wait σ (o .columns) g z (4 + W * 2) ys (omega (arith, z .wait-long)))
+        (ap (λ (k : ℕ). splice T k ys) shift ∙ put-wait σ (o .columns) g z (4 + W * 2) ys (omega (arith, z .wait-long)))
         ∙ put-stage σ (setRuns (g .totals) (g .ids) (splice (g .wait) (4 + W * 2) ys) g) 2
 
   -- SHARE
@@ -100,9 +100,9 @@ module _ (σ : Setting) (facts : Facts σ) (o : Opened) (sheet : List ℕ) where
         let short : w .id < 256 ^ 4 = id-fits m (omega arith) bytes in
         let rs = pair-below σ facts (o .columns) r s pair in
         let six : All (λ x. x < 256 ^ W) (sixOf w) =
-            all∷ (fits-bytes r (rs .0)) (all∷ (fits-bytes s (rs .1)) (all∷ (fits-bytes (w .d) (d-below σ facts o n))
-            (all∷ (fits-bytes (w .e) (e-below σ facts o n)) (all∷ (fits-bytes (w .rh) (rh-below σ facts o n))
-            (all∷ (fits-bytes (w .tau) (tau-below σ facts o n)) all[]))))) in
+        all∷ (fits-bytes r (rs .0)) (all∷ (fits-bytes s (rs .1)) (all∷ (fits-bytes (w .d) (d-below σ facts o n))
+        (all∷ (fits-bytes (w .e) (e-below σ facts o n)) (all∷ (fits-bytes (w .rh) (rh-below σ facts o n))
+        (all∷ (fits-bytes (w .tau) (tau-below σ facts o n)) all[]))))) in
         record {
           parts = setStage 1 (setRuns (g .totals) (g .ids) (waitBytes σ w (drop 6 m)) g);
           is =
@@ -129,7 +129,7 @@ module _ (σ : Setting) (facts : Facts σ) (o : Opened) (sheet : List ℕ) where
           staged = (
             refl,
             wait-back σ (o .columns) w (drop 6 m) short six rest refl,
-            record { id-fits = short; pair = pair; elements-below = below }
+            record { id-fits = short; pair = pair; elements-below = below },
           );
           room = omega arith;
         }
@@ -138,7 +138,7 @@ module _ (σ : Setting) (facts : Facts σ) (o : Opened) (sheet : List ℕ) where
   module _ (T : List ℕ) (n : Note) (ds : List Decided) (b : Beside σ o sheet T (record { progress = waitsOne n; decided = ds })) where
     pub one-taken : (joined : List ℕ)
         → Beside σ o sheet (oneTable σ T joined)
-          (record { progress = waitsTwo n (firstSum σ (o .servers) joined) (secondSum σ (o .servers) joined); decided = ds })
+        (record { progress = waitsTwo n (firstSum σ (o .servers) joined) (secondSum σ (o .servers) joined); decided = ds })
     unfolding firstSum secondSum
     one-taken joined =
         let g = b .parts in
@@ -174,10 +174,10 @@ module _ (σ : Setting) (facts : Facts σ) (o : Opened) (sheet : List ℕ) where
           staged = (
             refl,
             summed-back σ (o .columns) (g .wait) d e (b .sized .wait-long) (fits-bytes d low-d) (fits-bytes e low-e)
-            ∙ ap (λ (w : Waiting). withSums σ o w d e) same,
+                ∙ ap (λ (w : Waiting). withSums σ o w d e) same,
             b .staged .2,
             low-d,
-            low-e
+            low-e,
           );
           room = b .room;
         }

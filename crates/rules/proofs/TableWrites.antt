@@ -21,11 +21,11 @@ pub splice-within : (a x b ys : List ℕ) (i : ℕ) → i + length ys ≤ length
 unfolding splice
 splice-within a x b ys i h =
     let front : take (length a + i) (a ++ (x ++ b)) ≡ a ++ take i x =
-        take-append-add a (x ++ b) i ∙ ap (a ++_) (take-append-le i x b (omega arith)) in
+    take-append-add a (x ++ b) i ∙ ap (a ++_) (take-append-le i x b (omega arith)) in
     let place : length a + i + length ys ≡ length a + (i + length ys) = omega arith in
     let back : drop (length a + i + length ys) (a ++ (x ++ b)) ≡ drop (i + length ys) x ++ b =
-        ap (λ (k : ℕ). drop k (a ++ (x ++ b))) place ∙ drop-append-add a (x ++ b) (i + length ys)
-        ∙ drop-append-le (i + length ys) x b h in
+    ap (λ (k : ℕ). drop k (a ++ (x ++ b))) place ∙ drop-append-add a (x ++ b) (i + length ys)
+    ∙ drop-append-le (i + length ys) x b h in
     ap₂ (λ (u v : List ℕ). u ++ ys ++ v) front back ∙ simp append-assoc
 
 -- parts with one of them changed
@@ -91,7 +91,7 @@ module _ (σ : Setting) (g : Parts) where
       let front : take (12 + k) (assemble σ g) ≡ header σ g ++ take k (body g) = take-append-add (header σ g) (body g) k in
       let place : 12 + k + length ys ≡ 12 + (k + length ys) = omega arith in
       let back : drop (12 + k + length ys) (assemble σ g) ≡ drop (k + length ys) (body g) =
-          ap (λ (i : ℕ). drop i (assemble σ g)) place ∙ drop-append-add (header σ g) (body g) (k + length ys) in
+      ap (λ (i : ℕ). drop i (assemble σ g)) place ∙ drop-append-add (header σ g) (body g) (k + length ys) in
       ap₂ (λ (u v : List ℕ). u ++ ys ++ v) front back ∙ simp append-assoc
 
 module _ (σ : Setting) (cs : List Column) (g : Parts) (z : Sized σ cs g) where
@@ -102,9 +102,9 @@ module _ (σ : Setting) (cs : List Column) (g : Parts) (z : Sized σ cs g) where
   put-totals ys h =
       put-body σ g (length (g .sheet)) ys
       ∙ ap (header σ g ++_)
-        (ap (λ (k : ℕ). splice (body g) k ys) (sym (add-zero (length (g .sheet))))
-        ∙ splice-within (g .sheet) (g .totals) (g .ids ++ (g .wait ++ g .rest)) ys 0 (omega arith)
-        ∙ ap (λ (t : List ℕ). g .sheet ++ (t ++ (g .ids ++ (g .wait ++ g .rest)))) (splice-all (g .totals) ys h))
+      (ap (λ (k : ℕ). splice (body g) k ys) (sym (add-zero (length (g .sheet))))
+      ∙ splice-within (g .sheet) (g .totals) (g .ids ++ (g .wait ++ g .rest)) ys 0 (omega arith)
+      ∙ ap (λ (t : List ℕ). g .sheet ++ (t ++ (g .ids ++ (g .wait ++ g .rest)))) (splice-all (g .totals) ys h))
 
   pub put-ids : (i : ℕ) (ys : List ℕ) → i + length ys ≤ length (g .ids)
       → splice (assemble σ g) (idsPlace σ (length (g .sheet)) cs (g .returns) + i) ys
@@ -113,13 +113,13 @@ module _ (σ : Setting) (cs : List Column) (g : Parts) (z : Sized σ cs g) where
   put-ids i ys h =
       let before = g .sheet ++ g .totals in
       let place : 12 + length (g .sheet) + σ .width * publishedIn cs + i ≡ 12 + (length before + i)
-          = omega (arith, ids-at σ cs g z) in
+      = omega (arith, ids-at σ cs g z) in
       ap (λ (k : ℕ). splice (assemble σ g) k ys) place
       ∙ put-body σ g (length before + i) ys
       ∙ ap (header σ g ++_)
-        (ap (λ (t : List ℕ). splice t (length before + i) ys) (ids-body σ cs g z)
-        ∙ splice-within before (g .ids) (g .wait ++ g .rest) ys i h
-        ∙ append-assoc (g .sheet) (g .totals) (splice (g .ids) i ys ++ (g .wait ++ g .rest)))
+      (ap (λ (t : List ℕ). splice t (length before + i) ys) (ids-body σ cs g z)
+      ∙ splice-within before (g .ids) (g .wait ++ g .rest) ys i h
+      ∙ append-assoc (g .sheet) (g .totals) (splice (g .ids) i ys ++ (g .wait ++ g .rest)))
 
   pub put-wait : (i : ℕ) (ys : List ℕ) → i + length ys ≤ length (g .wait)
       → splice (assemble σ g) (waitPlace σ (length (g .sheet)) cs (g .returns) + i) ys
@@ -129,11 +129,11 @@ module _ (σ : Setting) (cs : List Column) (g : Parts) (z : Sized σ cs g) where
       let before = g .sheet ++ (g .totals ++ g .ids) in
       let after = splice (g .wait) i ys ++ g .rest in
       let place : 12 + length (g .sheet) + σ .width * publishedIn cs + 4 * g .returns + i ≡ 12 + (length before + i)
-          = omega (arith, wait-at σ cs g z) in
+      = omega (arith, wait-at σ cs g z) in
       ap (λ (k : ℕ). splice (assemble σ g) k ys) place
       ∙ put-body σ g (length before + i) ys
       ∙ ap (header σ g ++_)
-        (ap (λ (t : List ℕ). splice t (length before + i) ys) (wait-body σ cs g z)
-        ∙ splice-within before (g .wait) (g .rest) ys i h
-        ∙ append-assoc (g .sheet) (g .totals ++ g .ids) after
-        ∙ ap (g .sheet ++_) (append-assoc (g .totals) (g .ids) after))
+      (ap (λ (t : List ℕ). splice t (length before + i) ys) (wait-body σ cs g z)
+      ∙ splice-within before (g .wait) (g .rest) ys i h
+      ∙ append-assoc (g .sheet) (g .totals ++ g .ids) after
+      ∙ ap (g .sheet ++_) (append-assoc (g .totals) (g .ids) after))

@@ -46,8 +46,8 @@ module _ (σ : Setting) where
     wait-long h =
         length-append (bytesOf 4 (w .id) ++ bytesOfAll W (sixOf w)) y
         ∙ ap₂ _+_
-          (length-append (bytesOf 4 (w .id)) (bytesOfAll W (sixOf w)) ∙ ap₂ _+_ (length-bytes 4 (w .id)) (length-bytes-all W (sixOf w)))
-          h
+        (length-append (bytesOf 4 (w .id)) (bytesOfAll W (sixOf w)) ∙ ap₂ _+_ (length-bytes 4 (w .id)) (length-bytes-all W (sixOf w)))
+        h
         ∙ omega arith
 
     module _ (id-fits : w .id < 256 ^ 4) (six-fit : All (λ x. x < 256 ^ W) (sixOf w)) (long : length y ≡ W * shareSize cs) where
@@ -73,8 +73,8 @@ module _ (σ : Setting) where
       share-back =
           let front = bytesOf 4 (w .id) ++ bytesOfAll W (sixOf w) in
           let place : length front ≡ 4 + 6 * W =
-              length-append (bytesOf 4 (w .id)) (bytesOfAll W (sixOf w)) ∙ ap₂ _+_ (length-bytes 4 (w .id)) (length-bytes-all W (sixOf w))
-              ∙ omega arith in
+          length-append (bytesOf 4 (w .id)) (bytesOfAll W (sixOf w)) ∙ ap₂ _+_ (length-bytes 4 (w .id)) (length-bytes-all W (sixOf w))
+          ∙ omega arith in
           ap (elementsOf W)
           (ap (take (W * shareSize cs)) (drop-at front y (4 + 6 * W) place) ∙ take-all (W * shareSize cs) y (omega arith))
 
@@ -170,4 +170,4 @@ id-noted ids n id h fit =
     ap (elementsOf 4) (ap (λ (k : ℕ). take k (splice ids (4 * n) (bytesOf 4 id))) end ∙ take-end-splice ids (4 * n) (bytesOf 4 id) inside)
     ∙ elements-append 4 (omega arith) (take (4 * n) ids) (bytesOf 4 id) n (length-take-le (4 * n) ids (omega arith))
     ∙ ap (elementsOf 4 (take (4 * n) ids) ++_)
-      (elements-one 4 (omega arith) (bytesOf 4 id) four ∙ ap (λ (k : ℕ). k ∷ []) (value-bytes 4 id h))
+    (elements-one 4 (omega arith) (bytesOf 4 id) four ∙ ap (λ (k : ℕ). k ∷ []) (value-bytes 4 id h))

@@ -1,2 +1,4 @@
 pub mod Examples
 pub mod Natural
+pub mod Linear
+pub mod Truth

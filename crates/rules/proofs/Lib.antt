@@ -2,3 +2,4 @@ pub mod Examples
 pub mod Natural
 pub mod Linear
 pub mod Truth
+pub mod Adding

@@ -63,7 +63,7 @@ module _ (𝓕 : Field) (servers : ℕ) (k : ℕ → 𝓕 .ops .F) (x h : ℕ �
     gate-is = λ t u v. refl;
   }
 
-  list-add : (l : List (ℕ → F)) (n : ℕ) → getD (map total l) n 𝟘 ≡ total (λ i. getD (map (λ a. a i) l) n 𝟘)
+  pub list-add : (l : List (ℕ → F)) (n : ℕ) → getD (map total l) n 𝟘 ≡ total (λ i. getD (map (λ a. a i) l) n 𝟘)
   list-add l n =
       ap (getD (map total l) n) (sym none-adds)
       ∙ List·getD-map total l n (λ i. 𝟘)

@@ -3,3 +3,5 @@ pub mod Natural
 pub mod Linear
 pub mod Truth
 pub mod Adding
+pub mod JudgingHom
+pub mod MakingHom

@@ -1,5 +1,9 @@
 pub mod Examples
 pub mod Natural
+pub mod Facts
+pub mod Growth
+pub mod Stretches
+pub mod Walk
 pub mod Linear
 pub mod Truth
 pub mod Adding

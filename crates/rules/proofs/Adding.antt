@@ -13,7 +13,7 @@ use Rattle.algebra.proofs.Interpolation.{interpolate-sum}
 use Rattle.rules.specs.Settings.{Setting}
 use Rattle.rules.specs.Columns.{Column, entriesIn}
 use Rattle.rules.specs.Circuit.{gatesIn, circuitOf}
-use Rattle.rules.specs.Run.{Trace, run}
+use Rattle.rules.specs.Run.{run}
 use Rattle.rules.specs.Judging.{firstOnly, through, folded, sigmaFrom, hOf, aOf, bOf, cOf, shareRun, fAt, gAt, hAt}
 use Rattle.rules.specs.Judging.{dOf, eOf, sigmaOf, tauOf, addedUp, dSum, eSum, sigmaSum, tauSum}
 use Rattle.rules.proofs.Natural.{run-map}

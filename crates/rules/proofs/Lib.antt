@@ -9,3 +9,6 @@ pub mod Truth
 pub mod Adding
 pub mod JudgingHom
 pub mod MakingHom
+pub mod Few
+pub mod Elements
+pub mod FewPairs

@@ -9,7 +9,7 @@ use Rattle.algebra.specs.Ops.{Ops, Field}
 use Rattle.algebra.specs.Sums.{sum}
 use Rattle.algebra.proofs.Sums.{sum-zero, sum-add, sum-times}
 use Rattle.rules.specs.Circuit.{Step}
-use Rattle.rules.specs.Run.{Meaning, Trace, run, atServer}
+use Rattle.rules.specs.Run.{Meaning, run, atServer}
 use Rattle.rules.proofs.Natural.{Keeps, run-map}
 
 -- S servers, with factors k on constants, entries x and outputs h

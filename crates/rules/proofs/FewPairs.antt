@@ -1,0 +1,79 @@
+-- Few pairs let a false return in, for numbers modulo p: at most p times the larger of 2M + 1 and K - 1 of all p times p
+-- pairs. The bound in the field comes down, since a sum is 0 where its element is. Assumes nothing.
+use mathlib.Core.Path.{_≡_, _∙_, subst}
+use mathlib.Core.Bool.{true, _&&_}
+use mathlib.Core.List.{List}
+use Prim.Native.Nat.{ℕ, suc, _+_, _-_, _*_, _≤_, _<_, max}
+use native.Mathlib.Nat.{mul-le-mul-left}
+use native.Mathlib.Omega.{arith}
+use borrow.Author.Tests.{eqb-true, ltb-true}
+use lib.Dec.{eqb, ltb}
+use Rattle.algebra.specs.Modulo.{modulo}
+use Rattle.algebra.specs.Count.{countPairs}
+use Rattle.algebra.proofs.Members.{and-left, and-right}
+use Rattle.algebra.proofs.Residues.{points-apart}
+use Rattle.rules.specs.Settings.{Setting, Facts}
+use Rattle.rules.specs.Columns.{Column}
+use Rattle.rules.specs.Circuit.{gatesIn, testsIn}
+use Rattle.rules.specs.Run.{Valid}
+use Rattle.rules.specs.Judging.{addedUp, sigmaSum, tauSum, allowedPair, letsIn}
+use Rattle.rules.proofs.Few.{few-in-field}
+use Rattle.rules.proofs.Elements.{field, R, lifted, zero-from, valid-down, added-value, sigma-value, tau-value}
+
+-- what a pair that lets a return in says
+pub record LetIn (σ : Setting) (cs : List Column) (servers : ℕ) (x : ℕ → ℕ → ℕ) (r s : ℕ) : Type 0 where
+  pub r-above : gatesIn cs < r
+  pub r-below : r < σ .modulus
+  pub s-below : s < σ .modulus
+  pub sigma-none : sigmaSum (modulo (σ .modulus)) σ cs servers x r ≡ 0
+  pub tau-none : tauSum (modulo (σ .modulus)) σ cs servers x s ≡ 0
+
+pub let-in : (σ : Setting) (cs : List Column) (servers : ℕ) (x : ℕ → ℕ → ℕ) (r s : ℕ) → letsIn σ cs servers x r s ≡ true
+    → LetIn σ cs servers x r s
+unfolding letsIn allowedPair
+let-in σ cs servers x r s h =
+    let allowed = and-left _ _ h in
+    let inside = and-right (ltb (gatesIn cs) r) _ allowed in
+    let sums = and-right (ltb (gatesIn cs) r && (ltb r (σ .modulus) && ltb s (σ .modulus))) _ h in
+    record {
+      r-above = ltb-true _ _ (and-left _ _ allowed);
+      r-below = ltb-true _ _ (and-left _ _ inside);
+      s-below = ltb-true _ _ (and-right (ltb r (σ .modulus)) _ inside);
+      sigma-none = eqb-true _ 0 (and-left _ _ sums);
+      tau-none = eqb-true _ 0 (and-right (eqb (sigmaSum (modulo (σ .modulus)) σ cs servers x r) 0) _ sums);
+    }
+
+module _ (σ : Setting) (facts : Facts σ) (cs : List Column) (gates : gatesIn cs ≤ 256) (tests : testsIn cs ≤ 512)
+    (servers : ℕ) (some : 0 < servers) (x : ℕ → ℕ → ℕ) (below : (i e : ℕ) → x i e < σ .modulus) where
+  abbrev p : ℕ
+  p = σ .modulus
+
+  apart : (m : ℕ) → m ≤ 514 → (i j : ℕ) → i < m → j < m → (i ≡ j → ⊥) → R σ facts .ι i ≡ R σ facts .ι j → ⊥
+  apart m few i j k l =
+      let large : 16777216 < p = facts .large in
+      points-apart p (facts .prime) i j (omega arith) (omega arith)
+
+  both : (r s : ℕ) → letsIn σ cs servers x r s ≡ true
+      → (sigmaSum (R σ facts) σ cs servers (lifted σ facts cs servers x below) (R σ facts .ι r) ≡ R σ facts .𝟘)
+      × (tauSum (R σ facts) σ cs servers (lifted σ facts cs servers x below) (R σ facts .ι s) ≡ R σ facts .𝟘)
+  both r s h =
+      let t = let-in σ cs servers x r s h in (
+        zero-from σ facts _ (sigma-value σ facts cs servers x below r (t .r-below) ∙ t .sigma-none),
+        zero-from σ facts _ (tau-value σ facts cs servers x below s (t .s-below) ∙ t .tau-none),
+      )
+
+  pub few-pairs : (Valid (modulo p) σ cs (addedUp (modulo p) σ cs servers x) → ⊥)
+      → countPairs p p (letsIn σ cs servers x) ≤ p * max (suc (gatesIn cs + gatesIn cs)) (testsIn cs - 1)
+  few-pairs invalid =
+      let most : countPairs p p (letsIn σ cs servers x)
+      ≤ max (suc (gatesIn cs + gatesIn cs) * p) (p * (testsIn cs - 1)) =
+      few-in-field (field σ facts) σ cs servers some (lifted σ facts cs servers x below)
+      (apart (suc (suc (gatesIn cs + gatesIn cs))) (omega arith)) (apart (suc (testsIn cs)) (omega arith))
+      (λ z. invalid (subst (Valid (modulo p) σ cs) (added-value σ facts cs servers x below) (valid-down σ facts cs _ z)))
+      p p (R σ facts .ι) (R σ facts .ι) (points-apart p (facts .prime)) (points-apart p (facts .prime))
+      (letsIn σ cs servers x) both in
+      let by-sigma : p * suc (gatesIn cs + gatesIn cs) ≤ p * max (suc (gatesIn cs + gatesIn cs)) (testsIn cs - 1) =
+      mul-le-mul-left p (omega arith) in
+      let by-tau : p * (testsIn cs - 1) ≤ p * max (suc (gatesIn cs + gatesIn cs)) (testsIn cs - 1) =
+      mul-le-mul-left p (omega arith) in
+      omega arith

@@ -1,19 +1,17 @@
 -- Numbers below p as elements of the field of residues: what Judging gives on them is the value of what it gives on the
 -- elements, and a list is valid where its elements are. By the laws of a map that keeps the operations. Assumes nothing.
 use mathlib.Core.Path.{_≡_, sym, _∙_, ap, subst}
-use mathlib.Core.List.{List, [], _∷_, map}
+use mathlib.Core.List.{List}
 use Prim.Native.Nat.{ℕ, _<_}
-use Rattle.algebra.specs.Lists.{All, all[], all∷}
 use Rattle.algebra.specs.Ops.{Ops, Field}
 use Rattle.algebra.specs.Modulo.{modulo}
-use Rattle.algebra.proofs.Residues.{residues, toNumbers, value-of, value-zero}
+use Rattle.algebra.proofs.Residues.{residues, toNumbers, value-of, value-below, of-value, value-zero}
 use Rattle.rules.specs.Settings.{Setting, Facts}
 use Rattle.rules.specs.Columns.{Column}
-use Rattle.rules.specs.Circuit.{circuitOf}
-use Rattle.rules.specs.Run.{run, onList, Valid}
-use Rattle.rules.specs.Judging.{addedUp, dSum, eSum, sigmaSum, tauSum}
-use Rattle.rules.proofs.Natural.{run-map, list-keeps}
-use Rattle.rules.proofs.JudgingHom.{addedUp-hom, dSum-hom, eSum-hom, sigmaSum-hom, tauSum-hom}
+use Rattle.rules.specs.Run.{Valid}
+use Rattle.rules.specs.Judging.{addedUp, sigmaSum, tauSum}
+use Rattle.rules.proofs.Legal.{valid-lifts}
+use Rattle.rules.proofs.JudgingHom.{addedUp-hom, sigmaSum-hom, tauSum-hom}
 
 module _ (σ : Setting) (facts : Facts σ) where
   abbrev pub p : ℕ
@@ -39,56 +37,36 @@ module _ (σ : Setting) (facts : Facts σ) where
   pub zero-from : (y : R .F) → value y ≡ 0 → y ≡ R .𝟘
   zero-from = value-zero p (facts .prime)
 
-  zeros-down : {l : List (R .F)} → All (λ y. y ≡ R .𝟘) l → All (λ y. y ≡ 0) (map value l)
-  zeros-down all[] = all[]
-  zeros-down (all∷ e es) = all∷ (ap value e ∙ zero-value) (zeros-down es)
+  -- shares of numbers below p
+  module _ (cs : List Column) (servers : ℕ) (x : ℕ → ℕ → ℕ) (below : (i e : ℕ) → x i e < p) where
+    abbrev pub lifted : ℕ → ℕ → R .F
+    lifted i e = R .ι (x i e)
 
-  zeros-up : (l : List (R .F)) → All (λ y. y ≡ 0) (map value l) → All (λ y. y ≡ R .𝟘) l
-  zeros-up [] all[] = all[]
-  zeros-up (y ∷ l) (all∷ e es) = all∷ (zero-from y e) (zeros-up l es)
+    shares-back : (λ i e. value (lifted i e)) ≡ x
+    shares-back = λ t i e. back (x i e) (below i e) t
 
-  module _ (cs : List Column) where
-    -- the tests at elements, and at their values
-    tests-value : (y : ℕ → R .F)
-        → map value (run (onList R y) (circuitOf σ cs) .tests) ≡ run (onList (modulo p) (λ e. value (y e))) (circuitOf σ cs) .tests
-    tests-value y = ap (λ z. z .tests) (run-map (list-keeps (toNumbers p (facts .prime)) y) (circuitOf σ cs))
+    added-value : (e : ℕ) → value (addedUp R σ cs servers lifted e) ≡ addedUp (modulo p) σ cs servers x e
+    added-value e =
+        addedUp-hom (toNumbers p (facts .prime)) σ cs servers lifted e
+        ∙ λ t. addedUp (modulo p) σ cs servers (shares-back t) e
 
-    pub valid-down : (y : ℕ → R .F) → Valid R σ cs y → Valid (modulo p) σ cs (λ e. value (y e))
-    valid-down y z = subst (All (λ n. n ≡ 0)) (tests-value y) (zeros-down z)
+    pub added-below : (e : ℕ) → addedUp (modulo p) σ cs servers x e < p
+    added-below e = subst (λ n. n < p) (added-value e) (value-below p (facts .prime) _)
 
-    pub valid-up : (y : ℕ → R .F) → Valid (modulo p) σ cs (λ e. value (y e)) → Valid R σ cs y
-    valid-up y z = zeros-up _ (subst (All (λ n. n ≡ 0)) (sym (tests-value y)) z)
+    pub added-lifts : (λ e. R .ι (addedUp (modulo p) σ cs servers x e)) ≡ addedUp R σ cs servers lifted
+    added-lifts = λ t e. (ap (R .ι) (sym (added-value e)) ∙ of-value p (facts .prime) (addedUp R σ cs servers lifted e)) t
 
-    -- shares of numbers below p
-    module _ (servers : ℕ) (x : ℕ → ℕ → ℕ) (below : (i e : ℕ) → x i e < p) where
-      abbrev pub lifted : ℕ → ℕ → R .F
-      lifted i e = R .ι (x i e)
+    pub valid-down : Valid R σ cs (addedUp R σ cs servers lifted) → Valid (modulo p) σ cs (addedUp (modulo p) σ cs servers x)
+    valid-down z =
+        valid-lifts σ facts cs (addedUp (modulo p) σ cs servers x) added-below .1 (subst (Valid R σ cs) (sym added-lifts) z)
 
-      shares-back : (λ i e. value (lifted i e)) ≡ x
-      shares-back = λ t i e. back (x i e) (below i e) t
+    pub sigma-value : (r : ℕ) → r < p
+        → value (sigmaSum R σ cs servers lifted (R .ι r)) ≡ sigmaSum (modulo p) σ cs servers x r
+    sigma-value r l =
+        sigmaSum-hom (toNumbers p (facts .prime)) σ cs servers lifted (R .ι r)
+        ∙ λ t. sigmaSum (modulo p) σ cs servers (shares-back t) (back r l t)
 
-      pub added-value : (λ e. value (addedUp R σ cs servers lifted e)) ≡ addedUp (modulo p) σ cs servers x
-      added-value =
-          (λ t e. addedUp-hom (toNumbers p (facts .prime)) σ cs servers lifted e t)
-          ∙ ap (addedUp (modulo p) σ cs servers) shares-back
-
-      pub d-value : (r : ℕ) → r < p → value (dSum R σ cs servers lifted (R .ι r)) ≡ dSum (modulo p) σ cs servers x r
-      d-value r l =
-          dSum-hom (toNumbers p (facts .prime)) σ cs servers lifted (R .ι r)
-          ∙ λ t. dSum (modulo p) σ cs servers (shares-back t) (back r l t)
-
-      pub e-value : (r : ℕ) → r < p → value (eSum R σ cs servers lifted (R .ι r)) ≡ eSum (modulo p) σ cs servers x r
-      e-value r l =
-          eSum-hom (toNumbers p (facts .prime)) σ cs servers lifted (R .ι r)
-          ∙ λ t. eSum (modulo p) σ cs servers (shares-back t) (back r l t)
-
-      pub sigma-value : (r : ℕ) → r < p
-          → value (sigmaSum R σ cs servers lifted (R .ι r)) ≡ sigmaSum (modulo p) σ cs servers x r
-      sigma-value r l =
-          sigmaSum-hom (toNumbers p (facts .prime)) σ cs servers lifted (R .ι r)
-          ∙ λ t. sigmaSum (modulo p) σ cs servers (shares-back t) (back r l t)
-
-      pub tau-value : (s : ℕ) → s < p → value (tauSum R σ cs servers lifted (R .ι s)) ≡ tauSum (modulo p) σ cs servers x s
-      tau-value s l =
-          tauSum-hom (toNumbers p (facts .prime)) σ cs servers lifted (R .ι s)
-          ∙ λ t. tauSum (modulo p) σ cs servers (shares-back t) (back s l t)
+    pub tau-value : (s : ℕ) → s < p → value (tauSum R σ cs servers lifted (R .ι s)) ≡ tauSum (modulo p) σ cs servers x s
+    tau-value s l =
+        tauSum-hom (toNumbers p (facts .prime)) σ cs servers lifted (R .ι s)
+        ∙ λ t. tauSum (modulo p) σ cs servers (shares-back t) (back s l t)

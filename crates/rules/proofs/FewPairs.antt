@@ -1,6 +1,6 @@
 -- Few pairs let a false return in, for numbers modulo p: at most p times the larger of 2M + 1 and K - 1 of all p times p
 -- pairs. The bound in the field comes down, since a sum is 0 where its element is. Assumes nothing.
-use mathlib.Core.Path.{_≡_, _∙_, subst}
+use mathlib.Core.Path.{_≡_, _∙_}
 use mathlib.Core.Bool.{true, _&&_}
 use mathlib.Core.List.{List}
 use Prim.Native.Nat.{ℕ, suc, _+_, _-_, _*_, _≤_, _<_, max}
@@ -18,7 +18,7 @@ use Rattle.rules.specs.Circuit.{gatesIn, testsIn}
 use Rattle.rules.specs.Run.{Valid}
 use Rattle.rules.specs.Judging.{addedUp, sigmaSum, tauSum, allowedPair, letsIn}
 use Rattle.rules.proofs.Few.{few-in-field}
-use Rattle.rules.proofs.Elements.{field, R, lifted, zero-from, valid-down, added-value, sigma-value, tau-value}
+use Rattle.rules.proofs.Elements.{field, R, lifted, zero-from, valid-down, sigma-value, tau-value}
 
 -- what a pair that lets a return in says
 pub record LetIn (σ : Setting) (cs : List Column) (servers : ℕ) (x : ℕ → ℕ → ℕ) (r s : ℕ) : Type 0 where
@@ -69,7 +69,7 @@ module _ (σ : Setting) (facts : Facts σ) (cs : List Column) (gates : gatesIn c
       ≤ max (suc (gatesIn cs + gatesIn cs) * p) (p * (testsIn cs - 1)) =
       few-in-field (field σ facts) σ cs servers some (lifted σ facts cs servers x below)
       (apart (suc (suc (gatesIn cs + gatesIn cs))) (omega arith)) (apart (suc (testsIn cs)) (omega arith))
-      (λ z. invalid (subst (Valid (modulo p) σ cs) (added-value σ facts cs servers x below) (valid-down σ facts cs _ z)))
+      (λ z. invalid (valid-down σ facts cs servers x below z))
       p p (R σ facts .ι) (R σ facts .ι) (points-apart p (facts .prime)) (points-apart p (facts .prime))
       (letsIn σ cs servers x) both in
       let by-sigma : p * suc (gatesIn cs + gatesIn cs) ≤ p * max (suc (gatesIn cs + gatesIn cs)) (testsIn cs - 1) =

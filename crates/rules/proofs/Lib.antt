@@ -4,6 +4,12 @@ pub mod Facts
 pub mod Growth
 pub mod Stretches
 pub mod Walk
+pub mod InLimits
+pub mod Digits
+pub mod ColumnTests
+pub mod Encoding
+pub mod Published
+pub mod Legal
 pub mod Linear
 pub mod Truth
 pub mod Adding

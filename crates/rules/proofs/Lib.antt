@@ -18,3 +18,5 @@ pub mod MakingHom
 pub mod Few
 pub mod Elements
 pub mod FewPairs
+pub mod Whole
+pub mod EntriesRead

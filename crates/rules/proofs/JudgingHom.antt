@@ -25,7 +25,7 @@ module _ {A B : Ops} (h : Hom A B) where
   firstOnly-hom zero = one
   firstOnly-hom (suc i) = nil
 
-  getD-hom : (l : List (A .F)) (j : ℕ) → φ (getD l j (A .𝟘)) ≡ getD (map φ l) j (B .𝟘)
+  pub getD-hom : (l : List (A .F)) (j : ℕ) → φ (getD l j (A .𝟘)) ≡ getD (map φ l) j (B .𝟘)
   getD-hom l j = sym (List·getD-map φ l j (A .𝟘)) ∙ ap (getD (map φ l) j) nil
 
   pub through-hom : (z : A .F) (l : List (A .F)) (j : ℕ) → φ (through A z l j) ≡ through B (φ z) (map φ l) j

@@ -20,3 +20,4 @@ pub mod Elements
 pub mod FewPairs
 pub mod Whole
 pub mod EntriesRead
+pub mod Shares

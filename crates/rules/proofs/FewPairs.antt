@@ -1,47 +1,22 @@
 -- Few pairs let a false return in, for numbers modulo p: at most p times the larger of 2M + 1 and K - 1 of all p times p
 -- pairs. The bound in the field comes down, since a sum is 0 where its element is. Assumes nothing.
 use mathlib.Core.Path.{_≡_, _∙_}
-use mathlib.Core.Bool.{true, _&&_}
+use mathlib.Core.Bool.{true}
 use mathlib.Core.List.{List}
 use Prim.Native.Nat.{ℕ, suc, _+_, _-_, _*_, _≤_, _<_, max}
 use native.Mathlib.Nat.{mul-le-mul-left}
 use native.Mathlib.Omega.{arith}
-use borrow.Author.Tests.{eqb-true, ltb-true}
-use lib.Dec.{eqb, ltb}
 use Rattle.algebra.specs.Modulo.{modulo}
 use Rattle.algebra.specs.Count.{countPairs}
-use Rattle.algebra.proofs.Members.{and-left, and-right}
 use Rattle.algebra.proofs.Residues.{points-apart}
 use Rattle.rules.specs.Settings.{Setting, Facts}
 use Rattle.rules.specs.Columns.{Column}
 use Rattle.rules.specs.Circuit.{gatesIn, testsIn}
 use Rattle.rules.specs.Run.{Valid}
-use Rattle.rules.specs.Judging.{addedUp, sigmaSum, tauSum, allowedPair, letsIn}
+use Rattle.rules.specs.Judging.{addedUp, sigmaSum, tauSum, letsIn}
+use Rattle.rules.proofs.LetsIn.{allowed-says, let-in-allowed, let-in-zero}
 use Rattle.rules.proofs.Few.{few-in-field}
 use Rattle.rules.proofs.Elements.{field, R, lifted, zero-from, valid-down, sigma-value, tau-value}
-
--- what a pair that lets a return in says
-pub record LetIn (σ : Setting) (cs : List Column) (servers : ℕ) (x : ℕ → ℕ → ℕ) (r s : ℕ) : Type 0 where
-  pub r-above : gatesIn cs < r
-  pub r-below : r < σ .modulus
-  pub s-below : s < σ .modulus
-  pub sigma-none : sigmaSum (modulo (σ .modulus)) σ cs servers x r ≡ 0
-  pub tau-none : tauSum (modulo (σ .modulus)) σ cs servers x s ≡ 0
-
-pub let-in : (σ : Setting) (cs : List Column) (servers : ℕ) (x : ℕ → ℕ → ℕ) (r s : ℕ) → letsIn σ cs servers x r s ≡ true
-    → LetIn σ cs servers x r s
-unfolding letsIn allowedPair
-let-in σ cs servers x r s h =
-    let allowed = and-left _ _ h in
-    let inside = and-right (ltb (gatesIn cs) r) _ allowed in
-    let sums = and-right (ltb (gatesIn cs) r && (ltb r (σ .modulus) && ltb s (σ .modulus))) _ h in
-    record {
-      r-above = ltb-true _ _ (and-left _ _ allowed);
-      r-below = ltb-true _ _ (and-left _ _ inside);
-      s-below = ltb-true _ _ (and-right (ltb r (σ .modulus)) _ inside);
-      sigma-none = eqb-true _ 0 (and-left _ _ sums);
-      tau-none = eqb-true _ 0 (and-right (eqb (sigmaSum (modulo (σ .modulus)) σ cs servers x r) 0) _ sums);
-    }
 
 module _ (σ : Setting) (facts : Facts σ) (cs : List Column) (gates : gatesIn cs ≤ 256) (tests : testsIn cs ≤ 512)
     (servers : ℕ) (some : 0 < servers) (x : ℕ → ℕ → ℕ) (below : (i e : ℕ) → x i e < σ .modulus) where
@@ -57,9 +32,10 @@ module _ (σ : Setting) (facts : Facts σ) (cs : List Column) (gates : gatesIn c
       → (sigmaSum (R σ facts) σ cs servers (lifted σ facts cs servers x below) (R σ facts .ι r) ≡ R σ facts .𝟘)
       × (tauSum (R σ facts) σ cs servers (lifted σ facts cs servers x below) (R σ facts .ι s) ≡ R σ facts .𝟘)
   both r s h =
-      let t = let-in σ cs servers x r s h in (
-        zero-from σ facts _ (sigma-value σ facts cs servers x below r (t .r-below) ∙ t .sigma-none),
-        zero-from σ facts _ (tau-value σ facts cs servers x below s (t .s-below) ∙ t .tau-none),
+      let a = allowed-says σ cs r s (let-in-allowed σ cs servers x r s h) in
+      let z = let-in-zero σ cs servers x r s h in (
+        zero-from σ facts _ (sigma-value σ facts cs servers x below r (a .r-below) ∙ z .sigma-none),
+        zero-from σ facts _ (tau-value σ facts cs servers x below s (a .s-below) ∙ z .tau-none),
       )
 
   pub few-pairs : (Valid (modulo p) σ cs (addedUp (modulo p) σ cs servers x) → ⊥)

@@ -21,3 +21,6 @@ pub mod FewPairs
 pub mod Whole
 pub mod EntriesRead
 pub mod Shares
+pub mod Honest
+pub mod LetsIn
+pub mod HonestReturns

@@ -124,7 +124,7 @@ module _ (σ : Setting) (facts : Facts σ) (cs : List Column) (servers : ℕ) (v
     ι = R σ facts .ι
 
     -- the whole in the field
-    abbrev wholeElements : List (R σ facts .F)
+    abbrev pub wholeElements : List (R σ facts .F)
     wholeElements =
         whole (R σ facts) σ cs (λ e. ι (getD (encoding cs vs) e 0))
         (ι (getD zs 0 0)) (ι (getD zs 1 0)) (ι (getD zs 2 0)) (ι (getD zs 3 0))

@@ -4,6 +4,12 @@ pub mod Facts
 pub mod Growth
 pub mod Stretches
 pub mod Walk
+pub mod Limits
+pub mod Refusals
+pub mod Size
+pub mod Counts
+pub mod Sound
+pub mod ReadBack
 pub mod InLimits
 pub mod Digits
 pub mod ColumnTests

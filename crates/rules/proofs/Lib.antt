@@ -30,3 +30,4 @@ pub mod Shares
 pub mod Honest
 pub mod LetsIn
 pub mod HonestReturns
+pub mod OnSheets

@@ -2,10 +2,12 @@
 -- elements, and a list is valid where its elements are. By the laws of a map that keeps the operations. Assumes nothing.
 use mathlib.Core.Path.{_≡_, sym, _∙_, ap, subst}
 use mathlib.Core.List.{List}
-use Prim.Native.Nat.{ℕ, _<_}
+use Prim.Native.Nat.{ℕ, _≤_, _<_}
+use native.Mathlib.Omega.{arith}
 use Rattle.algebra.specs.Ops.{Ops, Field}
 use Rattle.algebra.specs.Modulo.{modulo}
-use Rattle.algebra.proofs.Residues.{residues, toNumbers, value-of, value-below, of-value, value-zero}
+use Rattle.algebra.specs.Claims.{Apart}
+use Rattle.algebra.proofs.Residues.{residues, toNumbers, value-of, value-below, of-value, value-zero, points-apart}
 use Rattle.rules.specs.Settings.{Setting, Facts}
 use Rattle.rules.specs.Columns.{Column}
 use Rattle.rules.specs.Run.{Valid}
@@ -36,6 +38,10 @@ module _ (σ : Setting) (facts : Facts σ) where
 
   pub zero-from : (y : R .F) → value y ≡ 0 → y ≡ R .𝟘
   zero-from = value-zero p (facts .prime)
+
+  -- numbers up to p leave elements that differ
+  pub elements-apart : (m : ℕ) → m ≤ p → Apart field m (R .ι)
+  elements-apart m h i j k l = points-apart p (facts .prime) i j (omega arith) (omega arith)
 
   -- shares of numbers below p
   module _ (cs : List Column) (servers : ℕ) (x : ℕ → ℕ → ℕ) (below : (i e : ℕ) → x i e < p) where

@@ -16,17 +16,12 @@ use Rattle.rules.specs.Run.{Valid}
 use Rattle.rules.specs.Judging.{addedUp, sigmaSum, tauSum, letsIn}
 use Rattle.rules.proofs.LetsIn.{allowed-says, let-in-allowed, let-in-zero}
 use Rattle.rules.proofs.Few.{few-in-field}
-use Rattle.rules.proofs.Elements.{field, R, lifted, zero-from, valid-down, sigma-value, tau-value}
+use Rattle.rules.proofs.Elements.{field, R, elements-apart, lifted, zero-from, valid-down, sigma-value, tau-value}
 
 module _ (σ : Setting) (facts : Facts σ) (cs : List Column) (gates : gatesIn cs ≤ 256) (tests : testsIn cs ≤ 512)
     (servers : ℕ) (some : 0 < servers) (x : ℕ → ℕ → ℕ) (below : (i e : ℕ) → x i e < σ .modulus) where
   abbrev p : ℕ
   p = σ .modulus
-
-  apart : (m : ℕ) → m ≤ 514 → (i j : ℕ) → i < m → j < m → (i ≡ j → ⊥) → R σ facts .ι i ≡ R σ facts .ι j → ⊥
-  apart m few i j k l =
-      let large : 16777216 < p = facts .large in
-      points-apart p (facts .prime) i j (omega arith) (omega arith)
 
   both : (r s : ℕ) → letsIn σ cs servers x r s ≡ true
       → (sigmaSum (R σ facts) σ cs servers (lifted σ facts cs servers x below) (R σ facts .ι r) ≡ R σ facts .𝟘)
@@ -44,7 +39,7 @@ module _ (σ : Setting) (facts : Facts σ) (cs : List Column) (gates : gatesIn c
       let most : countPairs p p (letsIn σ cs servers x)
       ≤ max (suc (gatesIn cs + gatesIn cs) * p) (p * (testsIn cs - 1)) =
       few-in-field (field σ facts) σ cs servers some (lifted σ facts cs servers x below)
-      (apart (suc (suc (gatesIn cs + gatesIn cs))) (omega arith)) (apart (suc (testsIn cs)) (omega arith))
+      (elements-apart σ facts _ (omega (arith, facts .large))) (elements-apart σ facts _ (omega (arith, facts .large)))
       (λ z. invalid (valid-down σ facts cs servers x below z))
       p p (R σ facts .ι) (R σ facts .ι) (points-apart p (facts .prime)) (points-apart p (facts .prime))
       (letsIn σ cs servers x) both in

@@ -10,7 +10,7 @@ use lib.ListN.{getD}
 use Rattle.algebra.specs.Lists.{All}
 use Rattle.algebra.specs.Modulo.{modulo}
 use Rattle.algebra.specs.Claims.{Apart}
-use Rattle.algebra.proofs.Residues.{points-apart, of-value, positive}
+use Rattle.algebra.proofs.Residues.{of-value, positive}
 use Rattle.rules.specs.Settings.{Setting, Facts}
 use Rattle.rules.specs.Columns.{Column}
 use Rattle.rules.specs.Circuit.{gatesIn}
@@ -22,7 +22,7 @@ use Rattle.rules.proofs.InLimits.{InLimits}
 use Rattle.rules.proofs.Encoding.{entry-below-modulus}
 use Rattle.rules.proofs.Legal.{valid-lifts, tests-say-legal}
 use Rattle.rules.proofs.LetsIn.{allowed-says, zero-lets-in}
-use Rattle.rules.proofs.Elements.{field, R, value, zero-value, added-lifts, sigma-value, tau-value}
+use Rattle.rules.proofs.Elements.{field, R, elements-apart, value, zero-value, added-lifts, sigma-value, tau-value}
 use Rattle.rules.proofs.Shares.{getD-below, share-elements-below, wholeElements, whole-value, added-is-whole}
 use Rattle.rules.proofs.Honest.{honest-sigma, honest-tau}
 
@@ -52,9 +52,7 @@ module _ (σ : Setting) (facts : Facts σ) (cs : List Column) (limits : All InLi
       (record { values = vs; legal = legal; entries-are = λ i l. sym (mod-eq-of-lt (entries-below i)) })
 
   apart : Apart (field σ facts) (suc (gatesIn cs + gatesIn cs)) (R σ facts .ι)
-  apart i j k l =
-      let large : 16777216 < p = facts .large in
-      points-apart p (facts .prime) i j (omega arith) (omega arith)
+  apart = elements-apart σ facts _ (omega (arith, facts .large))
 
   abbrev ι : ℕ → R σ facts .F
   ι = R σ facts .ι

@@ -18,6 +18,13 @@ use Rattle.rules.proofs.LetsIn.{allowed-says, let-in-allowed, let-in-ze
 use Rattle.rules.proofs.Few.{few-in-field}
 use Rattle.rules.proofs.Elements.{field, R, elements-apart, lifted, zero-from, valid-down, sigma-value, tau-value}
 
+-- the theorem, for shares x of which each element is below p
+abbrev pub FewPairs : Setting → List Column → Type 0
+FewPairs σ cs = (servers : ℕ) → 0 < servers → (x : ℕ → ℕ → ℕ) → ((i e : ℕ) → x i e < σ .modulus)
+    → (Valid (modulo (σ .modulus)) σ cs (addedUp (modulo (σ .modulus)) σ cs servers x) → ⊥)
+    → countPairs (σ .modulus) (σ .modulus) (letsIn σ cs servers x)
+    ≤ σ .modulus * max (suc (gatesIn cs + gatesIn cs)) (testsIn cs - 1)
+
 module _ (σ : Setting) (facts : Facts σ) (cs : List Column) (gates : gatesIn cs ≤ 256) (tests : testsIn cs ≤ 512)
     (servers : ℕ) (some : 0 < servers) (x : ℕ → ℕ → ℕ) (below : (i e : ℕ) → x i e < σ .modulus) where
   abbrev p : ℕ
@@ -33,9 +40,9 @@ module _ (σ : Setting) (facts : Facts σ) (cs : List Column) (gates : gatesIn c
         zero-from σ facts _ (tau-value σ facts cs servers x below s (a .s-below) ∙ z .tau-none),
       )
 
-  pub few-pairs : (Valid (modulo p) σ cs (addedUp (modulo p) σ cs servers x) → ⊥)
+  bound : (Valid (modulo p) σ cs (addedUp (modulo p) σ cs servers x) → ⊥)
       → countPairs p p (letsIn σ cs servers x) ≤ p * max (suc (gatesIn cs + gatesIn cs)) (testsIn cs - 1)
-  few-pairs invalid =
+  bound invalid =
       let most : countPairs p p (letsIn σ cs servers x)
       ≤ max (suc (gatesIn cs + gatesIn cs) * p) (p * (testsIn cs - 1)) =
       few-in-field (field σ facts) σ cs servers some (lifted σ facts cs servers x below)
@@ -48,3 +55,6 @@ module _ (σ : Setting) (facts : Facts σ) (cs : List Column) (gates : gatesIn c
       let by-tau : p * (testsIn cs - 1) ≤ p * max (suc (gatesIn cs + gatesIn cs)) (testsIn cs - 1) =
       mul-le-mul-left p (omega arith) in
       omega arith
+
+pub few-pairs : (σ : Setting) → Facts σ → (cs : List Column) → gatesIn cs ≤ 256 → testsIn cs ≤ 512 → FewPairs σ cs
+few-pairs = bound

@@ -28,6 +28,17 @@ use Rattle.rules.proofs.MakingHom.{whole-hom, shareOf-hom}
 use Rattle.rules.proofs.Elements.{field, R, value}
 use Rattle.rules.proofs.Whole.{WholeParts, length-whole, whole-parts}
 
+-- the theorem, for any values vs and the random elements zs
+pub record Made (σ : Setting) (cs : List Column) (servers : ℕ) (vs zs : List ℕ) : Type 0 where
+  pub whole-length : length (madeWhole σ cs servers vs zs) ≡ shareSize cs
+  pub parts-are : WholeParts (modulo (σ .modulus)) σ cs (λ e. getD (encoding cs vs) e 0)
+      (getD zs 0 0) (getD zs 1 0) (getD zs 2 0) (getD zs 3 0)
+  pub share-length : (i : ℕ) → length (madeShare σ cs servers vs zs i) ≡ shareSize cs
+  pub share-below : (i : ℕ) → All (λ n. n < σ .modulus) (madeShare σ cs servers vs zs i)
+  pub shares-add-up : (e : ℕ) → e < shareSize cs
+      → sum (modulo (σ .modulus)) servers (λ i. getD (madeShare σ cs servers vs zs i) e 0)
+      ≡ getD (madeWhole σ cs servers vs zs) e 0 % σ .modulus
+
 -- in a field
 module _ (𝓕 : Field) where
   open Ops (𝓕 .ops) using (F, _⊕_, neg)
@@ -68,55 +79,46 @@ module _ (σ : Setting) (facts : Facts σ) (servers : ℕ) (w : ℕ → ℕ) (z 
   rest-taken zero e = mod-add-mod (w e) p _
   rest-taken (suc i) e = refl
 
-  share-value : (i e : ℕ)
+  number-value : (i e : ℕ)
       → value σ facts (shareOf (R σ facts) servers (λ e. R σ facts .ι (w e)) (λ j e. R σ facts .ι (z j e)) i e)
       ≡ shareOf (modulo p) servers w z i e
-  share-value i e =
+  number-value i e =
       shareOf-hom (toNumbers p (facts .prime)) servers _ _ i e
       ∙ (λ t. shareOf (modulo p) servers (λ e. toNumbers p (facts .prime) .num (w e) t)
       (λ j e. value-of p (facts .prime) (z j e) (below j e) t) i e)
       ∙ rest-taken i e
 
-  share-below : (i e : ℕ) → shareOf (modulo p) servers w z i e < p
-  share-below i e = subst (λ n. n < p) (share-value i e) (value-below p (facts .prime) _)
+  number-below : (i e : ℕ) → shareOf (modulo p) servers w z i e < p
+  number-below i e = subst (λ n. n < p) (number-value i e) (value-below p (facts .prime) _)
 
-  shares-sum : 0 < servers → (e : ℕ) → sum (modulo p) servers (λ i. shareOf (modulo p) servers w z i e) ≡ w e % p
-  shares-sum some e =
-      sym (sum-hom (toNumbers p (facts .prime)) servers _ ∙ sum-ext (modulo p) servers _ _ (λ i l. share-value i e))
+  numbers-sum : 0 < servers → (e : ℕ) → sum (modulo p) servers (λ i. shareOf (modulo p) servers w z i e) ≡ w e % p
+  numbers-sum some e =
+      sym (sum-hom (toNumbers p (facts .prime)) servers _ ∙ sum-ext (modulo p) servers _ _ (λ i l. number-value i e))
       ∙ ap (value σ facts) (shares-add (field σ facts) servers some (λ e. R σ facts .ι (w e)) _ e)
       ∙ toNumbers p (facts .prime) .num (w e)
 
 -- a return that is made of any values
 module _ (σ : Setting) (facts : Facts σ) (cs : List Column) (servers : ℕ) (vs zs : List ℕ)
-    (random : All (λ z. z < σ .modulus) zs) where
+    (some : 0 < servers) (random : All (λ z. z < σ .modulus) zs) where
   abbrev q : ℕ
   q = σ .modulus
 
   random-below : (i : ℕ) → getD zs i 0 < q
   random-below = getD-below q (positive q (facts .prime)) random
 
-  pub length-share : (i : ℕ) → length (madeShare σ cs servers vs zs i) ≡ shareSize cs
-  length-share i = length-tabulate _ (shareSize cs)
-
-  pub share-elements-below : (i : ℕ) → All (λ n. n < q) (madeShare σ cs servers vs zs i)
-  share-elements-below i =
-      all-tabulate _ (shareSize cs) (λ e l. share-below σ facts servers _ _ (λ j e. random-below (4 + j * shareSize cs + e)) i e)
-
-  pub length-made : length (madeWhole σ cs servers vs zs) ≡ shareSize cs
-  length-made = length-whole (modulo q) σ cs _ _ _ _ _
-
-  -- the parts of the whole
-  pub made-parts : WholeParts (modulo q) σ cs (λ e. getD (encoding cs vs) e 0)
-      (getD zs 0 0) (getD zs 1 0) (getD zs 2 0) (getD zs 3 0)
-  made-parts = whole-parts (modulo q) σ cs _ _ _ _ _
-
-  -- the shares add up to the whole, modulo p
-  pub shares-add-up : 0 < servers → (e : ℕ) → e < shareSize cs
-      → sum (modulo q) servers (λ i. getD (madeShare σ cs servers vs zs i) e 0) ≡ getD (madeWhole σ cs servers vs zs) e 0 % q
-  shares-add-up some e l =
-      sum-ext (modulo q) servers _ _ (λ i m. getD-tabulate _ (shareSize cs) e 0 l)
-      ∙ shares-sum σ facts servers (λ e. getD (madeWhole σ cs servers vs zs) e 0) _
-      (λ j e. random-below (4 + j * shareSize cs + e)) some e
+  pub made : Made σ cs servers vs zs
+  made = record {
+    whole-length = length-whole (modulo q) σ cs _ _ _ _ _;
+    parts-are = whole-parts (modulo q) σ cs _ _ _ _ _;
+    share-length = λ i. length-tabulate _ (shareSize cs);
+    share-below = λ i. all-tabulate _ (shareSize cs) (λ e l. number-below σ facts servers _ _ share-random i e);
+    shares-add-up = λ e l.
+        sum-ext (modulo q) servers _ _ (λ i m. getD-tabulate _ (shareSize cs) e 0 l)
+        ∙ numbers-sum σ facts servers (λ e. getD (madeWhole σ cs servers vs zs) e 0) _ share-random some e;
+  }
+    where
+      share-random : (j e : ℕ) → getD zs (4 + j * shareSize cs + e) 0 < q
+      share-random j e = random-below (4 + j * shareSize cs + e)
 
   -- where the entries are below p, so is all of the whole: it is what the elements give
   module _ (entries : (e : ℕ) → getD (encoding cs vs) e 0 < q) where
@@ -144,26 +146,26 @@ module _ (σ : Setting) (facts : Facts σ) (cs : List Column) (servers : ℕ) (v
     whole-below e = subst (λ n. n < q) (whole-value e) (value-below q (facts .prime) _)
 
     -- the added-up share is the whole
-    pub added-is-whole : 0 < servers → (e : ℕ)
+    pub added-is-whole : (e : ℕ)
         → addedUp (modulo q) σ cs servers (λ i e. getD (madeShare σ cs servers vs zs i) e 0) e
         ≡ getD (madeWhole σ cs servers vs zs) e 0
     unfolding addedUp
-    added-is-whole some e = go (decLt e (shareSize cs))
+    added-is-whole e = go (decLt e (shareSize cs))
       where
         past-share : (e < shareSize cs → ⊥) → (i : ℕ) → getD (madeShare σ cs servers vs zs i) e 0 ≡ 0
         past-share l i =
-            let past : length (madeShare σ cs servers vs zs i) ≤ e = omega (arith, length-share i) in
+            let past : length (madeShare σ cs servers vs zs i) ≤ e = omega (arith, made .share-length i) in
             List·getD-eq-default (madeShare σ cs servers vs zs i) 0 past
 
         go : Dec (e < shareSize cs)
             → sum (modulo q) servers (λ i. getD (madeShare σ cs servers vs zs i) e 0) ≡ getD (madeWhole σ cs servers vs zs) e 0
-        go (yes l) = shares-add-up some e l ∙ mod-eq-of-lt (whole-below e)
+        go (yes l) = made .shares-add-up e l ∙ mod-eq-of-lt (whole-below e)
         go (no l) =
-            let past : length (madeWhole σ cs servers vs zs) ≤ e = omega (arith, length-made) in
+            let past : length (madeWhole σ cs servers vs zs) ≤ e = omega (arith, made .whole-length) in
             sum-ext (modulo q) servers _ _ (λ i m. past-share l i)
             ∙ zeros-add q servers
             ∙ sym (List·getD-eq-default (madeWhole σ cs servers vs zs) 0 past)
 
-    pub entries-add-up : 0 < servers → (e : ℕ) → e < entriesIn cs
+    pub entries-add-up : (e : ℕ) → e < entriesIn cs
         → addedUp (modulo q) σ cs servers (λ i e. getD (madeShare σ cs servers vs zs i) e 0) e ≡ getD (encoding cs vs) e 0
-    entries-add-up some e l = added-is-whole some e ∙ made-parts .entry-is e l
+    entries-add-up e l = added-is-whole e ∙ made .parts-are .entry-is e l

@@ -1,0 +1,6 @@
+pub mod Reduction
+pub mod Below
+pub mod Parts
+pub mod Running
+pub mod Falling
+pub mod Recurrence

@@ -8,9 +8,12 @@ ghost use Rattle.algebra.specs.Ops.{minus};
 ghost use Rattle.algebra.specs.Sums.{product as Sums·product, inner as Sums·inner, power};
 ghost use Rattle.algebra.specs.Interpolation.{ascending as Interpolation·ascending, descending as Interpolation·descending};
 ghost use Rattle.algebra.specs.Lists.{tabulate};
-ghost use Rattle.field.specs.Residues.{prime, top, residues, Elements};
+ghost use Rattle.field.specs.Residues.{prime, top, longest, residues, Elements};
 
 pub const P: u32 = 2147483647;
+
+// The most members that `inner` takes.
+pub const LONGEST: usize = 65536;
 
 // P + 1, which leaves 1 modulo P.
 const TOP: u64 = 2147483648;
@@ -75,7 +78,7 @@ pub fn mul_add(a: u32, b: u32, c: u32) -> u32
 // The inner product of a and b, whose members may be any numbers. Low and high parts of the products are summed apart,
 // so that no sum overflows and the loop has no reduction.
 pub fn inner(a: &[u32], b: &[u32]) -> u32
-    requires { ⌜ (length (now a) ≡ length (now b)) × (length (now a) ≤ 65536) ⌝ }
+    requires { ⌜ (length (now a) ≡ length (now b)) × (length (now a) ≤ longest) ⌝ }
     ensures { λ r. ⌜ r ≡ Sums·inner residues (length (now (a .entry)))
         (λ i. getD (now (a .entry)) i 0) (λ i. getD (now (b .entry)) i 0) ⌝ }
 {

@@ -10,12 +10,17 @@ use Rattle.algebra.specs.Sums.{sum, product}
 use Rattle.algebra.specs.Interpolation.{descending}
 use Rattle.algebra.specs.Modulo.{inverseFrom}
 use Rattle.algebra.specs.Lists.{All, all[], all∷, tabulate}
-use Rattle.field.specs.Residues.{prime, residues, Elements}
+use Rattle.field.specs.Residues.{prime, top, residues, Elements}
 
--- a product of two elements, and of two numbers of 32 bits
+-- a product of two elements
 pub product-elements : (a b : ℕ) → a < prime → b < prime → a * b ≤ (prime - 1) * (prime - 1)
 product-elements a b h k = mul-le-mul {n₁ = a} {m₁ = b} {n₂ = prime - 1} {m₂ = prime - 1} (omega arith) (omega arith)
 
+-- of an element and a number up to top
+pub product-top : (a b : ℕ) → a < prime → b ≤ top → a * b ≤ (prime - 1) * top
+product-top a b h k = mul-le-mul {n₁ = a} {m₁ = b} {n₂ = prime - 1} {m₂ = top} (omega arith) k
+
+-- of two numbers of 32 bits
 pub product-words : (a b : ℕ) → a < 2 ^ 32 → b < 2 ^ 32 → a * b < 2 ^ 64
 product-words a b h k =
     omega (arith, mul-le-mul {n₁ = a} {m₁ = b} {n₂ = 2 ^ 32 - 1} {m₂ = 2 ^ 32 - 1} (omega arith) (omega arith))

@@ -8,7 +8,7 @@ ghost use Rattle.algebra.specs.Ops.{minus};
 ghost use Rattle.algebra.specs.Sums.{product as Sums·product, inner as Sums·inner, power};
 ghost use Rattle.algebra.specs.Interpolation.{ascending as Interpolation·ascending, descending as Interpolation·descending};
 ghost use Rattle.algebra.specs.Lists.{tabulate};
-ghost use Rattle.field.specs.Residues.{prime, top, longest, residues, Elements};
+ghost use Rattle.field.specs.Residues.{prime, top, longest, residues};
 
 pub const P: u32 = 2147483647;
 
@@ -65,6 +65,14 @@ pub fn mul(a: u32, b: u32) -> u32
     ensures { λ r. ⌜ r ≡ residues ._⊗_ a b ⌝ }
 {
     reduce(fold(product(a, b)))
+}
+
+// a * x for an element a and any x. What is done to x first does not wait for a.
+pub fn times(a: u32, x: u32) -> u32
+    requires { ⌜ a < prime ⌝ }
+    ensures { λ r. ⌜ r ≡ residues ._⊗_ a x ⌝ }
+{
+    reduce(fold((a as u64) * fold(x as u64)))
 }
 
 // a * b + c
@@ -135,9 +143,9 @@ pub fn descending(x: u32, out: &mut [u32])
     }
 }
 
-// out[j] = xs[0] .. xs[j - 1]: at most one more entry than xs has members.
+// out[j] = xs[0] .. xs[j - 1], where xs may have any numbers as members: at most one more entry than xs has members.
 pub fn running_products(xs: &[u32], out: &mut [u32])
-    requires { ⌜ (length (now out) ≤ length (now xs) + 1) × Elements (now xs) ⌝ }
+    requires { ⌜ length (now out) ≤ length (now xs) + 1 ⌝ }
     ensures { λ _. ⌜ now (out .exit) ≡ tabulate (λ j. Sums·product residues j (λ i. getD (now (xs .entry)) i 0))
         (length (now (out .entry))) ⌝ }
 {
@@ -149,7 +157,7 @@ pub fn running_products(xs: &[u32], out: &mut [u32])
     let mut i = 0;
     while i < last {
         out[i] = acc;
-        acc = mul(acc, xs[i]);
+        acc = times(acc, xs[i]);
         i += 1;
     }
     out[i] = acc;

@@ -6,7 +6,6 @@ use mathlib.Core.List.{List}
 use Prim.Native.Nat.{ℕ, _+_}
 use lib.Dec.{eqb, leb, ltb}
 use lib.ListN.{length}
-use Rattle.algebra.specs.Lists.{every}
 use Rattle.field.specs.Residues.{prime, longest}
 
 -- what is left of `before` by a kernel that computes `result`
@@ -22,7 +21,7 @@ abbrev pub point-fits : ℕ → List ℕ → Bool
 point-fits x out = ltb x prime && leb (length out) prime
 
 abbrev pub products-fit : List ℕ → List ℕ → Bool
-products-fit xs out = leb (length out) (length xs + 1) && every (λ a. ltb a prime) xs
+products-fit xs out = leb (length out) (length xs + 1)
 
 abbrev pub powers-fit : ℕ → Bool
 powers-fit s = ltb s prime

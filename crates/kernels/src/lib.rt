@@ -2,27 +2,12 @@
 // where they fit, and else 1 and changes nothing.
 ghost use mathlib.Core.Path.{_≡_};
 ghost use Prim.Native.Nat.{ℕ, suc, _-_};
-ghost use lib.Dec.{ltb};
 ghost use lib.ListN.{length, getD};
 ghost use Rattle.algebra.specs.Sums.{product, inner, power};
 ghost use Rattle.algebra.specs.Interpolation.{ascending, descending};
-ghost use Rattle.algebra.specs.Lists.{tabulate, every};
-ghost use Rattle.field.specs.Residues.{prime, residues};
+ghost use Rattle.algebra.specs.Lists.{tabulate};
+ghost use Rattle.field.specs.Residues.{residues};
 ghost use Rattle.kernels.specs.Outcomes.{Outcome, inner-fits, point-fits, products-fit, powers-fit, inverses-fit};
-
-// Whether each member is an element.
-fn elements(xs: &[u32]) -> bool
-    ensures { λ r. ⌜ r ≡ every (λ a. ltb a prime) (now (xs .entry)) ⌝ }
-{
-    let mut i = 0;
-    while i < xs.len() {
-        if xs[i] >= field::P {
-            return false;
-        }
-        i += 1;
-    }
-    true
-}
 
 #[no_mangle]
 pub extern "C" fn kernel_inner(a: &[u32], b: &[u32], out: &mut u32) -> u32
@@ -79,9 +64,6 @@ pub extern "C" fn kernel_running_products(xs: &[u32], out: &mut [u32]) -> u32
         (now (out .entry)) r (now (out .exit)) ⌝ }
 {
     if out.len() > xs.len() + 1 {
-        return 1;
-    }
-    if !elements(xs) {
         return 1;
     }
     field::running_products(xs, out);

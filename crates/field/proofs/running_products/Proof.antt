@@ -7,7 +7,6 @@ use mathlib.Core.List.{List, []}
 use native.Mathlib.Omega.{arith}
 use lib.ListN.{length, length-set, getD}
 use Rattle.algebra.specs.Lists.{tabulate}
-use Rattle.field.proofs.Below.{member-below}
 use Rattle.field.proofs.Running.{Running, start, turn, finish, finish-last}
 use Rattle.field.proofs.running_products.Statement.{statement}
 use Rattle.field.proofs.running_products.Tie as tie
@@ -33,16 +32,14 @@ mul-out c = search needs
 slice-write-out : tie.Need-slice-write-out Inv-loop μ-loop
 slice-write-out c = search needs
 
-mul-mul : tie.Need-mul-mul Inv-loop μ-loop
-mul-mul c = search needs
+mul-times : tie.Need-mul-times Inv-loop μ-loop
+mul-times c = search needs
 
-shared-slice-read-mul : tie.Need-shared-slice-read-mul Inv-loop μ-loop
-shared-slice-read-mul c = search needs
+shared-slice-read-times : tie.Need-shared-slice-read-times Inv-loop μ-loop
+shared-slice-read-times c = search needs
 
-mul-requires : tie.Need-mul-requires Inv-loop μ-loop
-mul-requires c κs =
-    let s = c .before .before .before .before .before .before in
-    (omega arith, member-below (s .args .xs .now) (c .before .before .loop .i) (s .pre .1))
+times-requires : tie.Need-times-requires Inv-loop μ-loop
+times-requires c κs = search needs
 
 add-i : tie.Need-add-i Inv-loop μ-loop
 add-i c = search needs
@@ -53,7 +50,7 @@ loop-less c = search needs
 loop-again : tie.Need-loop-again Inv-loop μ-loop
 loop-again c =
     let l = c .before .before .before .loop in
-    (omega arith, omega arith, turn _ (c .mul .result) (l .inv .2) (omega arith) (c .mul .ensures))
+    (omega arith, omega arith, turn _ (c .times .result) (l .inv .2) (omega arith) (c .times .ensures))
 
 mul-out-2 : tie.Need-mul-out-2 Inv-loop μ-loop
 mul-out-2 c = search needs
@@ -78,9 +75,9 @@ running-products-spec =
     loop-holds
     mul-out
     slice-write-out
-    mul-mul
-    shared-slice-read-mul
-    mul-requires
+    mul-times
+    shared-slice-read-times
+    times-requires
     add-i
     loop-less
     loop-again

@@ -68,7 +68,7 @@ pub fn mul(a: u32, b: u32) -> u32
 }
 
 // a * x for an element a and any x. What is done to x first does not wait for a.
-pub fn times(a: u32, x: u32) -> u32
+fn times(a: u32, x: u32) -> u32
     requires { ⌜ a < prime ⌝ }
     ensures { λ r. ⌜ r ≡ residues ._⊗_ a x ⌝ }
 {
@@ -95,23 +95,11 @@ pub fn inner(a: &[u32], b: &[u32]) -> u32
     let mut i = 0;
     while i < a.len() {
         let x = product(a[i], b[i]);
-        low += lower(x);
-        high += upper(x);
+        low += x % TOP;
+        high += x / TOP;
         i += 1;
     }
     reduce(fold(low + high))
-}
-
-fn lower(x: u64) -> u64
-    ensures { λ r. ⌜ r ≡ x % top ⌝ }
-{
-    x % TOP
-}
-
-fn upper(x: u64) -> u64
-    ensures { λ r. ⌜ (r ≡ x / top) × (r < 4 * top) ⌝ }
-{
-    x / TOP
 }
 
 // out[j] = x (x - 1) .. (x - (j - 1))

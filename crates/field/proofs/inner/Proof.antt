@@ -36,14 +36,8 @@ shared-slice-read-product-2 c = search needs
 product-requires : tie.Need-product-requires Inv-loop μ-loop
 product-requires c κs = search needs
 
-lower-requires : tie.Need-lower-requires Inv-loop μ-loop
-lower-requires c κs = search needs
-
 add-low : tie.Need-add-low Inv-loop μ-loop
 add-low c = search needs
-
-upper-requires : tie.Need-upper-requires Inv-loop μ-loop
-upper-requires c κs = search needs
 
 add-high : tie.Need-add-high Inv-loop μ-loop
 add-high c = search needs
@@ -56,11 +50,7 @@ loop-less c = search needs
 
 loop-again : tie.Need-loop-again Inv-loop μ-loop
 loop-again c =
-    let l = c .before .before .before .before .before .before .loop in (
-      omega arith,
-      turn _ _ (c .before .before .product .result) (c .before .lower .result) (c .upper .result) (l .inv .1)
-          (c .before .before .product .ensures) (c .before .lower .ensures) (c .upper .ensures .0) (c .upper .ensures .1),
-    )
+    let z = c .product in (omega arith, turn _ _ (z .result) (c .before .before .before .before .loop .inv .1) (z .ensures) (omega arith))
 
 add-fold : tie.Need-add-fold Inv-loop μ-loop
 add-fold c = search needs
@@ -95,9 +85,7 @@ inner-spec =
     mul-product-2
     shared-slice-read-product-2
     product-requires
-    lower-requires
     add-low
-    upper-requires
     add-high
     add-i
     loop-less

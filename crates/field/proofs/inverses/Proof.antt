@@ -22,19 +22,19 @@ returns : tie.Need-returns Inv-loop μ-loop
 returns c = none (c .before .before .args .out .now) (c .if1 .taken)
 
 slice-write-out : tie.Need-slice-write-out Inv-loop μ-loop
-slice-write-out c = search needs
+slice-write-out c = omega arith
 
 loop-holds : tie.Need-loop-holds Inv-loop μ-loop
 loop-holds c = (simp length-set (omega arith), start (c .before .before .args .out .now) (omega arith))
 
 add-a : tie.Need-add-a Inv-loop μ-loop
-add-a c = search needs
+add-a c = omega arith
 
 cast-a : tie.Need-cast-a Inv-loop μ-loop
-cast-a c = search needs
+cast-a c = omega arith
 
 rem-r : tie.Need-rem-r Inv-loop μ-loop
-rem-r c = search needs
+rem-r c = omega arith
 
 cast-r : tie.Need-cast-r Inv-loop μ-loop
 cast-r c =
@@ -43,7 +43,7 @@ cast-r c =
     omega arith
 
 div-mul : tie.Need-div-mul Inv-loop μ-loop
-div-mul c = search needs
+div-mul c = omega arith
 
 sub-mul : tie.Need-sub-mul Inv-loop μ-loop
 sub-mul c =
@@ -76,16 +76,16 @@ mul-requires c κs =
     (omega arith, rw (entry-at (prime % (l .i + 1)) (l .inv .1) (q .rest) (omega arith)) (inverse-below (prime % (l .i + 1))))
 
 mul-out : tie.Need-mul-out Inv-loop μ-loop
-mul-out c = search needs
+mul-out c = omega arith
 
 slice-write-out-2 : tie.Need-slice-write-out-2 Inv-loop μ-loop
-slice-write-out-2 c = search needs
+slice-write-out-2 c = omega arith
 
 add-i : tie.Need-add-i Inv-loop μ-loop
-add-i c = search needs
+add-i c = omega arith
 
 loop-less : tie.Need-loop-less Inv-loop μ-loop
-loop-less c = search needs
+loop-less c = omega arith
 
 loop-again : tie.Need-loop-again Inv-loop μ-loop
 loop-again c =

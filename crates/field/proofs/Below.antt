@@ -5,11 +5,11 @@ use Prim.Native.Nat.{ℕ, zero, suc, _+_, _-_, _*_, _%_, _^_, _≤_, _<_}
 use native.Mathlib.Nat.{mod-lt, mul-le-mul}
 use native.Mathlib.Omega.{arith}
 use lib.Dec.{lit<}
-use lib.ListN.{length, getD}
+use lib.ListN.{getD}
 use Rattle.algebra.specs.Sums.{sum, product}
 use Rattle.algebra.specs.Interpolation.{descending}
 use Rattle.algebra.specs.Modulo.{inverseFrom}
-use Rattle.algebra.specs.Lists.{All, all[], all∷, tabulate}
+use Rattle.algebra.specs.Lists.{all[], all∷, tabulate}
 use Rattle.field.specs.Residues.{prime, top, residues, Elements}
 
 -- a product of two elements

@@ -14,7 +14,6 @@ use Rattle.algebra.proofs.Tables.{length-tabulate, getD-tabulate, fill-none, fi
 use Rattle.algebra.proofs.Inverse.{inverse-one, inverse-next}
 use Rattle.algebra.proofs.Trial.{prime-2147483647}
 use Rattle.field.specs.Residues.{prime, residues}
-use Rattle.field.proofs.Below.{inverse-below}
 
 -- p / a and p % a, for a above 1 and below the prime
 pub record Divided (a : ℕ) : Type 0 where

@@ -1,6 +1,6 @@
 -- A loop that fills a buffer with the running products of a rule g: after i turns the buffer holds the first i of them, then
 -- what it held before, and acc is the next. One store and one product keep that. Assumes nothing.
-use mathlib.Core.Path.{_≡_, refl, sym, ap, ap₂, _∙_}
+use mathlib.Core.Path.{_≡_, refl, sym, ap, _∙_}
 use mathlib.Core.List.{List, _++_}
 use Prim.Native.Nat.{ℕ, _+_, _≤_, _<_}
 use native.Mathlib.Numerals.{add-one}

@@ -2,7 +2,7 @@
 // definition of algebra at that prime, which also says that the result is an element. No step depends on the value of
 // an element, and no loop but that of `inverses` divides: / and % by TOP are a shift and a mask.
 ghost use mathlib.Core.Path.{_≡_};
-ghost use Prim.Native.Nat.{ℕ, suc, _+_, _-_, _*_, _/_, _%_, _<_, _≤_};
+ghost use Prim.Native.Nat.{suc, _+_, _-_, _*_, _/_, _%_, _<_, _≤_};
 ghost use lib.ListN.{length, getD};
 ghost use Rattle.algebra.specs.Ops.{minus};
 ghost use Rattle.algebra.specs.Sums.{product as Sums·product, inner as Sums·inner, power};

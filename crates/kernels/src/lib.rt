@@ -1,7 +1,6 @@
 // The loops of `field` as functions that C and Rust can call, for measuring them. Each takes any arguments: it answers 0
 // where they fit, and else 1 and changes nothing.
-ghost use mathlib.Core.Path.{_≡_};
-ghost use Prim.Native.Nat.{ℕ, suc, _-_};
+ghost use Prim.Native.Nat.{suc, _-_};
 ghost use lib.ListN.{length, getD};
 ghost use Rattle.algebra.specs.Sums.{product, inner, power};
 ghost use Rattle.algebra.specs.Interpolation.{ascending, descending};

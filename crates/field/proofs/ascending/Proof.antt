@@ -1,11 +1,11 @@
 -- `field::ascending` meets its contract: its loop runs through the products of the rule x - i. Assumes nothing.
 use borrow.Author.Needs.{needs}
 use mathlib.Core.Path.{_≡_, ap, _∙_}
-use Prim.Native.Nat.{ℕ, _+_, _-_}
+use Prim.Native.Nat.{_+_, _-_}
 use native.Mathlib.Omega.{arith}
 use lib.ListN.{length}
 use Rattle.algebra.specs.Ops.{minus}
-use Rattle.field.specs.Residues.{prime, residues}
+use Rattle.field.specs.Residues.{residues}
 use Rattle.field.proofs.Running.{Running, start, turn, finish}
 use Rattle.field.proofs.ascending.Statement.{statement}
 use Rattle.field.proofs.ascending.Tie as tie
@@ -43,10 +43,10 @@ loop-less c = search needs
 loop-again : tie.Need-loop-again Inv-loop μ-loop
 loop-again c =
     let l = c .before .before .before .loop in
+    let x = c .before .before .before .before .before .args .x in
     let image : l .i ≡ residues .ι (0 + l .i) = omega arith in
     turn _ (c .mul .result) (l .inv) (omega arith)
-    (c .mul .ensures
-    ∙ ap (residues ._⊗_ (l .acc)) (c .before .sub .ensures ∙ ap (minus residues (c .before .before .before .before .before .args .x)) image))
+    (c .mul .ensures ∙ ap (residues ._⊗_ (l .acc)) (c .before .sub .ensures ∙ ap (minus residues x) image))
 
 same-length : tie.Need-same-length Inv-loop μ-loop
 same-length c = omega arith

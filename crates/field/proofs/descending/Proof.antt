@@ -4,7 +4,6 @@ use borrow.Author.Needs.{needs}
 use mathlib.Core.Path.{_≡_}
 use Prim.Native.Nat.{suc, _-_}
 use native.Mathlib.Omega.{arith}
-use lib.ListN.{length}
 use Rattle.field.proofs.Falling.{Falling, start, turn, finish}
 use Rattle.field.proofs.descending.Statement.{statement}
 use Rattle.field.proofs.descending.Tie as tie

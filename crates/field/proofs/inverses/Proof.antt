@@ -1,10 +1,9 @@
 -- `field::inverses` meets its contract: its loop fills the table by the recurrence, and reads only what is filled.
 -- Assumes nothing.
-use borrow.Author.Needs.{needs}
-use mathlib.Core.Path.{_≡_, ap, _∙_}
-use Prim.Native.Nat.{ℕ, suc, _+_, _-_, _/_, _%_, _<_, _≤_}
+use mathlib.Core.Path.{ap, _∙_}
+use Prim.Native.Nat.{suc, _+_, _-_, _%_, _<_}
 use native.Mathlib.Omega.{arith}
-use lib.ListN.{length, length-set, getD}
+use lib.ListN.{length, length-set}
 use Rattle.algebra.specs.Lists.{tabulate}
 use Rattle.field.specs.Residues.{prime, residues}
 use Rattle.field.proofs.Below.{inverse-below}

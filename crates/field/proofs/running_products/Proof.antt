@@ -1,12 +1,10 @@
 -- `field::running_products` meets its contract: its loop runs through the products of the members, and the last is stored
 -- after it. Assumes nothing.
 use borrow.Author.Needs.{needs}
-use mathlib.Core.Path.{_≡_, sym, ap, _∙_}
-use Prim.Native.Nat.{ℕ, _+_, _-_, _≤_}
-use mathlib.Core.List.{List, []}
+use mathlib.Core.Path.{_≡_}
+use Prim.Native.Nat.{_+_, _-_, _≤_}
 use native.Mathlib.Omega.{arith}
 use lib.ListN.{length, length-set, getD}
-use Rattle.algebra.specs.Lists.{tabulate}
 use Rattle.field.proofs.Running.{Running, start, turn, finish, finish-last}
 use Rattle.field.proofs.running_products.Statement.{statement}
 use Rattle.field.proofs.running_products.Tie as tie

@@ -1,7 +1,7 @@
 -- `field::times` meets its contract: x folds to at most top, and so the product folds to less than twice the prime; each
 -- fold leaves the same. Assumes nothing.
 use borrow.Author.Needs.{needs}
-use mathlib.Core.Path.{_≡_, ap, sym, _∙_}
+use mathlib.Core.Path.{ap, sym, _∙_}
 use Prim.Native.Nat.{ℕ, _*_, _%_}
 use native.Mathlib.Omega.{arith}
 use Rattle.algebra.proofs.Remainders.{mul-mod-mod}

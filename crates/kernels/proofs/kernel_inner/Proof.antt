@@ -1,5 +1,6 @@
 -- `kernels::kernel_inner` meets its contract: what `field::inner` returns, where it may be called. Assumes nothing.
 use borrow.Author.Needs.{needs}
+use native.Mathlib.Omega.{arith}
 use borrow.Author.Tests.{eq-eqb, ne-eqb, le-leb, lt-leb}
 use lib.Dec.{eqb}
 use lib.ListN.{length}
@@ -16,7 +17,7 @@ returns c =
 returns-2 : tie.Need-returns-2
 returns-2 c =
     let s = c .before .before .before .before .args in
-    refused (not-second (eqb (length (s .a .now)) (length (s .b .now))) (lt-leb (length (s .a .now)) longest (c .if2 .taken)))
+    refused (not-second (eqb (length (s .a .now)) (length (s .b .now))) (lt-leb (length (s .a .now)) longest (omega arith)))
 
 inner-requires : tie.Need-inner-requires
 inner-requires c κs = search needs
@@ -25,8 +26,8 @@ returns-3 : tie.Need-returns-3
 returns-3 c =
     let s = c .before .before .before .before .before .args in
     done
-    (both (eq-eqb (length (s .a .now)) (length (s .b .now)) (c .before .before .if1 .left))
-    (le-leb (length (s .a .now)) longest (c .before .if2 .left)))
+    (both (eq-eqb (length (s .a .now)) (length (s .b .now)) (omega arith))
+    (le-leb (length (s .a .now)) longest (omega arith)))
     (c .inner .ensures)
 
 pub kernel-inner-spec : {M : Type 1} → statement M

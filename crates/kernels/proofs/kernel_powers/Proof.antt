@@ -1,5 +1,6 @@
 -- `kernels::kernel_powers` meets its contract: what `field::powers` leaves, where it may be called. Assumes nothing.
 use borrow.Author.Needs.{needs}
+use native.Mathlib.Omega.{arith}
 use borrow.Author.Tests.{lt-ltb, le-ltb}
 use Rattle.field.specs.Residues.{prime}
 use Rattle.kernels.proofs.Outcomes.{done, refused}
@@ -7,7 +8,7 @@ use Rattle.kernels.proofs.kernel_powers.Statement.{statement}
 use Rattle.kernels.proofs.kernel_powers.Tie as tie
 
 returns : tie.Need-returns
-returns c = refused (le-ltb (c .before .before .args .s) prime (c .if1 .taken))
+returns c = refused (le-ltb (c .before .before .args .s) prime (omega arith))
 
 powers-requires : tie.Need-powers-requires
 powers-requires c κs = search needs
@@ -17,7 +18,7 @@ same-length c = search needs
 
 returns-2 : tie.Need-returns-2
 returns-2 c =
-    done (lt-ltb (c .before .before .before .before .before .before .args .s) prime (c .before .before .before .before .if1 .left))
+    done (lt-ltb (c .before .before .before .before .before .before .args .s) prime (omega arith))
     (c .before .before .powers .ensures)
 
 pub kernel-powers-spec : {M : Type 1} → statement M

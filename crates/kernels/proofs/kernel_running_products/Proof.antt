@@ -2,6 +2,7 @@
 -- Assumes nothing.
 use borrow.Author.Needs.{needs}
 use Prim.Native.Nat.{_+_}
+use native.Mathlib.Omega.{arith}
 use borrow.Author.Tests.{le-leb, lt-leb}
 use lib.ListN.{length}
 use Rattle.kernels.proofs.Outcomes.{done, refused}
@@ -14,7 +15,7 @@ add-if1 c = search needs
 returns : tie.Need-returns
 returns c =
     let s = c .before .before .before .args in
-    refused (lt-leb (length (s .out .now)) (length (s .xs .now) + 1) (c .if1 .taken))
+    refused (lt-leb (length (s .out .now)) (length (s .xs .now) + 1) (omega arith))
 
 running-products-requires : tie.Need-running-products-requires
 running-products-requires c κs = search needs
@@ -25,7 +26,7 @@ same-length c = search needs
 returns-2 : tie.Need-returns-2
 returns-2 c =
     let s = c .before .before .before .before .before .before .before .args in
-    done (le-leb (length (s .out .now)) (length (s .xs .now) + 1) (c .before .before .before .before .if1 .left))
+    done (le-leb (length (s .out .now)) (length (s .xs .now) + 1) (omega arith))
     (c .before .before .running-products .ensures)
 
 pub kernel-running-products-spec : {M : Type 1} → statement M

@@ -1,3 +1,6 @@
 pub mod Computing
 pub mod Examples
 pub mod Natural
+pub mod MessageBytes
+pub mod Checks
+pub mod Moves

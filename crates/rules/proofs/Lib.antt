@@ -4,3 +4,5 @@ pub mod Natural
 pub mod MessageBytes
 pub mod Checks
 pub mod Moves
+pub mod NotesGrow
+pub mod Origins

@@ -6,3 +6,5 @@ pub mod Checks
 pub mod Moves
 pub mod NotesGrow
 pub mod Origins
+pub mod OwnMessages
+pub mod Agreement

@@ -8,3 +8,4 @@ pub mod NotesGrow
 pub mod Origins
 pub mod OwnMessages
 pub mod Agreement
+pub mod Verdicts

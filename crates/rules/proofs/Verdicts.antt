@@ -1,0 +1,119 @@
+-- Fields 5 and 6 of demand 3: a return judged to the end is accepted exactly when its pair lets it in, since with one pair
+-- the sums of the rounds are those that Judging works out from the shares; so one that is delivered whole is accepted.
+-- Assumes, for the second, that a pair lets made shares in.
+use mathlib.Core.Path.{_≡_, refl, sym, ap, ap₂, _∙_, subst}
+use mathlib.Core.Bool.{Bool, true, false, _&&_}
+use mathlib.Core.List.{List}
+use Prim.Native.Nat.{ℕ, _<_}
+use lib.Dec.{eqb}
+use lib.ListN.{length, getD}
+use Rattle.algebra.specs.Lists.{In}
+use Rattle.algebra.specs.Modulo.{modulo}
+use Rattle.algebra.proofs.Sums.{sum-ext}
+use Rattle.words.specs.Bytes.{allBelow}
+use Rattle.rules.specs.Settings.{Setting, Facts}
+use Rattle.rules.specs.Columns.{Column}
+use Rattle.rules.specs.Values.{legalValues}
+use Rattle.rules.specs.Judging.{firstOnly, dOf, eOf, sigmaOf, tauOf, dSum, eSum, sigmaSum, tauSum, allowedPair, letsIn}
+use Rattle.rules.specs.Making.{madeShare, randomCount}
+use Rattle.rules.specs.Server.{waitingOf, sigmaIn}
+use Rattle.rules.specs.Ledger.{Note, Decided, isAccepted, isDropped}
+use Rattle.rules.specs.WholeRun.{Pool, columns, openedAt, ledgerAt, notesAt, returnOf, OnePair, Conditions, DeliveredWhole}
+use Rattle.rules.proofs.NotesGrow.{Sound}
+use Rattle.rules.proofs.Agreement.{sound-at, shareAt, firstAt, secondAt, dAll, eAll, sigmaAll, tauAll, verdictAll, Noted}
+use Rattle.rules.proofs.Agreement.{agreed, noted-everywhere}
+
+-- equal shares are let in by the same pairs
+module _ (σ : Setting) (cs : List Column) (servers : ℕ) (x y : ℕ → ℕ → ℕ) (same : (i : ℕ) → i < servers → x i ≡ y i)
+    (r s : ℕ) where
+
+  d-same : dSum (modulo (σ .modulus)) σ cs servers x r ≡ dSum (modulo (σ .modulus)) σ cs servers y r
+  unfolding dSum
+  d-same = sum-ext (modulo (σ .modulus)) servers _ _ (λ i b.
+    ap (λ (z : ℕ → ℕ). dOf (modulo (σ .modulus)) σ cs (firstOnly (modulo (σ .modulus)) i) z r) (same i b))
+
+  e-same : eSum (modulo (σ .modulus)) σ cs servers x r ≡ eSum (modulo (σ .modulus)) σ cs servers y r
+  unfolding eSum
+  e-same = sum-ext (modulo (σ .modulus)) servers _ _ (λ i b.
+    ap (λ (z : ℕ → ℕ). eOf (modulo (σ .modulus)) σ cs (firstOnly (modulo (σ .modulus)) i) z r) (same i b))
+
+  sigma-same : sigmaSum (modulo (σ .modulus)) σ cs servers x r ≡ sigmaSum (modulo (σ .modulus)) σ cs servers y r
+  unfolding sigmaSum
+  sigma-same = sum-ext (modulo (σ .modulus)) servers _ _ (λ i b t.
+    sigmaOf (modulo (σ .modulus)) σ cs (firstOnly (modulo (σ .modulus)) i) (same i b t) r (d-same t) (e-same t))
+
+  tau-same : tauSum (modulo (σ .modulus)) σ cs servers x s ≡ tauSum (modulo (σ .modulus)) σ cs servers y s
+  unfolding tauSum
+  tau-same = sum-ext (modulo (σ .modulus)) servers _ _ (λ i b.
+    ap (λ (z : ℕ → ℕ). tauOf (modulo (σ .modulus)) σ cs (firstOnly (modulo (σ .modulus)) i) z s) (same i b))
+
+  pub lets-in-same : letsIn σ cs servers x r s ≡ letsIn σ cs servers y r s
+  unfolding letsIn
+  lets-in-same =
+      ap₂ (λ (a b : ℕ). allowedPair σ cs r s && (eqb a 0 && eqb b 0)) sigma-same tau-same
+
+module _ (σ : Setting) (facts : Facts σ) (𝓟 : Pool σ) where
+  -- with one pair the sums are those that Judging works out from the return
+  module _ (id r s : ℕ) (one : (q : ℕ) → q < 𝓟 .servers → (shareAt σ facts 𝓟 id q .r ≡ r) × (shareAt σ facts 𝓟 id q .s ≡ s)) where
+    d-pair : dAll σ facts 𝓟 id ≡ dSum (modulo (σ .modulus)) σ (columns σ 𝓟) (𝓟 .servers) (returnOf σ 𝓟 id) r
+    unfolding dSum waitingOf
+    d-pair = sum-ext (modulo (σ .modulus)) (𝓟 .servers) _ _ (λ q b.
+      ap (dOf (modulo (σ .modulus)) σ (columns σ 𝓟) (firstOnly (modulo (σ .modulus)) q) (returnOf σ 𝓟 id q)) (one q b .0))
+
+    e-pair : eAll σ facts 𝓟 id ≡ eSum (modulo (σ .modulus)) σ (columns σ 𝓟) (𝓟 .servers) (returnOf σ 𝓟 id) r
+    unfolding eSum waitingOf
+    e-pair = sum-ext (modulo (σ .modulus)) (𝓟 .servers) _ _ (λ q b.
+      ap (eOf (modulo (σ .modulus)) σ (columns σ 𝓟) (firstOnly (modulo (σ .modulus)) q) (returnOf σ 𝓟 id q)) (one q b .0))
+
+    sigma-pair : sigmaAll σ facts 𝓟 id ≡ sigmaSum (modulo (σ .modulus)) σ (columns σ 𝓟) (𝓟 .servers) (returnOf σ 𝓟 id) r
+    unfolding sigmaSum waitingOf sigmaIn sigmaOf
+    sigma-pair = sum-ext (modulo (σ .modulus)) (𝓟 .servers) _ _ (λ q b t.
+      sigmaOf (modulo (σ .modulus)) σ (columns σ 𝓟) (firstOnly (modulo (σ .modulus)) q) (returnOf σ 𝓟 id q) (one q b .0 t)
+      (d-pair t) (e-pair t))
+
+    tau-pair : tauAll σ facts 𝓟 id ≡ tauSum (modulo (σ .modulus)) σ (columns σ 𝓟) (𝓟 .servers) (returnOf σ 𝓟 id) s
+    unfolding tauSum waitingOf
+    tau-pair = sum-ext (modulo (σ .modulus)) (𝓟 .servers) _ _ (λ q b.
+      ap (tauOf (modulo (σ .modulus)) σ (columns σ 𝓟) (firstOnly (modulo (σ .modulus)) q) (returnOf σ 𝓟 id q)) (one q b .1))
+
+    verdict-pair : allowedPair σ (columns σ 𝓟) r s ≡ true
+        → verdictAll σ facts 𝓟 id ≡ letsIn σ (columns σ 𝓟) (𝓟 .servers) (returnOf σ 𝓟 id) r s
+    unfolding letsIn
+    verdict-pair a = rw (a, sigma-pair, tau-pair)
+
+  -- 5
+  pub verdict : Conditions σ 𝓟 → (i : ℕ) → i < 𝓟 .servers → (k : Decided) → In k (ledgerAt σ 𝓟 i .decided)
+      → isDropped (k .decision) ≡ false → (r s : ℕ) → OnePair σ 𝓟 (k .note .id) r s
+      → isAccepted (k .decision) ≡ letsIn σ (columns σ 𝓟) (𝓟 .servers) (returnOf σ 𝓟 (k .note .id)) r s
+  verdict 𝓒 i l k h f r s one =
+      let id = k .note .id in
+      let at : (q : ℕ) → q < 𝓟 .servers → Noted σ facts 𝓟 id q = noted-everywhere σ facts 𝓟 𝓒 i l k h f in
+      let pair : (q : ℕ) → q < 𝓟 .servers → (shareAt σ facts 𝓟 id q .r ≡ r) × (shareAt σ facts 𝓟 id q .s ≡ s) =
+          λ q b. one q b (shareAt σ facts 𝓟 id q) (at q b .is-in) (at q b .has-id) in
+      let n : Note = shareAt σ facts 𝓟 id i in
+      let allowed : allowedPair σ (columns σ 𝓟) (n .r) (n .s) ≡ true = sound-at σ facts 𝓟 i l .pairs n (at i l .is-in) in
+      agreed σ facts 𝓟 𝓒 i l k h f
+      ∙ verdict-pair id r s pair
+      (sym (ap₂ (allowedPair σ (columns σ 𝓟)) (pair i l .0) (pair i l .1)) ∙ allowed)
+
+  -- 6, where every allowed pair lets made shares in
+  module _ (made-let-in : (values random : List ℕ) → legalValues (columns σ 𝓟) values ≡ true
+      → length random ≡ randomCount (𝓟 .servers) (columns σ 𝓟) → allBelow (σ .modulus) random ≡ true
+      → (r s : ℕ) → allowedPair σ (columns σ 𝓟) r s ≡ true
+      → letsIn σ (columns σ 𝓟) (𝓟 .servers) (λ i e. getD (madeShare σ (columns σ 𝓟) (𝓟 .servers) values random i) e 0) r s
+      ≡ true) where
+    pub honest : Conditions σ 𝓟 → (i : ℕ) → i < 𝓟 .servers → (k : Decided) → In k (ledgerAt σ 𝓟 i .decided)
+        → isDropped (k .decision) ≡ false → (r s : ℕ) → OnePair σ 𝓟 (k .note .id) r s
+        → DeliveredWhole σ 𝓟 (k .note .id) → isAccepted (k .decision) ≡ true
+    honest 𝓒 i l k h f r s one w =
+        let id = k .note .id in
+        let at : Noted σ facts 𝓟 id i = noted-everywhere σ facts 𝓟 𝓒 i l k h f i l in
+        let n : Note = shareAt σ facts 𝓟 id i in
+        let pair : (n .r ≡ r) × (n .s ≡ s) = one i l n (at .is-in) (at .has-id) in
+        let allowed : allowedPair σ (columns σ 𝓟) r s ≡ true =
+            sym (ap₂ (allowedPair σ (columns σ 𝓟)) (pair .0) (pair .1)) ∙ sound-at σ facts 𝓟 i l .pairs n (at .is-in) in
+        verdict 𝓒 i l k h f r s one
+        ∙ lets-in-same σ (columns σ 𝓟) (𝓟 .servers) (returnOf σ 𝓟 id)
+        (λ i e. getD (madeShare σ (columns σ 𝓟) (𝓟 .servers) (w .values) (w .random) i) e 0)
+        (λ q b t e. getD (w .noted q b t) e 0) r s
+        ∙ made-let-in (w .values) (w .random) (w .legal) (w .enough) (w .below) r s allowed

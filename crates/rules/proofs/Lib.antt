@@ -9,3 +9,5 @@ pub mod Origins
 pub mod OwnMessages
 pub mod Agreement
 pub mod Verdicts
+pub mod ShareBytes
+pub mod Handled

@@ -11,3 +11,4 @@ pub mod Agreement
 pub mod Verdicts
 pub mod ShareBytes
 pub mod Handled
+pub mod SameIds

@@ -20,7 +20,7 @@ use Rattle.rules.specs.Circuit.{gatesOf}
 use Rattle.rules.specs.Run.{Meaning, onList}
 use Rattle.rules.specs.Walk.{sumFrom, lessOne, bitOut, bitsAt, bitTests, sumTests, columnTests}
 use Rattle.rules.specs.Values.{encoded}
-use Rattle.rules.proofs.InLimits.{InLimits}
+use Rattle.rules.proofs.Limits.{InLimits}
 use Rattle.rules.proofs.Digits.{total, Bits, numberOf, number-below, digit-at, number-again, oneAt, one-at-below}
 use Rattle.rules.proofs.Digits.{flag-below, total-most, One, total-one, one-total}
 

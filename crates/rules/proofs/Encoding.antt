@@ -16,7 +16,7 @@ use Rattle.algebra.proofs.Tables.{length-tabulate, getD-tabulate}
 use Rattle.rules.specs.Settings.{Setting, Facts}
 use Rattle.rules.specs.Columns.{Column, yesNo, choice, number, entriesOf, valuesOf, entriesIn}
 use Rattle.rules.specs.Values.{encoded, legalValues, encoding}
-use Rattle.rules.proofs.InLimits.{InLimits}
+use Rattle.rules.proofs.Limits.{InLimits}
 use Rattle.rules.proofs.Digits.{one-at-below}
 
 -- ---- by the first column

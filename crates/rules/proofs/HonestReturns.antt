@@ -18,7 +18,7 @@ use Rattle.rules.specs.Run.{Valid}
 use Rattle.rules.specs.Values.{legalValues, encoding}
 use Rattle.rules.specs.Judging.{addedUp, sigmaSum, tauSum, allowedPair, letsIn}
 use Rattle.rules.specs.Making.{madeShare}
-use Rattle.rules.proofs.InLimits.{InLimits}
+use Rattle.rules.proofs.Limits.{InLimits}
 use Rattle.rules.proofs.Encoding.{entry-below-modulus}
 use Rattle.rules.proofs.Legal.{valid-lifts, tests-say-legal}
 use Rattle.rules.proofs.LetsIn.{allowed-says, zero-lets-in}

@@ -26,7 +26,7 @@ use Rattle.rules.specs.Walk.{columnTests, walkTests}
 use Rattle.rules.specs.Values.{encoded, legalValues, encoding, Encodes}
 use Rattle.rules.proofs.Natural.{run-map, list-keeps}
 use Rattle.rules.proofs.Walk.{walk-is-run}
-use Rattle.rules.proofs.InLimits.{InLimits, sheet-in-limits}
+use Rattle.rules.proofs.Limits.{InLimits, limits}
 use Rattle.rules.proofs.ColumnTests.{column-encoded, encoded-column}
 use Rattle.rules.proofs.Encoding.{not-legal, legal-head, legal-tail, encoding-head, encoding-tail}
 
@@ -184,4 +184,4 @@ module _ (σ : Setting) (facts : Facts σ) where
     -- from a sheet's bytes
     pub sheet-tests-say-legal : (s : List ℕ) → readSheet s ≡ ok cs
         → Valid (modulo (σ .modulus)) σ cs x ↔ Encodes (modulo (σ .modulus)) cs x
-    sheet-tests-say-legal s h = tests-say-legal (sheet-in-limits s cs h)
+    sheet-tests-say-legal s h = tests-say-legal (limits s cs h .in-limits)

@@ -1,7 +1,8 @@
+-- Theorems about the definitions of specs/. Examples: the examples come out. Legal, ReadBack, Walk: demand 2.
 pub mod Computing
 pub mod Examples
-pub mod Natural
 pub mod Facts
+pub mod Natural
 pub mod Growth
 pub mod Stretches
 pub mod Walk
@@ -11,7 +12,6 @@ pub mod Size
 pub mod Counts
 pub mod Sound
 pub mod ReadBack
-pub mod InLimits
 pub mod Digits
 pub mod ColumnTests
 pub mod Encoding
@@ -43,3 +43,13 @@ pub mod Verdicts
 pub mod ShareBytes
 pub mod Handled
 pub mod SameIds
+pub mod TableParts
+pub mod TableKnown
+pub mod TableSound
+pub mod TableWrites
+pub mod TableInvariant
+pub mod WaitBytes
+pub mod TableTaken
+pub mod LedgerGrows
+pub mod TableDecided
+pub mod TableRun

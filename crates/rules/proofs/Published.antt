@@ -1,17 +1,18 @@
 -- Published entries. Those of legal values are at most their column's largest value, so that n of them stay below p where
--- the totals fit; and a bit entry is never published, since its place lies behind its column's first. Assumes nothing.
+-- the totals fit. They are every entry of kinds 17 and 18 and v of kind 19, and no bit entry: by the columns in front.
+-- Assumes nothing.
 use mathlib.Core.Path.{_≡_, refl, sym, _∙_, ap, subst}
-use mathlib.Core.Logic.{⊎-elim}
+use mathlib.Core.Logic.{⊎-elim, inl, inr}
 use mathlib.Core.Bool.{true, false}
 use mathlib.Core.List.{List, [], _∷_, _++_}
 use Prim.Native.Nat.{ℕ, zero, suc, _+_, _-_, _*_, _≤_, _<_}
-use native.Mathlib.Nat.{mul-le-mul-right, mul-comm, zero-add}
+use native.Mathlib.Nat.{mul-le-mul-right, mul-comm, zero-add, add-zero}
 use native.Mathlib.Omega.{arith}
 use borrow.Author.Tests.{ltb-true}
 use lib.Dec.{ltb}
 use lib.ListN.{getD}
 use Rattle.algebra.specs.Lists.{In, every, countFrom}
-use Rattle.algebra.proofs.Members.{and-left, and-right, in-append, in-count}
+use Rattle.algebra.proofs.Members.{and-left, and-right, in-append, append-in, in-count, count-in}
 use Rattle.rules.specs.Settings.{Setting}
 use Rattle.rules.specs.Columns.{Column, yesNo, choice, number, entriesOf, publishedOf, valuesOf, largestOf, entriesIn}
 use Rattle.rules.specs.Columns.{publishedFrom, totalsFit}
@@ -85,26 +86,56 @@ module _ (σ : Setting) (n : ℕ) where
       → (e : ℕ) → In e (publishedFrom 0 cs) → getD (encoding cs vs) e 0 * n < σ .modulus
   published-fits cs vs h f e k = fits-from cs vs h f 0 e (subst (λ i. In i (publishedFrom 0 cs)) (sym (zero-add e)) k)
 
--- ---- bit entries
-bit-from : (before after : List Column) (n j : ℕ) → j < n
-    → (a : ℕ) → In (a + (entriesIn before + suc j)) (publishedFrom a (before ++ (number n ∷ after))) → ⊥
+-- ---- which entries are published: a column behind the columns `before`
+published-at : (c : Column) (after : List Column) (i : ℕ) → i < publishedOf c
+    → (before : List Column) (a : ℕ) → In (a + (entriesIn before + i)) (publishedFrom a (before ++ (c ∷ after)))
+unfolding entriesIn publishedFrom
+published-at c after i l [] a =
+    append-in _ (countFrom a (publishedOf c)) _ (inl (count-in a (publishedOf c) _ (omega arith) (omega arith)))
+published-at c after i l (d ∷ before) a =
+    let there : a + entriesOf d + (entriesIn before + i) ≡ a + (entriesOf d + entriesIn before + i) = omega arith in
+    let rest = publishedFrom (a + entriesOf d) (before ++ (c ∷ after)) in
+    append-in _ (countFrom a (publishedOf d)) rest
+    (inr (subst (λ e. In e rest) there (published-at c after i l before (a + entriesOf d))))
+
+bit-from : (after : List Column) (n j : ℕ) → j < n
+    → (before : List Column) (a : ℕ) → In (a + (entriesIn before + suc j)) (publishedFrom a (before ++ (number n ∷ after))) → ⊥
 unfolding entriesIn publishedFrom publishedOf entriesOf
-bit-from [] after n j l a k =
+bit-from after n j l [] a k =
     ⊎-elim
     (λ q. omega (arith, in-count a 1 _ q .1))
     (λ q. omega (arith, published-from (a + suc n) _ after q))
     (in-append _ (countFrom a 1) (publishedFrom (a + suc n) after) k)
-bit-from (c ∷ before) after n j l a k =
+bit-from after n j l (c ∷ before) a k =
     let rest = publishedFrom (a + entriesOf c) (before ++ (number n ∷ after)) in
     let there : a + (entriesOf c + entriesIn before + suc j) ≡ a + entriesOf c + (entriesIn before + suc j) = omega arith in
     ⊎-elim
     (λ q. omega (arith, in-count a (publishedOf c) _ q .1, published-most c))
-    (λ q. bit-from before after n j l (a + entriesOf c) (subst (λ e. In e rest) there q))
+    (λ q. bit-from after n j l before (a + entriesOf c) (subst (λ e. In e rest) there q))
     (in-append _ (countFrom a (publishedOf c)) rest k)
 
--- "Bit entries are never published": bit j of a number column behind the columns `before`
-pub bits-not-published : (before after : List Column) (n j : ℕ) → j < n
-    → In (entriesIn before + suc j) (publishedFrom 0 (before ++ (number n ∷ after))) → ⊥
-bits-not-published before after n j l k =
-    bit-from before after n j l 0
-    (subst (λ e. In e (publishedFrom 0 (before ++ (number n ∷ after)))) (sym (zero-add (entriesIn before + suc j))) k)
+module _ (before after : List Column) where
+  from-start : (c : Column) (i j : ℕ) → i < publishedOf c → entriesIn before + i ≡ j
+      → In j (publishedFrom 0 (before ++ (c ∷ after)))
+  from-start c i j l e =
+      subst (λ k. In k (publishedFrom 0 (before ++ (c ∷ after)))) (zero-add _ ∙ e) (published-at c after i l before 0)
+
+  -- "every entry of kinds 17 and 18, and v of kind 19"
+  pub yes-no-published : In (entriesIn before) (publishedFrom 0 (before ++ (yesNo ∷ after)))
+  unfolding publishedOf
+  yes-no-published = from-start yesNo 0 _ (omega arith) (add-zero _)
+
+  pub options-published : (n i : ℕ) → i < n → In (entriesIn before + i) (publishedFrom 0 (before ++ (choice n ∷ after)))
+  unfolding publishedOf
+  options-published n i l = from-start (choice n) i _ l refl
+
+  pub number-published : (n : ℕ) → In (entriesIn before) (publishedFrom 0 (before ++ (number n ∷ after)))
+  unfolding publishedOf
+  number-published n = from-start (number n) 0 _ (omega arith) (add-zero _)
+
+  -- "Bit entries are never published"
+  pub bits-not-published : (n j : ℕ) → j < n
+      → In (entriesIn before + suc j) (publishedFrom 0 (before ++ (number n ∷ after))) → ⊥
+  bits-not-published n j l k =
+      bit-from after n j l before 0
+      (subst (λ e. In e (publishedFrom 0 (before ++ (number n ∷ after)))) (sym (zero-add (entriesIn before + suc j))) k)

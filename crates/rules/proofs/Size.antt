@@ -1,5 +1,6 @@
 -- How many bytes a sheet's circuit has. Each column's steps have at most 24 + w bytes for each of its entries, where an
--- element has w bytes; with w = 4 a bound for many numbers and one for few give 7,008 for every sheet. Assumes nothing.
+-- element has w bytes; with w = 4 a bound for many numbers and one for few give at most 7,008 for every sheet.
+-- Assumes nothing.
 use mathlib.Core.Path.{_≡_, refl, _∙_, ap}
 use mathlib.Core.List.{List, [], _∷_, _++_}
 use Prim.Native.Nat.{ℕ, zero, suc, _+_, _*_, _≤_}

@@ -38,6 +38,7 @@ pub mod Moves
 pub mod NotesGrow
 pub mod Origins
 pub mod OwnMessages
+pub mod Opened
 pub mod Agreement
 pub mod Verdicts
 pub mod ShareBytes

@@ -1,24 +1,26 @@
 -- Fields 5 and 6 of demand 3: a return judged to the end is accepted exactly when its pair lets it in, since with one pair
 -- the sums of the rounds are those that Judging works out from the shares; so one that is delivered whole is accepted.
--- Assumes, for the second, that a pair lets made shares in.
+-- Assumes the conditions of whole runs.
 use mathlib.Core.Path.{_≡_, refl, sym, ap, ap₂, _∙_, subst}
 use mathlib.Core.Bool.{Bool, true, false, _&&_}
 use mathlib.Core.List.{List}
 use Prim.Native.Nat.{ℕ, _<_}
+use native.Mathlib.Omega.{arith}
 use lib.Dec.{eqb}
-use lib.ListN.{length, getD}
+use lib.ListN.{getD}
 use Rattle.algebra.specs.Lists.{In}
 use Rattle.algebra.specs.Modulo.{modulo}
 use Rattle.algebra.proofs.Sums.{sum-ext}
-use Rattle.words.specs.Bytes.{allBelow}
 use Rattle.rules.specs.Settings.{Setting, Facts}
 use Rattle.rules.specs.Columns.{Column}
-use Rattle.rules.specs.Values.{legalValues}
 use Rattle.rules.specs.Judging.{firstOnly, dOf, eOf, sigmaOf, tauOf, dSum, eSum, sigmaSum, tauSum, allowedPair, letsIn}
-use Rattle.rules.specs.Making.{madeShare, randomCount}
+use Rattle.rules.specs.Making.{madeShare}
 use Rattle.rules.specs.Server.{waitingOf, sigmaIn}
 use Rattle.rules.specs.Ledger.{Note, Decided, isAccepted, isDropped}
 use Rattle.rules.specs.WholeRun.{Pool, columns, openedAt, ledgerAt, notesAt, returnOf, OnePair, Conditions, DeliveredWhole}
+use Rattle.words.proofs.Below.{all-of-below}
+use Rattle.rules.proofs.Opened.{Opens, opened-says}
+use Rattle.rules.proofs.OnSheets.{sheet-honest-let-in}
 use Rattle.rules.proofs.NotesGrow.{Sound}
 use Rattle.rules.proofs.Agreement.{sound-at, shareAt, firstAt, secondAt, dAll, eAll, sigmaAll, tauAll, verdictAll, Noted}
 use Rattle.rules.proofs.Agreement.{agreed, noted-everywhere}
@@ -96,24 +98,21 @@ module _ (σ : Setting) (facts : Facts σ) (𝓟 : Pool σ) where
       ∙ verdict-pair id r s pair
       (sym (ap₂ (allowedPair σ (columns σ 𝓟)) (pair i l .0) (pair i l .1)) ∙ allowed)
 
-  -- 6, where every allowed pair lets made shares in
-  module _ (made-let-in : (values random : List ℕ) → legalValues (columns σ 𝓟) values ≡ true
-      → length random ≡ randomCount (𝓟 .servers) (columns σ 𝓟) → allBelow (σ .modulus) random ≡ true
-      → (r s : ℕ) → allowedPair σ (columns σ 𝓟) r s ≡ true
-      → letsIn σ (columns σ 𝓟) (𝓟 .servers) (λ i e. getD (madeShare σ (columns σ 𝓟) (𝓟 .servers) values random i) e 0) r s
-      ≡ true) where
-    pub honest : Conditions σ 𝓟 → (i : ℕ) → i < 𝓟 .servers → (k : Decided) → In k (ledgerAt σ 𝓟 i .decided)
-        → isDropped (k .decision) ≡ false → (r s : ℕ) → OnePair σ 𝓟 (k .note .id) r s
-        → DeliveredWhole σ 𝓟 (k .note .id) → isAccepted (k .decision) ≡ true
-    honest 𝓒 i l k h f r s one w =
-        let id = k .note .id in
-        let at : Noted σ facts 𝓟 id i = noted-everywhere σ facts 𝓟 𝓒 i l k h f i l in
-        let n : Note = shareAt σ facts 𝓟 id i in
-        let pair : (n .r ≡ r) × (n .s ≡ s) = one i l n (at .is-in) (at .has-id) in
-        let allowed : allowedPair σ (columns σ 𝓟) r s ≡ true =
-            sym (ap₂ (allowedPair σ (columns σ 𝓟)) (pair .0) (pair .1)) ∙ sound-at σ facts 𝓟 i l .pairs n (at .is-in) in
-        verdict 𝓒 i l k h f r s one
-        ∙ lets-in-same σ (columns σ 𝓟) (𝓟 .servers) (returnOf σ 𝓟 id)
-        (λ i e. getD (madeShare σ (columns σ 𝓟) (𝓟 .servers) (w .values) (w .random) i) e 0)
-        (λ q b t e. getD (w .noted q b t) e 0) r s
-        ∙ made-let-in (w .values) (w .random) (w .legal) (w .enough) (w .below) r s allowed
+  -- 6
+  pub honest : Conditions σ 𝓟 → (i : ℕ) → i < 𝓟 .servers → (k : Decided) → In k (ledgerAt σ 𝓟 i .decided)
+      → isDropped (k .decision) ≡ false → (r s : ℕ) → OnePair σ 𝓟 (k .note .id) r s
+      → DeliveredWhole σ 𝓟 (k .note .id) → isAccepted (k .decision) ≡ true
+  honest 𝓒 i l k h f r s one w =
+      let id = k .note .id in
+      let at : Noted σ facts 𝓟 id i = noted-everywhere σ facts 𝓟 𝓒 i l k h f i l in
+      let n : Note = shareAt σ facts 𝓟 id i in
+      let pair : (n .r ≡ r) × (n .s ≡ s) = one i l n (at .is-in) (at .has-id) in
+      let allowed : allowedPair σ (columns σ 𝓟) r s ≡ true =
+          sym (ap₂ (allowedPair σ (columns σ 𝓟)) (pair .0) (pair .1)) ∙ sound-at σ facts 𝓟 i l .pairs n (at .is-in) in
+      let opens : Opens σ (𝓟 .servers) (𝓟 .sheet) (𝓟 .returns) = opened-says σ _ i _ _ _ (𝓟 .opens i l) in
+      verdict 𝓒 i l k h f r s one
+      ∙ lets-in-same σ (columns σ 𝓟) (𝓟 .servers) (returnOf σ 𝓟 id)
+      (λ i e. getD (madeShare σ (columns σ 𝓟) (𝓟 .servers) (w .values) (w .random) i) e 0)
+      (λ q b t e. getD (w .noted q b t) e 0) r s
+      ∙ sheet-honest-let-in σ facts (𝓟 .sheet) (columns σ 𝓟) (opens .read) (𝓟 .servers) (omega arith)
+      (w .values) (w .random) (w .legal) (all-of-below (σ .modulus) (w .random) (w .below)) r s allowed

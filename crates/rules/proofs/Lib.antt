@@ -54,3 +54,4 @@ pub mod TableTaken
 pub mod LedgerGrows
 pub mod TableDecided
 pub mod TableRun
+pub mod ClosingBytes

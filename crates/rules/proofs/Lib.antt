@@ -55,3 +55,4 @@ pub mod LedgerGrows
 pub mod TableDecided
 pub mod TableRun
 pub mod ClosingBytes
+pub mod JoinedTotals

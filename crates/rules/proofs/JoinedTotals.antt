@@ -49,11 +49,11 @@ module _ (σ : Setting) (facts : Facts σ) (𝓟 : Pool σ) (any : 0 < 𝓟 .ser
   abbrev p : ℕ
   p = σ .modulus
 
-  opens : Opens σ S (𝓟 .sheet) (𝓟 .returns)
+  pub opens : Opens σ S (𝓟 .sheet) (𝓟 .returns)
   opens = opened-says σ S 0 (𝓟 .sheet) (𝓟 .returns) (length (𝓟 .buffers 0)) (𝓟 .opens 0 any)
 
   -- the accepted ids
-  abbrev ids : List ℕ
+  abbrev pub ids : List ℕ
   ids = acceptedAt σ 𝓟 0
 
   abbrev acceptedNotes : ℕ → List Note
@@ -63,7 +63,7 @@ module _ (σ : Setting) (facts : Facts σ) (𝓟 : Pool σ) (any : 0 < 𝓟 .ser
   count-at i l =
       sym (length-map (acceptedNotes i) (λ n. n .id)) ∙ rearranged-length (same-ids σ facts 𝓟 closed 𝓒 i 0 l any)
 
-  few-ids : length ids ≤ 𝓟 .returns
+  pub few-ids : length ids ≤ 𝓟 .returns
   few-ids = omega (arith, count-at 0 any, few-accepted σ facts 𝓟 closed 0 any)
 
   -- ---- the closing messages
@@ -122,7 +122,7 @@ module _ (σ : Setting) (facts : Facts σ) (𝓟 : Pool σ) (any : 0 < 𝓟 .ser
       ∙ ap closing (zero-add i)
 
   -- the count is that of the first
-  count-is : acceptedCount (closings σ 𝓟) ≡ length ids
+  pub count-is : acceptedCount (closings σ 𝓟) ≡ length ids
   count-is =
       let m = messageLength σ cs in
       let front : part 2 4 (take m (closings σ 𝓟)) ≡ part 2 4 (closings σ 𝓟) = part-of-take 2 4 m (closings σ 𝓟) (omega arith) in
@@ -157,7 +157,7 @@ module _ (σ : Setting) (facts : Facts σ) (𝓟 : Pool σ) (any : 0 < 𝓟 .ser
         le-leb _ _ few
       )
 
-  joins : (room : ℕ) → joinRefusal σ S (𝓟 .sheet) (𝓟 .returns) (closings σ 𝓟) room
+  pub joins : (room : ℕ) → joinRefusal σ S (𝓟 .sheet) (𝓟 .returns) (closings σ 𝓟) room
       ≡ check (leb (σ .width * publishedIn cs) room) 14
   unfolding joinRefusal orElse
   joins room = rw (opens .servers-pass, opens .sheet-passes, opens .returns-pass, opens .totals-pass, joined-pass)
@@ -195,7 +195,7 @@ module _ (σ : Setting) (facts : Facts σ) (𝓟 : Pool σ) (any : 0 < 𝓟 .ser
       ∙ sym (sum-rem p (λ id. sumOver (λ i. shareOf e i id) all) ids)
       ∙ ap (λ (v : ℕ). v % p) (sum-cong (λ id. sumOver (λ i. shareOf e i id) all % p) _ ids (λ id q. sym (added-is id e)))
 
-  totals : joinTotals σ S (𝓟 .sheet) (closings σ 𝓟)
+  pub totals : joinTotals σ S (𝓟 .sheet) (closings σ 𝓟)
       ≡ map (λ e. sumOver (λ id. addedEntry σ 𝓟 id e) ids % p) (publishedFrom 0 cs)
   unfolding joinTotals
   totals =

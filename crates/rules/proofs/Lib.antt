@@ -56,3 +56,4 @@ pub mod TableDecided
 pub mod TableRun
 pub mod ClosingBytes
 pub mod JoinedTotals
+pub mod WholeTotals

@@ -103,7 +103,7 @@ module _ (σ : Setting) (o : Opened) where
       (λ new. inr (judged-more (λ j w. append-in j h hs (inr w)) new)) (judged-on r k q f)
 
   -- ---- closing
-  abbrev ended : Progress → Bool
+  abbrev pub ended : Progress → Bool
   ended isIdle = false
   ended (waitsOne n) = false
   ended (waitsTwo n d e) = false

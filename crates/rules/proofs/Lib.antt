@@ -57,3 +57,5 @@ pub mod TableRun
 pub mod ClosingBytes
 pub mod JoinedTotals
 pub mod WholeTotals
+pub mod RunTests
+pub mod RunExamples

@@ -67,7 +67,7 @@ wholeFalse = 2 ∷ 2 ∷ 3 ∷ 6 ∷ 0 ∷ 2147483645 ∷ 5 ∷ 7 ∷ 35 ∷ []
 abbrev false-return : ℕ → List ℕ
 false-return i = tabulate (shareOf (modulo 2147483647) 2 (λ k. getD wholeFalse k 0) (λ j k. getD random (4 + k) 0) i) 9
 
-unfoldable calls : ℕ → List Call
+unfoldable pub calls : ℕ → List Call
 calls i =
     give 77 honest 4 9 i
     ∷ close 100
@@ -88,14 +88,56 @@ calls i =
     ∷ close 10
     ∷ []
 
-is-pool : isPool document01 2 sheet 3 (λ i. replicate 200 0) calls ≡ true
+pub is-pool : isPool document01 2 sheet 3 (λ i. replicate 200 0) calls ≡ true
 unfolding everything isPool opensAt bytesCall calls ones twos oneByOne
 is-pool = refl
 
-abbrev pool : Pool document01
+abbrev pub pool : Pool document01
 pool = poolOf document01 2 sheet 3 (λ i. replicate 200 0) calls is-pool
 
 answers : map short (answersAt document01 pool 1)
     ≡ 100 ∷ 11 ∷ 12 ∷ 14 ∷ 100 ∷ 200 ∷ 10 ∷ 9 ∷ 100 ∷ 100 ∷ 300 ∷ 100 ∷ 400 ∷ 13 ∷ 14 ∷ 100 ∷ 11 ∷ []
 unfolding everything short calls ones twos oneByOne
 answers = refl
+
+pub meets-them : Conditions document01 pool
+unfolding everything meets hasWritten calls ones twos oneByOne
+meets-them = meets-conditions document01 pool refl
+
+pub ended : AllClosed document01 pool
+unfolding everything allEnded isEnded calls ones twos oneByOne
+ended = all-closed document01 pool refl
+
+-- ids 77 and 78 have one pair each
+pub pair-77 : OnePair document01 pool 77 4 9
+unfolding everything onePair calls ones twos oneByOne
+pair-77 = one-pair document01 pool 77 4 9 refl
+
+pub pair-78 : OnePair document01 pool 78 3 9
+unfolding everything onePair calls ones twos oneByOne
+pair-78 = one-pair document01 pool 78 3 9 refl
+
+-- what is promised of it
+pub joined : Closed document01 pool
+joined = closed-together document01 document01-facts pool (omega arith) meets-them ended
+
+-- and what comes of it: 77 is accepted, 79 dropped, and the one total is 1
+accepted-ids : acceptedAt document01 pool 1 ≡ 77 ∷ []
+unfolding everything calls ones twos oneByOne
+accepted-ids = refl
+
+dropped-ids : droppedAt document01 pool 0 ≡ 79 ∷ []
+unfolding everything calls ones twos oneByOne
+dropped-ids = refl
+
+join-passes : joinRefusal document01 2 sheet 3 (closings document01 pool) 4 ≡ 0
+unfolding everything calls ones twos oneByOne
+join-passes = refl
+
+join-count : joinCount (closings document01 pool) ≡ 1
+unfolding everything calls ones twos oneByOne
+join-count = refl
+
+join-totals : joinTotals document01 2 sheet (closings document01 pool) ≡ 1 ∷ []
+unfolding everything calls ones twos oneByOne
+join-totals = refl

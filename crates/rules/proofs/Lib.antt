@@ -59,3 +59,4 @@ pub mod JoinedTotals
 pub mod WholeTotals
 pub mod RunTests
 pub mod RunExamples
+pub mod RunOfThree

@@ -48,6 +48,13 @@ short (wrote m) = 100
 short (judged b) = cond b 200 300
 short done = 400
 
+-- what joining says: refusal, count, totals
+unfoldable pub joinResult : ℕ → List ℕ → ℕ → List ℕ → List ℕ
+joinResult servers sheet returns messages =
+    joinRefusal document01 servers sheet returns messages 1000
+    ∷ joinCount messages
+    ∷ joinTotals document01 servers sheet messages
+
 -- ---- two servers, the sheet 17, at most three returns
 abbrev sheet : List ℕ
 sheet = 17 ∷ []
@@ -130,14 +137,6 @@ dropped-ids : droppedAt document01 pool 0 ≡ 79 ∷ []
 unfolding everything calls ones twos oneByOne
 dropped-ids = refl
 
-join-passes : joinRefusal document01 2 sheet 3 (closings document01 pool) 4 ≡ 0
-unfolding everything calls ones twos oneByOne
-join-passes = refl
-
-join-count : joinCount (closings document01 pool) ≡ 1
-unfolding everything calls ones twos oneByOne
-join-count = refl
-
-join-totals : joinTotals document01 2 sheet (closings document01 pool) ≡ 1 ∷ []
-unfolding everything calls ones twos oneByOne
-join-totals = refl
+join-is : joinResult 2 sheet 3 (closings document01 pool) ≡ 0 ∷ 1 ∷ 1 ∷ []
+unfolding everything joinResult calls ones twos oneByOne
+join-is = refl

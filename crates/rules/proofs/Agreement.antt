@@ -1,15 +1,15 @@
 -- Under the conditions, joined messages that were handed in without refusal are a function of the shares noted: each
 -- was written by its server, for its round and id, and ids differ. So the sums, and the verdict, are the same at every
 -- server that judges a return to the end. Assumes the conditions of whole runs.
-use mathlib.Core.Path.{_≡_, refl, sym, ap, ap₂, _∙_, subst}
-use mathlib.Core.Logic.{_⊎_, ⊎-elim, inl, inr}
-use mathlib.Core.Bool.{Bool, true, false, cond, _&&_}
+use mathlib.Core.Path.{_≡_, sym, ap, ap₂, _∙_, subst}
+use mathlib.Core.Logic.{⊎-elim, inl, inr}
+use mathlib.Core.Bool.{Bool, false, _&&_}
 use mathlib.Core.List.{List, [], _∷_}
-use Prim.Native.Nat.{ℕ, _+_, _≤_, _<_}
+use Prim.Native.Nat.{ℕ, _<_}
 use native.Mathlib.Omega.{arith}
 use borrow.Author.Tests.{eq-eqb, ne-eqb}
 use lib.Dec.{eqb}
-use Rattle.algebra.specs.Lists.{All, all∷, In, Distinct, distinct∷}
+use Rattle.algebra.specs.Lists.{In, Distinct, distinct∷}
 use Rattle.algebra.specs.Modulo.{modulo}
 use Rattle.algebra.specs.Sums.{sum}
 use Rattle.algebra.proofs.Members.{in-map, not-in}
@@ -17,7 +17,7 @@ use Rattle.algebra.proofs.Sums.{sum-ext}
 use Rattle.rules.specs.Settings.{Setting, Facts}
 use Rattle.rules.specs.Messages.{kindIn, idIn, firstIn, secondIn, placeIn, firstSum, secondSum, bothZero}
 use Rattle.rules.specs.Server.{Waiting, sigmaIn, messageOne, messageTwo}
-use Rattle.rules.specs.Ledger.{wrote, Note, Decided, empty, isAccepted, isDropped, idsOf, noted, withSums}
+use Rattle.rules.specs.Ledger.{Note, Decided, empty, isAccepted, isDropped, idsOf, noted, withSums}
 use Rattle.rules.specs.WholeRun.{Pool, openedAt, ledgerAt, answersAt, under, handedIn, notesAt, Conditions}
 use Rattle.rules.proofs.Checks.{IsOf}
 use Rattle.rules.proofs.Moves.{History, history, Joined, answerTo}

@@ -1,15 +1,15 @@
 -- Checks that pass: a check gives 0 exactly where its test holds, since no refusal has the number 0. Joined round
 -- messages that pass are, at each place, of the round, the id and the server. Assumes nothing.
-use mathlib.Core.Path.{_≡_, refl, sym, ap, ap₂, _∙_}
-use mathlib.Core.Bool.{Bool, true, false, cond, _&&_}
-use mathlib.Core.List.{List, [], _∷_}
-use Prim.Native.Nat.{ℕ, zero, suc, _+_, _*_, _^_, _≤_, _<_}
+use mathlib.Core.Path.{_≡_, refl, ap, _∙_}
+use mathlib.Core.Bool.{Bool, true, false, _&&_}
+use mathlib.Core.List.{List}
+use Prim.Native.Nat.{ℕ, suc, _+_, _*_, _^_, _<_}
 use native.Mathlib.Omega.{arith}
-use borrow.Author.Tests.{eqb-true, ltb-true, eq-eqb, lt-ltb}
+use borrow.Author.Tests.{eqb-true, eq-eqb, lt-ltb}
 use lib.Dec.{eqb, ltb}
 use lib.ListN.{length}
-use Rattle.algebra.specs.Lists.{All, In, every, countFrom}
-use Rattle.algebra.proofs.Members.{and-left, and-right, and-true, every-all, all-every, all-in, in-all, in-count, count-in}
+use Rattle.algebra.specs.Lists.{every, countFrom}
+use Rattle.algebra.proofs.Members.{and-left, and-right, every-all, all-every, all-in, in-all, in-count, count-in}
 use Rattle.words.specs.Bytes.{sameBytes}
 use Rattle.words.proofs.Same.{equal-same}
 use Rattle.rules.specs.Settings.{Setting, Facts}

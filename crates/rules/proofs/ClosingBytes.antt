@@ -2,10 +2,10 @@
 -- end are sums over a list, with one remainder. Assumes that count and totals fit.
 use mathlib.Core.Path.{_≡_, refl, sym, ap, ap₂, _∙_}
 use mathlib.Core.List.{List, [], _∷_, _++_, map}
-use Prim.Native.Nat.{ℕ, zero, suc, _+_, _-_, _*_, _%_, _^_, _≤_, _<_}
+use Prim.Native.Nat.{ℕ, zero, suc, _+_, _-_, _*_, _%_, _≤_, _<_}
 use native.Mathlib.Nat.{mod-add-mod, zero-mod, zero-mul, zero-add, add-zero, mul-comm, mul-le-mul-right, le-of-mul-le-mul-left}
 use native.Mathlib.Omega.{arith}
-use lib.ListN.{length, getD, drop, length-append, length-map}
+use lib.ListN.{length, getD, drop, length-append}
 use lib.Seq.{take-at}
 use Rattle.algebra.specs.Lists.{All, In, tabulate, sumOver, countFrom}
 use Rattle.algebra.specs.Modulo.{modulo}

@@ -1,13 +1,13 @@
 -- Field 8 of demand 3: a return of sound shares handed to idle servers is refused nowhere, and its verdict is that of its
 -- pair. Each check is met by what the messages were written with. Assumes nothing.
-use mathlib.Core.Path.{_≡_, refl, sym, ap, ap₂, _∙_, subst}
-use mathlib.Core.Bool.{Bool, true, false, not, _&&_, _||_}
+use mathlib.Core.Path.{_≡_, refl, ap, ap₂, _∙_}
+use mathlib.Core.Bool.{Bool, true, false}
 use mathlib.Core.Logic.{inl, inr}
 use mathlib.Core.List.{List, [], _∷_, _++_}
 use Prim.Native.Nat.{ℕ, zero, suc, _+_, _*_, _≤_, _<_}
 use native.Mathlib.Omega.{arith}
 use borrow.Author.Tests.{eq-eqb, ne-eqb, lt-ltb, le-leb}
-use lib.Dec.{eqb, ltb, leb}
+use lib.Dec.{eqb, ltb}
 use lib.ListN.{length, getD, length-map}
 use Rattle.algebra.specs.Lists.{All, In}
 use Rattle.algebra.specs.Modulo.{modulo}
@@ -16,7 +16,7 @@ use Rattle.words.specs.Bytes.{allBelow}
 use Rattle.words.proofs.Below.{below-of-all}
 use Rattle.records.specs.Outcome.{orElse}
 use Rattle.rules.specs.Settings.{Setting, Facts}
-use Rattle.rules.specs.Judging.{shareSize, firstOnly, dOf, eOf, sigmaOf, tauOf, dSum, eSum, sigmaSum, tauSum, allowedPair, letsIn}
+use Rattle.rules.specs.Judging.{shareSize, firstOnly, sigmaOf, dSum, eSum, sigmaSum, tauSum, allowedPair, letsIn}
 use Rattle.rules.specs.Making.{shareMessage, shareLength}
 use Rattle.rules.specs.Messages.{kindIn, idIn, serverIn, shareElements, roundLength, headerFault, elementsFault}
 use Rattle.rules.specs.Messages.{roundMessage, roundFault, firstSum, secondSum, bothZero}

@@ -1,17 +1,16 @@
 -- Fields 2, 3 and 4 of demand 3: when all servers have closed, the accepted ids are the same at each, and joining the
 -- closing messages is refused 14 at most and gives their number and the sums of the added-up published entries. Sums over
 -- servers and over ids may be taken in either order. Assumes the conditions of whole runs, and that there is a server.
-use mathlib.Core.Path.{_≡_, refl, sym, ap, ap₂, _∙_, subst}
-use mathlib.Core.Logic.{⊎-elim}
-use mathlib.Core.Bool.{Bool, true, false, cond, _&&_}
-use mathlib.Core.List.{List, [], _∷_, _++_, map}
+use mathlib.Core.Path.{_≡_, refl, sym, ap, _∙_}
+use mathlib.Core.Bool.{true}
+use mathlib.Core.List.{List, _++_, map}
 use Prim.Native.Nat.{ℕ, zero, suc, _+_, _*_, _%_, _≤_, _<_}
-use native.Mathlib.Nat.{mod-lt, mod-eq-of-lt, mul-zero, zero-add}
+use native.Mathlib.Nat.{mod-lt, mul-zero, zero-add}
 use native.Mathlib.Omega.{arith}
 use borrow.Author.Tests.{eq-eqb, le-leb}
-use lib.Dec.{eqb, leb}
+use lib.Dec.{leb}
 use lib.ListN.{length, getD, take, drop, length-map}
-use Rattle.algebra.specs.Lists.{All, In, Distinct, sumOver, countFrom, tabulate, every}
+use Rattle.algebra.specs.Lists.{All, sumOver, countFrom, tabulate}
 use Rattle.algebra.specs.Modulo.{modulo}
 use Rattle.algebra.specs.Sums.{sum}
 use Rattle.algebra.proofs.Members.{map-all, in-all}
@@ -23,21 +22,19 @@ use Rattle.words.proofs.Below.{below-of-all}
 use Rattle.words.proofs.Splice.{part-of-take}
 use Rattle.records.specs.Outcome.{orElse}
 use Rattle.rules.specs.Settings.{Setting, Facts}
-use Rattle.rules.specs.Columns.{Column, check, publishedIn, publishedFrom, serversFault, sheetFault, returnsFault, totalsFault}
+use Rattle.rules.specs.Columns.{Column, check, publishedIn, publishedFrom}
 use Rattle.rules.specs.Judging.{addedUp}
-use Rattle.rules.specs.Joining.{messageLength, totalsAt, acceptedCount, sumsIn, totalsSound, joinedFault, joinRefusal, joinCount}
+use Rattle.rules.specs.Joining.{messageLength, totalsAt, acceptedCount, sumsIn, totalsSound, joinedFault, joinRefusal}
 use Rattle.rules.specs.Joining.{joinTotals}
-use Rattle.rules.specs.Ledger.{wrote, Note, Progress, isClosed, Decided, isAccepted, notesWith, ledgerTotals, closingMessage}
-use Rattle.rules.specs.WholeRun.{Pool, columns, openedAt, ledgerAt, answersAt, acceptedAt, returnOf, addedEntry, KeepsForm}
-use Rattle.rules.specs.WholeRun.{Conditions, AllClosed, closingsFrom, closings, Closed}
+use Rattle.rules.specs.Ledger.{Note, isAccepted, notesWith, ledgerTotals, closingMessage}
+use Rattle.rules.specs.WholeRun.{Pool, columns, openedAt, ledgerAt, acceptedAt, returnOf, addedEntry}
+use Rattle.rules.specs.WholeRun.{Conditions, AllClosed, closingsFrom, closings}
 use Rattle.rules.proofs.MessageBytes.{modulus-positive, oneByOne, length-one-by-one, part-one-by-one}
 use Rattle.rules.proofs.Checks.{at-every}
 use Rattle.rules.proofs.Opened.{Opens, opened-says}
-use Rattle.rules.proofs.Origins.{closing-written}
-use Rattle.rules.proofs.Agreement.{history-at}
-use Rattle.rules.proofs.SameIds.{distinct-accepted, few-accepted, own-sum, same-ids}
+use Rattle.rules.proofs.SameIds.{few-accepted, own-sum, same-ids}
 use Rattle.rules.proofs.ClosingBytes.{length-totals, totals-kind, totals-server, totals-count, totals-sums}
-use Rattle.rules.proofs.ClosingBytes.{length-published, map-places, getD-map, sum-modulo, small-sum}
+use Rattle.rules.proofs.ClosingBytes.{length-published, map-places, getD-map, sum-modulo}
 
 module _ (σ : Setting) (facts : Facts σ) (𝓟 : Pool σ) (any : 0 < 𝓟 .servers) (𝓒 : Conditions σ 𝓟) (closed : AllClosed σ 𝓟) where
   abbrev S : ℕ

@@ -1,11 +1,11 @@
 -- A round message is read back: kind, id, server and both elements stand at their places. The messages of several
 -- servers, one after another and of one length, are each found at their own place. Assumes nothing.
 use mathlib.Core.Path.{_≡_, refl, sym, ap, _∙_}
-use mathlib.Core.List.{List, [], _∷_, _++_, append-nil}
+use mathlib.Core.List.{List, [], _∷_, _++_}
 use Prim.Native.Nat.{ℕ, zero, suc, _+_, _*_, _^_, _≤_, _<_}
 use native.Mathlib.Nat.{mul-zero}
 use native.Mathlib.Omega.{arith}
-use lib.ListN.{length, getD, take, drop, length-append}
+use lib.ListN.{length, take, drop, length-append}
 use lib.Seq.{take-at, drop-at, drop-append-add, take-all}
 use Rattle.words.specs.Bytes.{valueOf, bytesOf, part}
 use Rattle.words.proofs.Numbers.{length-bytes, value-bytes}

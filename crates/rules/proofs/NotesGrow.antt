@@ -1,20 +1,20 @@
 -- The shares that a ledger notes: a move leaves them as they are, or adds one at the end whose id is new. So their ids
 -- all differ, they are at most N, and each is still noted at the end. Assumes nothing.
 use mathlib.Core.Path.{_≡_, refl, sym, ap, _∙_, subst}
-use mathlib.Core.Logic.{_⊎_, ⊎-elim, inl, inr, _≢_}
+use mathlib.Core.Logic.{⊎-elim, inl, inr}
 use mathlib.Core.Bool.{true}
-use mathlib.Core.List.{List, [], _∷_, _++_, map, map-append, append-nil}
-use Prim.Native.Nat.{ℕ, suc, _+_, _≤_, _<_}
+use mathlib.Core.List.{List, [], _∷_, _++_, map-append, append-nil}
+use Prim.Native.Nat.{ℕ, _≤_, _<_}
 use native.Mathlib.Omega.{arith}
 use lib.ListN.{length, length-map, length-append}
-use Rattle.algebra.specs.Lists.{All, all[], all∷, In, Distinct, distinct[], distinct∷}
+use Rattle.algebra.specs.Lists.{all[], all∷, In, Distinct, distinct[], distinct∷}
 use Rattle.algebra.proofs.Members.{all-append, in-append, append-in}
 use Rattle.rules.specs.Settings.{Setting}
 use Rattle.rules.specs.Judging.{allowedPair}
 use Rattle.rules.specs.Server.{Opened}
-use Rattle.rules.specs.Ledger.{Answer, Note, Progress, isIdle, waitsOne, Decided, Ledger, empty, idsOf, notesOf}
+use Rattle.rules.specs.Ledger.{Answer, Note, Decided, Ledger, empty, idsOf, notesOf}
 use Rattle.rules.specs.WholeRun.{waitingNote, notesIn}
-use Rattle.rules.proofs.Moves.{at, Taken, Moves, stays, notes, sums, judges, drops, closes, History, over, next}
+use Rattle.rules.proofs.Moves.{Moves, stays, notes, sums, judges, drops, closes, History, over, next}
 
 -- a new member at the end
 pub distinct-end : {A : Type 0} (s : List A) (x : A) → Distinct s → (In x s → ⊥) → Distinct (s ++ (x ∷ []))

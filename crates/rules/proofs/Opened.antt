@@ -1,11 +1,10 @@
 -- What it says that a server's table was opened without refusal: each of opening's checks gives 0. Assumes nothing.
 use mathlib.Core.Path.{_≡_}
-use mathlib.Core.Bool.{Bool, true, _&&_}
+use mathlib.Core.Bool.{true}
 use mathlib.Core.List.{List}
-use Prim.Native.Nat.{ℕ, _≤_, _<_}
+use Prim.Native.Nat.{ℕ, _≤_}
 use borrow.Author.Tests.{leb-true}
 use lib.Dec.{leb}
-use lib.ListN.{length}
 use Rattle.algebra.proofs.Members.{and-left, and-right}
 use Rattle.records.specs.Outcome.{ok, orElse}
 use Rattle.records.proofs.Outcome.{or-zero}

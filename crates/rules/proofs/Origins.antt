@@ -12,7 +12,7 @@ use Rattle.algebra.proofs.Members.{in-append, append-in}
 use Rattle.rules.specs.Settings.{Setting}
 use Rattle.rules.specs.Messages.{bothZero}
 use Rattle.rules.specs.Server.{Opened, messageOne}
-use Rattle.rules.specs.Ledger.{Answer, refused, wrote, judged, done, Note, Progress, isIdle, waitsOne, waitsTwo, isClosed}
+use Rattle.rules.specs.Ledger.{Answer, wrote, Note, Progress, isIdle, waitsOne, waitsTwo, isClosed}
 use Rattle.rules.specs.Ledger.{accepted, rejected, Decided, Ledger, isAccepted, isDropped, notesOf, closingMessage, noted}
 use Rattle.rules.specs.WholeRun.{waitingNote, notesIn}
 use Rattle.rules.proofs.Moves.{at, Moves, stays, notes, sums, judges, drops, closes, History, over, next, Joined}

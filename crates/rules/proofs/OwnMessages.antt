@@ -1,18 +1,17 @@
 -- What is read in the messages that a server writes: round, id and the elements that Judging works out, which are below p
 -- since each is a remainder. Assumes nothing.
-use mathlib.Core.Path.{_≡_, refl, ap, _∙_}
-use mathlib.Core.List.{List, [], _∷_}
-use Prim.Native.Nat.{ℕ, zero, suc, _+_, _%_, _^_, _≤_, _<_}
+use mathlib.Core.Path.{_≡_, refl}
+use mathlib.Core.List.{List}
+use Prim.Native.Nat.{ℕ, zero, suc, _+_, _^_, _<_}
 use native.Mathlib.Nat.{mod-lt}
 use native.Mathlib.Omega.{arith}
-use lib.ListN.{length, getD}
 use Rattle.algebra.specs.Modulo.{modulo}
 use Rattle.algebra.specs.Sums.{sum}
 use Rattle.rules.specs.Settings.{Setting, Facts}
 use Rattle.rules.specs.Judging.{dOf, eOf, sigmaFrom, tauOf, folded}
 use Rattle.rules.specs.Messages.{kindIn, idIn, firstIn, secondIn}
 use Rattle.rules.specs.Server.{Opened, Waiting, waitingOf, sigmaIn, messageOne, messageTwo, totalsMessage}
-use Rattle.rules.specs.Ledger.{Note, Ledger, noted, withSums, closingMessage}
+use Rattle.rules.specs.Ledger.{Note, Ledger, noted, closingMessage}
 use Rattle.rules.proofs.MessageBytes.{modulus-positive, round-kind, round-id, round-first, round-second}
 
 pub sum-below : (p : ℕ) → 0 < p → (n : ℕ) (f : ℕ → ℕ) → sum (modulo p) n f < p

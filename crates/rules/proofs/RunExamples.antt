@@ -1,15 +1,15 @@
 -- A whole run of two servers with the sheet 17: an honest return is accepted, a false one rejected, one dropped, and calls
 -- are refused in between; antt computes it. It meets the conditions, so what demand 3 says of it holds. Assumes nothing.
 use mathlib.Core.Path.{_≡_, refl}
-use mathlib.Core.Bool.{Bool, true, false, cond}
+use mathlib.Core.Bool.{true, cond}
 use mathlib.Core.List.{List, [], _∷_, map}
-use Prim.Native.Nat.{ℕ, zero, suc, _+_, _<_}
+use Prim.Native.Nat.{ℕ, _+_}
 use native.Mathlib.Omega.{arith}
 use lib.ListN.{getD, replicate}
 use Rattle.algebra.specs.Lists.{tabulate}
 use Rattle.algebra.specs.Modulo.{modulo}
-use Rattle.rules.specs.Settings.{Setting, document01}
-use Rattle.rules.specs.Columns.{Column, columnsOf}
+use Rattle.rules.specs.Settings.{document01}
+use Rattle.rules.specs.Columns.{columnsOf}
 use Rattle.rules.specs.Making.{shareOf, madeShare, shareMessage}
 use Rattle.rules.specs.Server.{Opened, Waiting, waitingOf, messageOne, messageTwo, summed}
 use Rattle.rules.specs.Joining.{joinRefusal, joinCount, joinTotals}

@@ -1,15 +1,14 @@
 -- Tests that compute, for runs that are given: whether numbers make a pool, whether it meets the conditions of whole runs,
 -- whether an id has one pair, whether all servers have closed. Each is proved to say what it tests. Assumes nothing.
-use mathlib.Core.Path.{_≡_, refl, sym, ap, _∙_}
+use mathlib.Core.Path.{_≡_, refl, ap}
 use mathlib.Core.Logic.{_⊎_, ⊎-elim, inl, inr}
-use mathlib.Core.Bool.{Bool, true, false, not, _&&_, _||_, true≢false, false≢true}
+use mathlib.Core.Bool.{Bool, true, false, not, _&&_, _||_, false≢true}
 use mathlib.Core.List.{List, [], _∷_}
 use Prim.Native.Nat.{ℕ, _<_}
-use native.Mathlib.Omega.{arith}
 use borrow.Author.Tests.{eqb-true, eqb-false, not-true}
 use lib.Dec.{eqb}
 use lib.ListN.{length}
-use Rattle.algebra.specs.Lists.{All, In, every, countFrom}
+use Rattle.algebra.specs.Lists.{In, every, countFrom}
 use Rattle.algebra.proofs.Members.{and-left, and-right, every-all, all-in, all-map}
 use Rattle.words.specs.Bytes.{allBelow, sameBytes}
 use Rattle.words.proofs.Below.{all-of-below}

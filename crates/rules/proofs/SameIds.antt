@@ -1,21 +1,20 @@
 -- When all servers have closed, the ids accepted at one are accepted at each: an id accepted at one server has a share at
 -- every other, is decided there, is not dropped there, and the verdict is the same. Assumes the conditions of whole runs.
 use mathlib.Core.Path.{_≡_, refl, sym, ap, _∙_, subst}
-use mathlib.Core.Logic.{_⊎_, ⊎-elim, inl, inr, _≢_}
+use mathlib.Core.Logic.{inl, inr, _≢_}
 use mathlib.Core.Bool.{Bool, true, false, cond}
-use mathlib.Core.List.{List, [], _∷_, _++_, map, append-nil}
-use Prim.Native.Nat.{ℕ, suc, _+_, _≤_, _<_}
+use mathlib.Core.List.{List, [], _∷_, _++_, append-nil}
+use Prim.Native.Nat.{ℕ, suc, _≤_, _<_}
 use native.Mathlib.Omega.{arith}
 use lib.ListN.{length, getD, length-map}
-use Rattle.algebra.specs.Lists.{All, In, Distinct, distinct[], distinct∷, Rearranged, sumOver}
-use Rattle.algebra.proofs.Members.{in-all, not-in, in-map, of-map, all-in}
-use Rattle.algebra.proofs.Rearrangement.{same-members, rearranged-sum, sum-cong, sum-map}
+use Rattle.algebra.specs.Lists.{In, Distinct, distinct[], distinct∷, Rearranged, sumOver}
+use Rattle.algebra.proofs.Members.{in-all, in-map, of-map, all-in}
+use Rattle.algebra.proofs.Rearrangement.{same-members, sum-cong, sum-map}
 use Rattle.rules.specs.Settings.{Setting, Facts}
-use Rattle.rules.specs.Ledger.{Note, Progress, isClosed, Decision, accepted, rejected, dropped, Decided, isAccepted, isDropped}
+use Rattle.rules.specs.Ledger.{Note, Progress, Decision, accepted, rejected, dropped, Decided, isAccepted, isDropped}
 use Rattle.rules.specs.Ledger.{notesWith, idsOf, notesOf}
-use Rattle.rules.specs.WholeRun.{Pool, ledgerAt, acceptedAt, droppedAt, waitingNote, notesIn, notesAt, returnOf}
+use Rattle.rules.specs.WholeRun.{Pool, ledgerAt, acceptedAt, waitingNote, notesIn, notesAt, returnOf}
 use Rattle.rules.specs.WholeRun.{Conditions, AllClosed}
-use Rattle.rules.proofs.NotesGrow.{Sound}
 use Rattle.rules.proofs.Agreement.{under-in, sound-at, shareAt, verdictAll, Noted, agreed, noted-everywhere}
 
 -- ---- the notes of the returns whose decision passes

@@ -1,8 +1,8 @@
 -- Fields 5 and 6 of demand 3: a return judged to the end is accepted exactly when its pair lets it in, since with one pair
 -- the sums of the rounds are those that Judging works out from the shares; so one that is delivered whole is accepted.
 -- Assumes the conditions of whole runs.
-use mathlib.Core.Path.{_≡_, refl, sym, ap, ap₂, _∙_, subst}
-use mathlib.Core.Bool.{Bool, true, false, _&&_}
+use mathlib.Core.Path.{_≡_, sym, ap, ap₂, _∙_}
+use mathlib.Core.Bool.{true, false, _&&_}
 use mathlib.Core.List.{List}
 use Prim.Native.Nat.{ℕ, _<_}
 use native.Mathlib.Omega.{arith}
@@ -17,12 +17,11 @@ use Rattle.rules.specs.Judging.{firstOnly, dOf, eOf, sigmaOf, tauOf, dSu
 use Rattle.rules.specs.Making.{madeShare}
 use Rattle.rules.specs.Server.{waitingOf, sigmaIn}
 use Rattle.rules.specs.Ledger.{Note, Decided, isAccepted, isDropped}
-use Rattle.rules.specs.WholeRun.{Pool, columns, openedAt, ledgerAt, notesAt, returnOf, OnePair, Conditions, DeliveredWhole}
+use Rattle.rules.specs.WholeRun.{Pool, columns, ledgerAt, returnOf, OnePair, Conditions, DeliveredWhole}
 use Rattle.words.proofs.Below.{all-of-below}
 use Rattle.rules.proofs.Opened.{Opens, opened-says}
 use Rattle.rules.proofs.OnSheets.{sheet-honest-let-in}
-use Rattle.rules.proofs.NotesGrow.{Sound}
-use Rattle.rules.proofs.Agreement.{sound-at, shareAt, firstAt, secondAt, dAll, eAll, sigmaAll, tauAll, verdictAll, Noted}
+use Rattle.rules.proofs.Agreement.{sound-at, shareAt, dAll, eAll, sigmaAll, tauAll, verdictAll, Noted}
 use Rattle.rules.proofs.Agreement.{agreed, noted-everywhere}
 
 -- equal shares are let in by the same pairs

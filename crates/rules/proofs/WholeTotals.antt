@@ -1,23 +1,23 @@
 -- Where every accepted return keeps its form the totals are the sums themselves: the added-up entries are then encodings
 -- of legal values, and N times a published one stays below p. With this the fields 2, 3 and 4 of demand 3 stand together.
 -- Assumes the conditions of whole runs, and that there is a server.
-use mathlib.Core.Path.{_≡_, refl, sym, ap, _∙_}
+use mathlib.Core.Path.{_≡_, refl, ap, _∙_}
 use mathlib.Core.Logic.{⊎-elim, inl, inr}
 use mathlib.Core.Bool.{true, false, false≢true}
 use mathlib.Core.List.{List, [], _∷_, map}
 use Prim.Native.Nat.{ℕ, _*_, _%_, _≤_, _<_}
 use native.Mathlib.Nat.{mod-le, mod-eq-of-lt, mul-le-mul-right}
 use native.Mathlib.Omega.{arith}
-use lib.ListN.{length, getD}
-use Rattle.algebra.specs.Lists.{All, In, sumOver}
+use lib.ListN.{getD}
+use Rattle.algebra.specs.Lists.{In, sumOver}
 use Rattle.algebra.specs.Modulo.{modulo}
 use Rattle.algebra.proofs.Members.{all-in}
 use Rattle.rules.specs.Settings.{Setting, Facts}
-use Rattle.rules.specs.Columns.{publishedFrom, entriesIn}
+use Rattle.rules.specs.Columns.{publishedFrom}
 use Rattle.rules.specs.Values.{Encodes, encoding}
 use Rattle.rules.specs.Judging.{addedUp}
 use Rattle.rules.specs.Joining.{joinCount, joinTotals}
-use Rattle.rules.specs.Ledger.{wrote, Progress, isClosed, closingMessage}
+use Rattle.rules.specs.Ledger.{wrote, closingMessage}
 use Rattle.rules.specs.WholeRun.{Pool, columns, openedAt, ledgerAt, answersAt, addedEntry, KeepsForm, Conditions, AllClosed}
 use Rattle.rules.specs.WholeRun.{closings, Closed}
 use Rattle.rules.proofs.Limits.{Limits, limits}

@@ -26,35 +26,34 @@ example =
       judge = λ done k body. small body;
     }
 
-module _ where
-  empty : read example [] ≡ ok []
-  unfolding readFrom
-  empty = refl
+empty : read example [] ≡ ok []
+unfolding readFrom
+empty = refl
 
-  three : read example (1 ∷ 2 ∷ 7 ∷ 1 ∷ []) ≡ ok (0 ∷ 7 ∷ 0 ∷ [])
-  unfolding readFrom small
-  three = refl
+three : read example (1 ∷ 2 ∷ 7 ∷ 1 ∷ []) ≡ ok (0 ∷ 7 ∷ 0 ∷ [])
+unfolding readFrom small
+three = refl
 
-  limit : read example (2 ∷ 9 ∷ []) ≡ ok (9 ∷ [])
-  unfolding readFrom small
-  limit = refl
+limit : read example (2 ∷ 9 ∷ []) ≡ ok (9 ∷ [])
+unfolding readFrom small
+limit = refl
 
-  past-limit : read example (1 ∷ 2 ∷ 10 ∷ []) ≡ refused 2
-  unfolding readFrom small
-  past-limit = refl
+past-limit : read example (1 ∷ 2 ∷ 10 ∷ []) ≡ refused 2
+unfolding readFrom small
+past-limit = refl
 
-  unknown : read example (1 ∷ 3 ∷ 2 ∷ 10 ∷ []) ≡ refused 1
-  unfolding readFrom small
-  unknown = refl
+unknown : read example (1 ∷ 3 ∷ 2 ∷ 10 ∷ []) ≡ refused 1
+unfolding readFrom small
+unknown = refl
 
-  cut : read example (2 ∷ 9 ∷ 2 ∷ []) ≡ refused 1
-  unfolding readFrom small
-  cut = refl
+cut : read example (2 ∷ 9 ∷ 2 ∷ []) ≡ refused 1
+unfolding readFrom small
+cut = refl
 
-  -- the first fault counts: the byte past its limit stands before the unknown kind
-  first-fault : read example (2 ∷ 10 ∷ 3 ∷ []) ≡ refused 2
-  unfolding readFrom small
-  first-fault = refl
+-- the first fault counts: the byte past its limit stands before the unknown kind
+first-fault : read example (2 ∷ 10 ∷ 3 ∷ []) ≡ refused 2
+unfolding readFrom small
+first-fault = refl
 
 -- each byte within the limit is read, whatever follows
 any-byte : (b : ℕ) (t : List ℕ) (done : List ℕ) → b ≤ 9

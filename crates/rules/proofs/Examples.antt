@@ -2,7 +2,7 @@
 use mathlib.Core.Bool.{true}
 use mathlib.Core.Path.{_≡_, refl}
 use Rattle.algebra.specs.Lists.{every}
-use Rattle.rules.specs.Examples.{marked, unmarked}
+use Rattle.rules.specs.Examples.{marked, unmarked, onTables}
 use Rattle.rules.proofs.Computing.{everything}
 
 pub marked-hold : every (λ row. row .holds) marked ≡ true
@@ -12,3 +12,7 @@ marked-hold = refl
 pub unmarked-hold : every (λ row. row .holds) unmarked ≡ true
 unfolding everything unmarked
 unmarked-hold = refl
+
+pub on-tables-hold : every (λ row. row .holds) onTables ≡ true
+unfolding everything onTables
+on-tables-hold = refl

@@ -1,7 +1,9 @@
--- Theorems about the definitions of specs/. Examples: the examples come out. Legal, ReadBack, Walk: demand 2.
+-- Theorems about the definitions of specs/.
+-- The examples, and the facts of document 01's setting
 pub mod Computing
 pub mod Examples
 pub mod Facts
+-- Demand 2: walking the columns is the circuit's run; limits; a sheet's circuit is read; tests say legal
 pub mod Natural
 pub mod Growth
 pub mod Stretches
@@ -17,6 +19,7 @@ pub mod ColumnTests
 pub mod Encoding
 pub mod Published
 pub mod Legal
+-- Judging and making: linearity, few pairs, shares add up, honest returns
 pub mod Linear
 pub mod Truth
 pub mod Adding
@@ -24,14 +27,15 @@ pub mod JudgingHom
 pub mod MakingHom
 pub mod Few
 pub mod Elements
+pub mod LetsIn
 pub mod FewPairs
 pub mod Whole
 pub mod EntriesRead
 pub mod Shares
 pub mod Honest
-pub mod LetsIn
 pub mod HonestReturns
 pub mod OnSheets
+-- Demand 3: the table's bytes tell what the ledger tells
 pub mod MessageBytes
 pub mod Checks
 pub mod Moves
@@ -54,6 +58,7 @@ pub mod TableTaken
 pub mod LedgerGrows
 pub mod TableDecided
 pub mod TableRun
+pub mod TableOpens
 pub mod ClosingBytes
 pub mod JoinedTotals
 pub mod WholeTotals

@@ -95,7 +95,7 @@ module _ (σ : Setting) (facts : Facts σ) (o : Opened) (sheet : List ℕ) (many
   abbrev W : ℕ
   W = σ .width
 
-  width-positive : 0 < W
+  pub width-positive : 0 < W
   width-positive = go W (facts .fits)
     where
       go : (w : ℕ) → σ .modulus ≤ 256 ^ w → 0 < w

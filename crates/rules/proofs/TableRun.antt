@@ -40,7 +40,7 @@ use Rattle.rules.proofs.TableTaken.{share-taken, one-taken}
 use Rattle.rules.proofs.TableDecided.{Waits, kept, admitted}
 
 -- a check that did not refuse
-passed : (b : Bool) (n : ℕ) → 0 < n → check b n ≡ 0 → b ≡ true
+pub passed : (b : Bool) (n : ℕ) → 0 < n → check b n ≡ 0 → b ≡ true
 passed true n h e = refl
 passed false n h e = absurd (omega arith)
 

@@ -6,7 +6,8 @@ use mathlib.Core.List.{List, [], _∷_, _++_}
 use Prim.Native.Nat.{ℕ, zero, suc, _+_, _-_, _*_}
 use Prim.Native.String.{String}
 use lib.Dec.{eqb}
-use lib.ListN.{length, getD, replicate}
+use lib.ListN.{length, getD, set, take, replicate}
+use Rattle.algebra.specs.Lists.{tabulate}
 use Rattle.algebra.specs.Modulo.{modulo}
 use Rattle.words.specs.Bytes.{bytesOf, bytesOfAll, sameBytes}
 use Rattle.rules.specs.Settings.{Setting, document01}
@@ -16,8 +17,9 @@ use Rattle.rules.specs.CircuitReader.{circuitFault, countIn, stepWires, 
 use Rattle.rules.specs.Values.{encoding}
 use Rattle.rules.specs.Judging.{dSum, eSum, sigmaSum, tauSum, letsIn}
 use Rattle.rules.specs.Making.{madeWhole, madeShare, shareLength, shareMessage, shareOf, makeRefusal}
-use Rattle.rules.specs.Table.{openRefusal, openBytes, shareRefused}
-use Rattle.rules.specs.Joining.{joinRefusal}
+use Rattle.rules.specs.Table.{openRefusal, openBytes, shareRefused, shareTable, shareBytes, oneRefused, oneTable, oneBytes}
+use Rattle.rules.specs.Table.{twoRefused, twoVerdict, twoTable, dropRefused, dropTable, closeRefused, closeTable, closeBytes}
+use Rattle.rules.specs.Joining.{joinRefusal, joinCount, joinTotals}
 use Rattle.rules.specs.Recount.{recountText}
 
 pub record Row : Type 0 where
@@ -180,4 +182,89 @@ unmarked =
     ∷ row "entry L: 3" (eqb (circuitFault σ 1 (2 ∷ 1 ∷ 0 ∷ [])) 3)
     ∷ row "the largest circuit of a sheet: 1,248 wires" (eqb (suc (wiresIn (columnsOf largest))) 1248)
     ∷ row "7,008 bytes" (eqb (length (circuitBytes σ (circuitOf σ (columnsOf largest)))) 7008)
+    ∷ []
+
+-- Two servers, sheet 17, N = 2: the calls on their tables, one after another. The share of server i under an id
+abbrev shareIn : (ℕ → ℕ → ℕ) → ℕ → ℕ → List ℕ
+shareIn x id i = shareMessage σ id i (tabulate (x i) 9)
+
+abbrev fresh : ℕ → List ℕ
+fresh i = openBytes σ 2 i (17 ∷ []) 2
+
+-- what the two servers write for a return with the shares x, under an id, with the challenges r and 9
+module _ (T : ℕ → List ℕ) (x : ℕ → ℕ → ℕ) (id r : ℕ) where
+  abbrev took : ℕ → List ℕ
+  took i = shareTable σ (T i) (shareIn x id i) r 9
+
+  abbrev ones : List ℕ
+  ones = shareBytes σ (T 0) (shareIn x id 0) r 9 ++ shareBytes σ (T 1) (shareIn x id 1) r 9
+
+  abbrev summedUp : ℕ → List ℕ
+  summedUp i = oneTable σ (took i) ones
+
+  abbrev twos : List ℕ
+  twos = oneBytes σ (took 0) ones ++ oneBytes σ (took 1) ones
+
+  abbrev judgedBy : ℕ → List ℕ
+  judgedBy i = twoTable σ (summedUp i) twos
+
+-- after an honest return under 77; then after a false one under 78 with r = 3; then closed
+abbrev first : ℕ → List ℕ
+first = judgedBy fresh honest 77 4
+
+abbrev second : ℕ → List ℕ
+second = judgedBy first cheat 78 3
+
+abbrev joinedTotals : List ℕ
+joinedTotals = closeBytes σ (second 0) ++ closeBytes σ (second 1)
+
+-- the tables after the first share, and after the second was dropped
+abbrev waiting : ℕ → List ℕ
+waiting = took fresh honest 77 4
+
+abbrev messages : List ℕ
+messages = ones fresh honest 77 4
+
+abbrev afterDrop : ℕ → List ℕ
+afterDrop i = dropTable σ (waiting i)
+
+abbrev shareOf77 : List ℕ
+shareOf77 = shareIn honest 77 0
+
+abbrev broken : List ℕ
+broken = 0 ∷ []
+
+unfoldable pub onTables : List Row
+onTables =
+    row "an honest return is accepted" (twoVerdict σ (summedUp fresh honest 77 4 0) (twos fresh honest 77 4))
+    ∷ row "round one and two are not refused"
+      (eqb (oneRefused σ (waiting 0) messages 14) 0 && eqb (twoRefused σ (summedUp fresh honest 77 4 0) (twos fresh honest 77 4)) 0)
+    ∷ row "a false return is rejected" (not (twoVerdict σ (summedUp first cheat 78 3 1) (twos first cheat 78 3)))
+    ∷ row "the first return decided: a second is taken" (eqb (shareRefused σ (first 0) (shareIn cheat 78 0) 3 9 14) 0)
+    ∷ row "N decided: every share is 13, however broken" (eqb (shareRefused σ (second 0) broken 3 9 14) 13)
+    ∷ row "below N a broken share is 7" (eqb (shareRefused σ (first 0) broken 3 9 14) 7)
+    ∷ row "closing is not refused" (eqb (closeRefused σ (second 0) 10) 0)
+    ∷ row "joining is not refused" (eqb (joinRefusal σ 2 (17 ∷ []) 2 joinedTotals 4) 0)
+    ∷ row "one return was accepted" (eqb (joinCount joinedTotals) 1)
+    ∷ row "the total is 1" (same (joinTotals σ 2 (17 ∷ []) joinedTotals) (1 ∷ []))
+    ∷ row "an accepted id used again: 10" (eqb (shareRefused σ (first 0) shareOf77 4 9 14) 10)
+    ∷ row "a dropped id used again: 10" (eqb (shareRefused σ (afterDrop 0) shareOf77 4 9 14) 10)
+    ∷ row "a dropped return is not added" (same (closeBytes σ (afterDrop 0)) (36 ∷ 0 ∷ 0 ∷ 0 ∷ 0 ∷ 0 ∷ 0 ∷ 0 ∷ 0 ∷ 0 ∷ []))
+    ∷ row "own round message altered: 12" (eqb (oneRefused σ (waiting 0) (set messages 6 255) 14) 12)
+    ∷ row "another's sound message is not compared" (eqb (oneRefused σ (waiting 0) (set messages 20 7) 14) 0)
+    ∷ row "messages of another id: 12" (eqb (oneRefused σ (waiting 0) (ones fresh honest 78 4) 14) 12)
+    ∷ row "messages of the other round: 12" (eqb (oneRefused σ (waiting 0) (twos fresh honest 77 4) 14) 12)
+    ∷ row "one message missing: 12" (eqb (oneRefused σ (waiting 0) (take 14 messages) 14) 12)
+    ∷ row "room for 13 bytes: 14" (eqb (oneRefused σ (waiting 0) messages 13) 14)
+    ∷ row "a share while one waits: 11" (eqb (shareRefused σ (waiting 0) (shareIn honest 79 0) 4 9 14) 11)
+    ∷ row "a close while one waits: 11" (eqb (closeRefused σ (waiting 0) 100) 11)
+    ∷ row "round two before round one: 11" (eqb (twoRefused σ (waiting 0) (twos fresh honest 77 4)) 11)
+    ∷ row "a drop with nothing waiting: 11" (eqb (dropRefused σ (fresh 0)) 11)
+    ∷ row "closed: everything is 11" (eqb (shareRefused σ (closeTable σ (first 0)) broken 3 9 14) 11 && eqb (closeRefused σ (closeTable σ (first 0)) 100) 11)
+    ∷ row "a share for another server: 7" (eqb (shareRefused σ (fresh 1) shareOf77 4 9 14) 7)
+    ∷ row "an element that is p: 8" (eqb (shareRefused σ (fresh 0) (take 6 shareOf77 ++ bytesOfAll 4 (P ∷ replicate 8 0)) 4 9 14) 8)
+    ∷ row "a table cut by a byte: 11" (eqb (closeRefused σ (take (length (fresh 0) - 1) (fresh 0)) 100) 11)
+    ∷ row "totals counts unequal: 12" (eqb (joinRefusal σ 2 (17 ∷ []) 2 (set joinedTotals 2 0) 4) 12)
+    ∷ row "totals counts over N: 12" (eqb (joinRefusal σ 2 (17 ∷ []) 2 (set (set joinedTotals 2 3) 12 3) 4) 12)
+    ∷ row "totals in another server order: 12" (eqb (joinRefusal σ 2 (17 ∷ []) 2 (closeBytes σ (second 1) ++ closeBytes σ (second 0)) 4) 12)
     ∷ []

@@ -36,18 +36,6 @@ pub mod Honest
 pub mod HonestReturns
 pub mod OnSheets
 -- Demand 3: the table's bytes tell what the ledger tells
-pub mod MessageBytes
-pub mod Checks
-pub mod Moves
-pub mod NotesGrow
-pub mod Origins
-pub mod OwnMessages
-pub mod Opened
-pub mod Agreement
-pub mod Verdicts
-pub mod ShareBytes
-pub mod Handled
-pub mod SameIds
 pub mod TableParts
 pub mod TableKnown
 pub mod TableSound
@@ -59,9 +47,25 @@ pub mod LedgerGrows
 pub mod TableDecided
 pub mod TableRun
 pub mod TableOpens
+-- Demand 3: the bytes of messages; what a call does to a ledger, and what a history of calls comes to
+pub mod MessageBytes
+pub mod ShareBytes
 pub mod ClosingBytes
+pub mod Checks
+pub mod Opened
+pub mod Moves
+pub mod NotesGrow
+pub mod Origins
+pub mod OwnMessages
+-- Demand 3: verdicts, the same ids, totals; a sound return is handled; the whole claim
+pub mod Agreement
+pub mod Verdicts
+pub mod SameIds
 pub mod JoinedTotals
 pub mod WholeTotals
+pub mod Handled
+pub mod WholeRuns
+-- Runs that compute and meet the conditions
 pub mod RunTests
 pub mod RunExamples
 pub mod RunOfThree

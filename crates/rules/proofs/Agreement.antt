@@ -39,14 +39,7 @@ under-in n (y ∷ ns) (distinct∷ fresh d) (inr h) =
         not-in (y .id) (idsOf ns) fresh
         (subst (λ (v : ℕ). In v (idsOf ns)) (sym e) (in-map (λ (v : Note). v .id) n ns h))
 
-module _ (σ : Setting) (facts : Facts σ) (𝓟 : Pool σ) where
-  pub history-at : (i : ℕ) → i < 𝓟 .servers
-      → History σ (openedAt σ 𝓟 i) empty (answersAt σ 𝓟 i) (handedIn σ (openedAt σ 𝓟 i) empty (𝓟 .calls i)) (ledgerAt σ 𝓟 i)
-  history-at i h = history σ (openedAt σ 𝓟 i) empty (𝓟 .calls i) (𝓟 .call-bytes i h)
-
-  pub sound-at : (i : ℕ) → i < 𝓟 .servers → Sound σ (openedAt σ 𝓟 i) (notesAt σ 𝓟 i)
-  sound-at i h = sound-notes σ (openedAt σ 𝓟 i) (history-at i h)
-
+module _ (σ : Setting) (𝓟 : Pool σ) where
   -- the share that server q noted under an id, and what it comes to in both rounds
   abbrev pub shareAt : ℕ → ℕ → Note
   shareAt id q = under id (notesAt σ 𝓟 q)
@@ -78,6 +71,13 @@ module _ (σ : Setting) (facts : Facts σ) (𝓟 : Pool σ) where
     pub is-in : In (shareAt id q) (notesAt σ 𝓟 q)
     pub has-id : shareAt id q .id ≡ id
 
+  pub history-at : (i : ℕ) → i < 𝓟 .servers
+      → History σ (openedAt σ 𝓟 i) empty (answersAt σ 𝓟 i) (handedIn σ (openedAt σ 𝓟 i) empty (𝓟 .calls i)) (ledgerAt σ 𝓟 i)
+  history-at i h = history σ (openedAt σ 𝓟 i) empty (𝓟 .calls i) (𝓟 .call-bytes i h)
+
+  pub sound-at : (i : ℕ) → i < 𝓟 .servers → Sound σ (openedAt σ 𝓟 i) (notesAt σ 𝓟 i)
+  sound-at i h = sound-notes σ (openedAt σ 𝓟 i) (history-at i h)
+
   found : (id q : ℕ) → q < 𝓟 .servers → (n : Note) → In n (notesAt σ 𝓟 q) → n .id ≡ id → shareAt id q ≡ n
   found id q b n h e = subst (λ (v : ℕ). shareAt v q ≡ n) e (under-in n (notesAt σ 𝓟 q) (sound-at q b .apart) h)
 
@@ -86,7 +86,7 @@ module _ (σ : Setting) (facts : Facts σ) (𝓟 : Pool σ) where
       let f : shareAt id q ≡ n = found id q b n h e in
       record { is-in = subst (λ (v : Note). In v (notesAt σ 𝓟 q)) (sym f) h; has-id = ap (λ (v : Note). v .id) f ∙ e }
 
-  module _ (𝓒 : Conditions σ 𝓟) where
+  module _ (facts : Facts σ) (𝓒 : Conditions σ 𝓟) where
     abbrev Handed : ℕ → List ℕ → Type 0
     Handed i joined = In joined (handedIn σ (openedAt σ 𝓟 i) empty (𝓟 .calls i))
 
@@ -105,14 +105,14 @@ module _ (σ : Setting) (facts : Facts σ) (𝓟 : Pool σ) where
         go (of-share n a e) =
             let o = openedAt σ 𝓟 q in
             let r : idIn (messageOne σ o (noted σ o n)) ≡ noted σ o n .id =
-                id-one σ facts o (noted σ o n) (rw (id-noted σ facts o n) (sound-at q b .ids-fit n a)) in
-            let same : n .id ≡ id = sym (id-noted σ facts o n) ∙ sym r ∙ ap idIn (sym e) ∙ f .id-is in
+                id-one σ o (noted σ o n) (rw (id-noted σ o n) (sound-at q b .ids-fit n a)) in
+            let same : n .id ≡ id = sym (id-noted σ o n) ∙ sym r ∙ ap idIn (sym e) ∙ f .id-is in
             e ∙ ap (λ (v : Note). messageOne σ o (noted σ o v)) (sym (found id q b n a same))
         go (of-one n a j k s e) =
-            let z : kindIn (placeIn σ joined q) ≡ 35 = ap kindIn e ∙ kind-two σ facts (openedAt σ 𝓟 q) _ in
+            let z : kindIn (placeIn σ joined q) ≡ 35 = ap kindIn e ∙ kind-two σ (openedAt σ 𝓟 q) _ in
             absurd (omega (arith, f .kind-is))
         go (of-close m e) =
-            let z : kindIn (placeIn σ joined q) ≡ σ .totalsByte = ap kindIn e ∙ kind-closing σ facts (openedAt σ 𝓟 q) m in
+            let z : kindIn (placeIn σ joined q) ≡ σ .totalsByte = ap kindIn e ∙ kind-closing σ (openedAt σ 𝓟 q) m in
             absurd (omega (arith, f .kind-is, facts .apart))
 
     module _ (i : ℕ) (l : i < 𝓟 .servers) (id : ℕ) (joined : List ℕ) (h : Handed i joined)
@@ -141,14 +141,14 @@ module _ (σ : Setting) (facts : Facts σ) (𝓟 : Pool σ) where
         go : Origin σ (openedAt σ 𝓟 q) (notesAt σ 𝓟 q) (handedIn σ (openedAt σ 𝓟 q) empty (𝓟 .calls q)) (placeIn σ joined q)
             → Second joined id q
         go (of-share n a e) =
-            let z : kindIn (placeIn σ joined q) ≡ 34 = ap kindIn e ∙ kind-one σ facts (openedAt σ 𝓟 q) _ in
+            let z : kindIn (placeIn σ joined q) ≡ 34 = ap kindIn e ∙ kind-one σ (openedAt σ 𝓟 q) _ in
             absurd (omega (arith, f .kind-is))
         go (of-one n a j k s e) =
             let o = openedAt σ 𝓟 q in
             let w = withSums σ o (noted σ o n) (firstSum σ (𝓟 .servers) j) (secondSum σ (𝓟 .servers) j) in
             let r : idIn (answerTo σ o n j) ≡ w .id =
-                id-two σ facts o w (rw (id-noted σ facts o n) (sound-at q b .ids-fit n a)) in
-            let same : n .id ≡ id = sym (id-noted σ facts o n) ∙ sym r ∙ ap idIn (sym e) ∙ f .id-is in
+                id-two σ o w (rw (id-noted σ o n) (sound-at q b .ids-fit n a)) in
+            let same : n .id ≡ id = sym (id-noted σ o n) ∙ sym r ∙ ap idIn (sym e) ∙ f .id-is in
             let s′ : Joined σ o 34 id j = subst (λ (v : ℕ). Joined σ o 34 v j) same s in
             let d : firstSum σ (𝓟 .servers) j ≡ dAll id = first-sum q b id j k s′ in
             let c : secondSum σ (𝓟 .servers) j ≡ eAll id = second-sum q b id j k s′ in
@@ -161,7 +161,7 @@ module _ (σ : Setting) (facts : Facts σ) (𝓟 : Pool σ) where
               of = is-noted id q b n a same;
             }
         go (of-close m e) =
-            let z : kindIn (placeIn σ joined q) ≡ σ .totalsByte = ap kindIn e ∙ kind-closing σ facts (openedAt σ 𝓟 q) m in
+            let z : kindIn (placeIn σ joined q) ≡ σ .totalsByte = ap kindIn e ∙ kind-closing σ (openedAt σ 𝓟 q) m in
             absurd (omega (arith, f .kind-is, facts .apart))
 
     both-zero : (i : ℕ) → i < 𝓟 .servers → (id : ℕ) (joined : List ℕ) → Handed i joined

@@ -50,7 +50,7 @@ module _ (σ : Setting) (facts : Facts σ) (𝓟 : Pool σ) (any : 0 < 𝓟 .ser
   opens = opened-says σ S 0 (𝓟 .sheet) (𝓟 .returns) (length (𝓟 .buffers 0)) (𝓟 .opens 0 any)
 
   -- the accepted ids
-  abbrev pub ids : List ℕ
+  abbrev ids : List ℕ
   ids = acceptedAt σ 𝓟 0
 
   abbrev acceptedNotes : ℕ → List Note
@@ -58,10 +58,10 @@ module _ (σ : Setting) (facts : Facts σ) (𝓟 : Pool σ) (any : 0 < 𝓟 .ser
 
   count-at : (i : ℕ) → i < S → length (acceptedNotes i) ≡ length ids
   count-at i l =
-      sym (length-map (acceptedNotes i) (λ n. n .id)) ∙ rearranged-length (same-ids σ facts 𝓟 closed 𝓒 i 0 l any)
+      sym (length-map (acceptedNotes i) (λ n. n .id)) ∙ rearranged-length (same-ids σ 𝓟 closed facts 𝓒 i 0 l any)
 
   pub few-ids : length ids ≤ 𝓟 .returns
-  few-ids = omega (arith, count-at 0 any, few-accepted σ facts 𝓟 closed 0 any)
+  few-ids = omega (arith, count-at 0 any, few-accepted σ 𝓟 closed 0 any)
 
   -- ---- the closing messages
   abbrev closing : ℕ → List ℕ
@@ -95,7 +95,7 @@ module _ (σ : Setting) (facts : Facts σ) (𝓟 : Pool σ) (any : 0 < 𝓟 .ser
   closing-count : (i : ℕ) → i < S → acceptedCount (closing i) ≡ length ids
   unfolding closingMessage
   closing-count i l =
-      let few : length (acceptedNotes i) < 4294967296 = omega (arith, few-accepted σ facts 𝓟 closed i l, opens .most) in
+      let few : length (acceptedNotes i) < 4294967296 = omega (arith, few-accepted σ 𝓟 closed i l, opens .most) in
       totals-count σ (openedAt σ 𝓟 i) (length (acceptedNotes i)) (totalsOf i) few ∙ count-at i l
 
   closing-sums : (i : ℕ) → sumsIn σ (closing i) ≡ totalsOf i
@@ -172,8 +172,8 @@ module _ (σ : Setting) (facts : Facts σ) (𝓟 : Pool σ) (any : 0 < 𝓟 .ser
       ∙ ap (λ (v : List ℕ). getD v k 0) (closing-sums i)
       ∙ getD-map (λ e. sumOver (λ n. getD (n .elements) e 0) (acceptedNotes i) % p) (publishedFrom 0 cs) k h
       ∙ ap (λ (v : ℕ). v % p)
-      (own-sum σ facts 𝓟 closed i l (getD (publishedFrom 0 cs) k 0)
-      ∙ rearranged-sum (shareOf (getD (publishedFrom 0 cs) k 0) i) (same-ids σ facts 𝓟 closed 𝓒 i 0 l any))
+      (own-sum σ 𝓟 closed i l (getD (publishedFrom 0 cs) k 0)
+      ∙ rearranged-sum (shareOf (getD (publishedFrom 0 cs) k 0) i) (same-ids σ 𝓟 closed facts 𝓒 i 0 l any))
 
   added-is : (id e : ℕ) → addedEntry σ 𝓟 id e ≡ sumOver (λ i. shareOf e i id) (countFrom 0 S) % p
   unfolding addedUp

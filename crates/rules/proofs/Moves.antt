@@ -13,15 +13,15 @@ use Rattle.algebra.specs.Lists.{All, all[], all∷, In}
 use Rattle.algebra.proofs.Members.{and-left}
 use Rattle.words.proofs.Numbers.{value-below}
 use Rattle.words.proofs.Splice.{length-part}
-use Rattle.words.proofs.Below.{all-take, all-drop}
-use Rattle.words.specs.Bytes.{part}
+use Rattle.words.proofs.Below.{all-take, all-drop, all-of-below}
+use Rattle.words.specs.Bytes.{part, allBelow}
 use Rattle.records.specs.Outcome.{orElse}
 use Rattle.records.proofs.Outcome.{or-zero}
 use Rattle.rules.specs.Settings.{Setting}
 use Rattle.rules.specs.Columns.{check}
 use Rattle.rules.specs.Judging.{allowedPair}
 use Rattle.rules.specs.Making.{shareLength}
-use Rattle.rules.specs.Messages.{kindIn, idIn, serverIn, placeIn, roundLength, headerFault, elementsFault, roundFault}
+use Rattle.rules.specs.Messages.{kindIn, idIn, serverIn, shareElements, placeIn, roundLength, headerFault, elementsFault, roundFault}
 use Rattle.rules.specs.Messages.{firstSum, secondSum, bothZero}
 use Rattle.rules.specs.Server.{Opened, waitingOf, has, messageOne, messageTwo, shareRefusal, oneRefusal, twoRefusal, dropRefusal}
 use Rattle.rules.specs.Server.{closeRefusal, whileIdle, whileOne, whileTwo, whileWaiting}
@@ -54,6 +54,7 @@ module _ (σ : Setting) (o : Opened) where
     pub unused : In (n .id) (idsOf (notesOf ds)) → ⊥
     pub id-fits : n .id < 4294967296
     pub pair : allowedPair σ (o .columns) (n .r) (n .s) ≡ true
+    pub below : All (λ x. x < σ .modulus) (n .elements)
 
   -- joined messages of a round and an id
   abbrev pub Joined : ℕ → ℕ → List ℕ → Type 0
@@ -93,7 +94,7 @@ module _ (σ : Setting) (o : Opened) where
   -- ---- each call is a move
   taken-share : (ds : List Decided) (m : List ℕ) (r s room : ℕ) → All (λ b. b < 256) m
       → shareRefusal σ (told σ o (at isIdle ds)) m r s room ≡ 0 → Taken ds (noteOf σ o m r s)
-  unfolding shareRefusal told stageTold whileIdle headerFault shareLength
+  unfolding shareRefusal told stageTold whileIdle headerFault elementsFault shareLength
   taken-share ds m r s room bytes e =
       let cs = o .columns in
       let used : List ℕ = idsOf (notesOf ds) in
@@ -118,6 +119,8 @@ module _ (σ : Setting) (o : Opened) where
         unused = has-not (idIn m) used (not-true _ (check-passed (not (has (idIn m) used)) 9 (e₄ .0)));
         id-fits = value-below 4 (part 1 4 m) four (all-take _ 4 (all-drop _ 1 bytes));
         pair = check-passed (allowedPair σ cs r s) 8 (e₅ .0);
+        below = all-of-below (σ .modulus) (shareElements σ m)
+          (check-passed (allBelow (σ .modulus) (shareElements σ m)) 7 (e₃ .0));
       }
 
   passed : (p : Progress) (ds : List Decided) (c : Call) → BytesIn c → refusalOf σ o (at p ds) c ≡ 0

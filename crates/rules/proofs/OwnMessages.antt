@@ -19,6 +19,34 @@ unfolding sum
 sum-below p h zero f = h
 sum-below p h (suc n) f = mod-lt (sum (modulo p) n f + f n) h
 
+-- ---- rounds and ids
+module _ (σ : Setting) (o : Opened) where
+  pub kind-one : (w : Waiting) → kindIn (messageOne σ o w) ≡ 34
+  unfolding messageOne
+  kind-one w = round-kind σ 34 (w .id) (o .own) (w .d) (w .e)
+
+  pub kind-two : (w : Waiting) → kindIn (messageTwo σ o w) ≡ 35
+  unfolding messageTwo
+  kind-two w = round-kind σ 35 (w .id) (o .own) (sigmaIn σ o w) (w .tau)
+
+  pub kind-closing : (l : Ledger) → kindIn (closingMessage σ o l) ≡ σ .totalsByte
+  unfolding closingMessage totalsMessage
+  kind-closing l = refl
+
+  pub id-one : (w : Waiting) → w .id < 4294967296 → idIn (messageOne σ o w) ≡ w .id
+  unfolding messageOne
+  id-one w h = round-id σ 34 (w .id) (o .own) (w .d) (w .e) h
+
+  pub id-two : (w : Waiting) → w .id < 4294967296 → idIn (messageTwo σ o w) ≡ w .id
+  unfolding messageTwo
+  id-two w h = round-id σ 35 (w .id) (o .own) (sigmaIn σ o w) (w .tau) h
+
+  -- the id that is noted
+  pub id-noted : (n : Note) → noted σ o n .id ≡ n .id
+  unfolding waitingOf
+  id-noted n = refl
+
+-- ---- elements
 module _ (σ : Setting) (facts : Facts σ) (o : Opened) where
   abbrev Below : ℕ → Type 0
   Below x = x < σ .modulus
@@ -42,15 +70,6 @@ module _ (σ : Setting) (facts : Facts σ) (o : Opened) where
   fits : (n : ℕ) → Below n → n < 256 ^ σ .width
   fits n h = omega (arith, facts .fits)
 
-  -- round one
-  pub kind-one : (w : Waiting) → kindIn (messageOne σ o w) ≡ 34
-  unfolding messageOne
-  kind-one w = round-kind σ 34 (w .id) (o .own) (w .d) (w .e)
-
-  pub id-one : (w : Waiting) → w .id < 4294967296 → idIn (messageOne σ o w) ≡ w .id
-  unfolding messageOne
-  id-one w h = round-id σ 34 (w .id) (o .own) (w .d) (w .e) h
-
   pub first-one : (w : Waiting) → Below (w .d) → firstIn σ (messageOne σ o w) ≡ w .d
   unfolding messageOne
   first-one w h = round-first σ 34 (w .id) (o .own) (w .d) (w .e) (fits (w .d) h)
@@ -59,15 +78,6 @@ module _ (σ : Setting) (facts : Facts σ) (o : Opened) where
   unfolding messageOne
   second-one w h = round-second σ 34 (w .id) (o .own) (w .d) (w .e) (fits (w .e) h)
 
-  -- round two
-  pub kind-two : (w : Waiting) → kindIn (messageTwo σ o w) ≡ 35
-  unfolding messageTwo
-  kind-two w = round-kind σ 35 (w .id) (o .own) (sigmaIn σ o w) (w .tau)
-
-  pub id-two : (w : Waiting) → w .id < 4294967296 → idIn (messageTwo σ o w) ≡ w .id
-  unfolding messageTwo
-  id-two w h = round-id σ 35 (w .id) (o .own) (sigmaIn σ o w) (w .tau) h
-
   pub first-two : (w : Waiting) → firstIn σ (messageTwo σ o w) ≡ sigmaIn σ o w
   unfolding messageTwo
   first-two w = round-first σ 35 (w .id) (o .own) (sigmaIn σ o w) (w .tau) (fits (sigmaIn σ o w) (sigma-below w))
@@ -75,13 +85,3 @@ module _ (σ : Setting) (facts : Facts σ) (o : Opened) where
   pub second-two : (w : Waiting) → Below (w .tau) → secondIn σ (messageTwo σ o w) ≡ w .tau
   unfolding messageTwo
   second-two w h = round-second σ 35 (w .id) (o .own) (sigmaIn σ o w) (w .tau) (fits (w .tau) h)
-
-  -- the id that is noted
-  pub id-noted : (n : Note) → noted σ o n .id ≡ n .id
-  unfolding waitingOf
-  id-noted n = refl
-
-  -- closing
-  pub kind-closing : (l : Ledger) → kindIn (closingMessage σ o l) ≡ σ .totalsByte
-  unfolding closingMessage totalsMessage
-  kind-closing l = refl

@@ -87,7 +87,7 @@ accepted-kept accepted e = refl
 accepted-kept rejected e = refl
 accepted-kept dropped e = sym e
 
-module _ (σ : Setting) (facts : Facts σ) (𝓟 : Pool σ) (closed : AllClosed σ 𝓟) where
+module _ (σ : Setting) (𝓟 : Pool σ) (closed : AllClosed σ 𝓟) where
   abbrev decided : ℕ → List Decided
   decided i = ledgerAt σ 𝓟 i .decided
 
@@ -99,12 +99,12 @@ module _ (σ : Setting) (facts : Facts σ) (𝓟 : Pool σ) (closed : AllClosed 
   pub distinct-accepted : (i : ℕ) → i < 𝓟 .servers → Distinct (acceptedAt σ 𝓟 i)
   distinct-accepted i l =
       with-distinct isAccepted (decided i)
-      (subst (λ (v : List Note). Distinct (idsOf v)) (closed-notes i l) (sound-at σ facts 𝓟 i l .apart))
+      (subst (λ (v : List Note). Distinct (idsOf v)) (closed-notes i l) (sound-at σ 𝓟 i l .apart))
 
   pub few-accepted : (i : ℕ) → i < 𝓟 .servers → length (notesWith isAccepted (decided i)) ≤ 𝓟 .returns
   few-accepted i l =
       let a : length (notesAt σ 𝓟 i) ≡ length (decided i) = ap length (closed-notes i l) ∙ length-map (decided i) (λ k. k .note) in
-      omega (arith, sound-at σ facts 𝓟 i l .few, with-length isAccepted (decided i))
+      omega (arith, sound-at σ 𝓟 i l .few, with-length isAccepted (decided i))
 
   -- the server's shares of an entry, over the ids that it accepted
   pub own-sum : (i : ℕ) → i < 𝓟 .servers → (e : ℕ)
@@ -117,10 +117,10 @@ module _ (σ : Setting) (facts : Facts σ) (𝓟 : Pool σ) (closed : AllClosed 
           λ n h. subst (λ (v : List Note). In n v) (sym (closed-notes i l)) (with-notes isAccepted n (decided i) h) in
       sum-cong (λ (n : Note). getD (n .elements) e 0) (λ (n : Note). f (n .id)) ns
       (λ n h. ap (λ (v : Note). getD (v .elements) e 0)
-        (sym (under-in n (notesAt σ 𝓟 i) (sound-at σ facts 𝓟 i l .apart) (there n h))))
+        (sym (under-in n (notesAt σ 𝓟 i) (sound-at σ 𝓟 i l .apart) (there n h))))
       ∙ sym (sum-map f (λ (n : Note). n .id) ns)
 
-  module _ (𝓒 : Conditions σ 𝓟) where
+  module _ (facts : Facts σ) (𝓒 : Conditions σ 𝓟) where
     also : (i j : ℕ) → i < 𝓟 .servers → j < 𝓟 .servers → (id : ℕ) → In id (acceptedAt σ 𝓟 i) → In id (acceptedAt σ 𝓟 j)
     also i j l b id h =
         let a = of-map (λ (n : Note). n .id) id (notesWith isAccepted (decided i)) h in
@@ -128,10 +128,10 @@ module _ (σ : Setting) (facts : Facts σ) (𝓟 : Pool σ) (closed : AllClosed 
         let k : Decided = c .which in
         let same : k .note .id ≡ id = ap (λ (n : Note). n .id) (c .is-note) ∙ a .2 in
         let kept : isDropped (k .decision) ≡ false = accepted-kept (k .decision) (c .passes) in
-        let at : Noted σ facts 𝓟 (k .note .id) j = noted-everywhere σ facts 𝓟 𝓒 i l k (c .is-in) kept j b in
-        let there : In (shareAt σ facts 𝓟 (k .note .id) j) (notesOf (decided j)) =
-            subst (λ (v : List Note). In (shareAt σ facts 𝓟 (k .note .id) j) v) (closed-notes j b) (at .is-in) in
-        let z = of-map (λ (v : Decided). v .note) (shareAt σ facts 𝓟 (k .note .id) j) (decided j) there in
+        let at : Noted σ 𝓟 (k .note .id) j = noted-everywhere σ 𝓟 facts 𝓒 i l k (c .is-in) kept j b in
+        let there : In (shareAt σ 𝓟 (k .note .id) j) (notesOf (decided j)) =
+            subst (λ (v : List Note). In (shareAt σ 𝓟 (k .note .id) j) v) (closed-notes j b) (at .is-in) in
+        let z = of-map (λ (v : Decided). v .note) (shareAt σ 𝓟 (k .note .id) j) (decided j) there in
         let k′ : Decided = z .0 in
         let same′ : k′ .note .id ≡ k .note .id = ap (λ (n : Note). n .id) (z .2) ∙ at .has-id in
         let back : (t : Decision → Bool) → t (k′ .decision) ≡ true → In id (idsOf (notesWith t (decided j))) =
@@ -139,9 +139,9 @@ module _ (σ : Setting) (facts : Facts σ) (𝓟 : Pool σ) (closed : AllClosed 
               (in-map (λ (n : Note). n .id) (k′ .note) (notesWith t (decided j)) (with-of t k′ (decided j) (z .1) e)) in
         either (isDropped (k′ .decision)) refl (λ e. 𝓒 .same-drops j i b l id (back isDropped e) h)
         (λ e. back isAccepted
-          (agreed σ facts 𝓟 𝓒 j b k′ (z .1) e
-          ∙ ap (verdictAll σ facts 𝓟) same′
-          ∙ sym (agreed σ facts 𝓟 𝓒 i l k (c .is-in) kept)
+          (agreed σ 𝓟 facts 𝓒 j b k′ (z .1) e
+          ∙ ap (verdictAll σ 𝓟) same′
+          ∙ sym (agreed σ 𝓟 facts 𝓒 i l k (c .is-in) kept)
           ∙ c .passes))
       where
         either : {d : Bool} (t : Bool) → d ≡ t → (d ≡ true → ⊥) → (d ≡ false → In id (acceptedAt σ 𝓟 j))

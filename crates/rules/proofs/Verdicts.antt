@@ -53,48 +53,49 @@ module _ (σ : Setting) (cs : List Column) (servers : ℕ) (x y : ℕ → ℕ �
   lets-in-same =
       ap₂ (λ (a b : ℕ). allowedPair σ cs r s && (eqb a 0 && eqb b 0)) sigma-same tau-same
 
+-- with one pair the sums are those that Judging works out from the return
+module _ (σ : Setting) (𝓟 : Pool σ) (id r s : ℕ)
+    (one : (q : ℕ) → q < 𝓟 .servers → (shareAt σ 𝓟 id q .r ≡ r) × (shareAt σ 𝓟 id q .s ≡ s)) where
+  d-pair : dAll σ 𝓟 id ≡ dSum (modulo (σ .modulus)) σ (columns σ 𝓟) (𝓟 .servers) (returnOf σ 𝓟 id) r
+  unfolding dSum waitingOf
+  d-pair = sum-ext (modulo (σ .modulus)) (𝓟 .servers) _ _ (λ q b.
+    ap (dOf (modulo (σ .modulus)) σ (columns σ 𝓟) (firstOnly (modulo (σ .modulus)) q) (returnOf σ 𝓟 id q)) (one q b .0))
+
+  e-pair : eAll σ 𝓟 id ≡ eSum (modulo (σ .modulus)) σ (columns σ 𝓟) (𝓟 .servers) (returnOf σ 𝓟 id) r
+  unfolding eSum waitingOf
+  e-pair = sum-ext (modulo (σ .modulus)) (𝓟 .servers) _ _ (λ q b.
+    ap (eOf (modulo (σ .modulus)) σ (columns σ 𝓟) (firstOnly (modulo (σ .modulus)) q) (returnOf σ 𝓟 id q)) (one q b .0))
+
+  sigma-pair : sigmaAll σ 𝓟 id ≡ sigmaSum (modulo (σ .modulus)) σ (columns σ 𝓟) (𝓟 .servers) (returnOf σ 𝓟 id) r
+  unfolding sigmaSum waitingOf sigmaIn sigmaOf
+  sigma-pair = sum-ext (modulo (σ .modulus)) (𝓟 .servers) _ _ (λ q b t.
+    sigmaOf (modulo (σ .modulus)) σ (columns σ 𝓟) (firstOnly (modulo (σ .modulus)) q) (returnOf σ 𝓟 id q) (one q b .0 t)
+    (d-pair t) (e-pair t))
+
+  tau-pair : tauAll σ 𝓟 id ≡ tauSum (modulo (σ .modulus)) σ (columns σ 𝓟) (𝓟 .servers) (returnOf σ 𝓟 id) s
+  unfolding tauSum waitingOf
+  tau-pair = sum-ext (modulo (σ .modulus)) (𝓟 .servers) _ _ (λ q b.
+    ap (tauOf (modulo (σ .modulus)) σ (columns σ 𝓟) (firstOnly (modulo (σ .modulus)) q) (returnOf σ 𝓟 id q)) (one q b .1))
+
+  verdict-pair : allowedPair σ (columns σ 𝓟) r s ≡ true
+      → verdictAll σ 𝓟 id ≡ letsIn σ (columns σ 𝓟) (𝓟 .servers) (returnOf σ 𝓟 id) r s
+  unfolding letsIn
+  verdict-pair a = rw (a, sigma-pair, tau-pair)
+
 module _ (σ : Setting) (facts : Facts σ) (𝓟 : Pool σ) where
-  -- with one pair the sums are those that Judging works out from the return
-  module _ (id r s : ℕ) (one : (q : ℕ) → q < 𝓟 .servers → (shareAt σ facts 𝓟 id q .r ≡ r) × (shareAt σ facts 𝓟 id q .s ≡ s)) where
-    d-pair : dAll σ facts 𝓟 id ≡ dSum (modulo (σ .modulus)) σ (columns σ 𝓟) (𝓟 .servers) (returnOf σ 𝓟 id) r
-    unfolding dSum waitingOf
-    d-pair = sum-ext (modulo (σ .modulus)) (𝓟 .servers) _ _ (λ q b.
-      ap (dOf (modulo (σ .modulus)) σ (columns σ 𝓟) (firstOnly (modulo (σ .modulus)) q) (returnOf σ 𝓟 id q)) (one q b .0))
-
-    e-pair : eAll σ facts 𝓟 id ≡ eSum (modulo (σ .modulus)) σ (columns σ 𝓟) (𝓟 .servers) (returnOf σ 𝓟 id) r
-    unfolding eSum waitingOf
-    e-pair = sum-ext (modulo (σ .modulus)) (𝓟 .servers) _ _ (λ q b.
-      ap (eOf (modulo (σ .modulus)) σ (columns σ 𝓟) (firstOnly (modulo (σ .modulus)) q) (returnOf σ 𝓟 id q)) (one q b .0))
-
-    sigma-pair : sigmaAll σ facts 𝓟 id ≡ sigmaSum (modulo (σ .modulus)) σ (columns σ 𝓟) (𝓟 .servers) (returnOf σ 𝓟 id) r
-    unfolding sigmaSum waitingOf sigmaIn sigmaOf
-    sigma-pair = sum-ext (modulo (σ .modulus)) (𝓟 .servers) _ _ (λ q b t.
-      sigmaOf (modulo (σ .modulus)) σ (columns σ 𝓟) (firstOnly (modulo (σ .modulus)) q) (returnOf σ 𝓟 id q) (one q b .0 t)
-      (d-pair t) (e-pair t))
-
-    tau-pair : tauAll σ facts 𝓟 id ≡ tauSum (modulo (σ .modulus)) σ (columns σ 𝓟) (𝓟 .servers) (returnOf σ 𝓟 id) s
-    unfolding tauSum waitingOf
-    tau-pair = sum-ext (modulo (σ .modulus)) (𝓟 .servers) _ _ (λ q b.
-      ap (tauOf (modulo (σ .modulus)) σ (columns σ 𝓟) (firstOnly (modulo (σ .modulus)) q) (returnOf σ 𝓟 id q)) (one q b .1))
-
-    verdict-pair : allowedPair σ (columns σ 𝓟) r s ≡ true
-        → verdictAll σ facts 𝓟 id ≡ letsIn σ (columns σ 𝓟) (𝓟 .servers) (returnOf σ 𝓟 id) r s
-    unfolding letsIn
-    verdict-pair a = rw (a, sigma-pair, tau-pair)
-
   -- 5
   pub verdict : Conditions σ 𝓟 → (i : ℕ) → i < 𝓟 .servers → (k : Decided) → In k (ledgerAt σ 𝓟 i .decided)
       → isDropped (k .decision) ≡ false → (r s : ℕ) → OnePair σ 𝓟 (k .note .id) r s
       → isAccepted (k .decision) ≡ letsIn σ (columns σ 𝓟) (𝓟 .servers) (returnOf σ 𝓟 (k .note .id)) r s
   verdict 𝓒 i l k h f r s one =
       let id = k .note .id in
-      let at : (q : ℕ) → q < 𝓟 .servers → Noted σ facts 𝓟 id q = noted-everywhere σ facts 𝓟 𝓒 i l k h f in
-      let pair : (q : ℕ) → q < 𝓟 .servers → (shareAt σ facts 𝓟 id q .r ≡ r) × (shareAt σ facts 𝓟 id q .s ≡ s) =
-          λ q b. one q b (shareAt σ facts 𝓟 id q) (at q b .is-in) (at q b .has-id) in
-      let n : Note = shareAt σ facts 𝓟 id i in
-      let allowed : allowedPair σ (columns σ 𝓟) (n .r) (n .s) ≡ true = sound-at σ facts 𝓟 i l .pairs n (at i l .is-in) in
-      agreed σ facts 𝓟 𝓒 i l k h f
-      ∙ verdict-pair id r s pair
+      let at : (q : ℕ) → q < 𝓟 .servers → Noted σ 𝓟 id q = noted-everywhere σ 𝓟 facts 𝓒 i l k h f in
+      let pair : (q : ℕ) → q < 𝓟 .servers → (shareAt σ 𝓟 id q .r ≡ r) × (shareAt σ 𝓟 id q .s ≡ s) =
+          λ q b. one q b (shareAt σ 𝓟 id q) (at q b .is-in) (at q b .has-id) in
+      let n : Note = shareAt σ 𝓟 id i in
+      let allowed : allowedPair σ (columns σ 𝓟) (n .r) (n .s) ≡ true = sound-at σ 𝓟 i l .pairs n (at i l .is-in) in
+      agreed σ 𝓟 facts 𝓒 i l k h f
+      ∙ verdict-pair σ 𝓟 id r s pair
       (sym (ap₂ (allowedPair σ (columns σ 𝓟)) (pair i l .0) (pair i l .1)) ∙ allowed)
 
   -- 6
@@ -103,11 +104,11 @@ module _ (σ : Setting) (facts : Facts σ) (𝓟 : Pool σ) where
       → DeliveredWhole σ 𝓟 (k .note .id) → isAccepted (k .decision) ≡ true
   honest 𝓒 i l k h f r s one w =
       let id = k .note .id in
-      let at : Noted σ facts 𝓟 id i = noted-everywhere σ facts 𝓟 𝓒 i l k h f i l in
-      let n : Note = shareAt σ facts 𝓟 id i in
+      let at : Noted σ 𝓟 id i = noted-everywhere σ 𝓟 facts 𝓒 i l k h f i l in
+      let n : Note = shareAt σ 𝓟 id i in
       let pair : (n .r ≡ r) × (n .s ≡ s) = one i l n (at .is-in) (at .has-id) in
       let allowed : allowedPair σ (columns σ 𝓟) r s ≡ true =
-          sym (ap₂ (allowedPair σ (columns σ 𝓟)) (pair .0) (pair .1)) ∙ sound-at σ facts 𝓟 i l .pairs n (at .is-in) in
+          sym (ap₂ (allowedPair σ (columns σ 𝓟)) (pair .0) (pair .1)) ∙ sound-at σ 𝓟 i l .pairs n (at .is-in) in
       let opens : Opens σ (𝓟 .servers) (𝓟 .sheet) (𝓟 .returns) = opened-says σ _ i _ _ _ (𝓟 .opens i l) in
       verdict 𝓒 i l k h f r s one
       ∙ lets-in-same σ (columns σ 𝓟) (𝓟 .servers) (returnOf σ 𝓟 id)

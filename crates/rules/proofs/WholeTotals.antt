@@ -18,7 +18,7 @@ use Rattle.rules.specs.Values.{Encodes, encoding}
 use Rattle.rules.specs.Judging.{addedUp}
 use Rattle.rules.specs.Joining.{joinCount, joinTotals}
 use Rattle.rules.specs.Ledger.{wrote, closingMessage}
-use Rattle.rules.specs.WholeRun.{Pool, columns, openedAt, ledgerAt, answersAt, addedEntry, KeepsForm, Conditions, AllClosed}
+use Rattle.rules.specs.WholeRun.{Pool, columns, openedAt, ledgerAt, answersAt, acceptedAt, addedEntry, KeepsForm, Conditions, AllClosed}
 use Rattle.rules.specs.WholeRun.{closings, Closed}
 use Rattle.rules.proofs.Limits.{Limits, limits}
 use Rattle.rules.proofs.Legal.{sheet-tests-say-legal}
@@ -30,7 +30,7 @@ use Rattle.rules.proofs.Origins.{ended, closing-written}
 use Rattle.rules.proofs.Agreement.{history-at}
 use Rattle.rules.proofs.SameIds.{distinct-accepted, same-ids}
 use Rattle.rules.proofs.ClosingBytes.{small-sum}
-use Rattle.rules.proofs.JoinedTotals.{opens, ids, few-ids, count-is, joins, totals}
+use Rattle.rules.proofs.JoinedTotals.{opens, few-ids, count-is, joins, totals}
 
 -- equal at each member
 map-same : (f g : ℕ → ℕ) (xs : List ℕ) → ((x : ℕ) → In x xs → f x ≡ g x) → map f xs ≡ map g xs
@@ -60,13 +60,13 @@ module _ (σ : Setting) (facts : Facts σ) (𝓟 : Pool σ) (any : 0 < 𝓟 .ser
           published-fits σ (𝓟 .returns) cs (code .values) (code .legal) (opened .fit) e h in
       rw is (omega arith)
 
-  whole : ((id : ℕ) → In id (ids σ facts 𝓟 any 𝓒 closed) → KeepsForm σ 𝓟 id)
+  whole : ((id : ℕ) → In id (acceptedAt σ 𝓟 0) → KeepsForm σ 𝓟 id)
       → joinTotals σ (𝓟 .servers) (𝓟 .sheet) (closings σ 𝓟)
-      ≡ map (λ e. sumOver (λ id. addedEntry σ 𝓟 id e) (ids σ facts 𝓟 any 𝓒 closed)) (publishedFrom 0 (columns σ 𝓟))
+      ≡ map (λ e. sumOver (λ id. addedEntry σ 𝓟 id e) (acceptedAt σ 𝓟 0)) (publishedFrom 0 (columns σ 𝓟))
   whole keeps =
       totals σ facts 𝓟 any 𝓒 closed
       ∙ map-same _ _ (publishedFrom 0 (columns σ 𝓟)) (λ e h. mod-eq-of-lt
-        (small-sum (σ .modulus) (𝓟 .returns) (λ id. addedEntry σ 𝓟 id e) (ids σ facts 𝓟 any 𝓒 closed)
+        (small-sum (σ .modulus) (𝓟 .returns) (λ id. addedEntry σ 𝓟 id e) (acceptedAt σ 𝓟 0)
         (modulus-positive σ facts) (opened .some) (few-ids σ facts 𝓟 any 𝓒 closed) (λ id q. entry-fits id (keeps id q) e h)))
 
   wrote-closing : (i : ℕ) → i < 𝓟 .servers
@@ -74,15 +74,15 @@ module _ (σ : Setting) (facts : Facts σ) (𝓟 : Pool σ) (any : 0 < 𝓟 .ser
   wrote-closing i l =
       let o = openedAt σ 𝓟 i in
       ⊎-elim (λ (e : false ≡ true). absurd (false≢true e)) (λ h. h)
-      (closing-written σ o (history-at σ facts 𝓟 i l) (ap (ended σ o) (closed i l)))
+      (closing-written σ o (history-at σ 𝓟 i l) (ap (ended σ o) (closed i l)))
 
   -- 2, 3, 4
   pub closed-together : Closed σ 𝓟
   unfolding joinCount
   closed-together = record {
-    ids = ids σ facts 𝓟 any 𝓒 closed;
-    distinct = distinct-accepted σ facts 𝓟 closed 0 any;
-    same-ids = λ i l. same-ids σ facts 𝓟 closed 𝓒 i 0 l any;
+    ids = acceptedAt σ 𝓟 0;
+    distinct = distinct-accepted σ 𝓟 closed 0 any;
+    same-ids = λ i l. same-ids σ 𝓟 closed facts 𝓒 i 0 l any;
     wrote-closing = wrote-closing;
     joins = joins σ facts 𝓟 any 𝓒 closed;
     count = count-is σ facts 𝓟 any 𝓒 closed;

@@ -105,7 +105,7 @@ module _ (σ : Setting) (𝓟 : Pool σ) where
         go (of-share n a e) =
             let o = openedAt σ 𝓟 q in
             let r : idIn (messageOne σ o (noted σ o n)) ≡ noted σ o n .id =
-                id-one σ o (noted σ o n) (rw (id-noted σ o n) (sound-at q b .ids-fit n a)) in
+            id-one σ o (noted σ o n) (rw (id-noted σ o n) (sound-at q b .ids-fit n a)) in
             let same : n .id ≡ id = sym (id-noted σ o n) ∙ sym r ∙ ap idIn (sym e) ∙ f .id-is in
             e ∙ ap (λ (v : Note). messageOne σ o (noted σ o v)) (sym (found id q b n a same))
         go (of-one n a j k s e) =
@@ -120,14 +120,14 @@ module _ (σ : Setting) (𝓟 : Pool σ) where
       first-sum : firstSum σ (𝓟 .servers) joined ≡ dAll id
       unfolding firstSum
       first-sum = sum-ext (modulo (σ .modulus)) (𝓟 .servers) _ _ (λ q b.
-        ap (firstIn σ) (place-one i q l b id joined h (s q b))
-        ∙ first-one σ facts (openedAt σ 𝓟 q) (firstAt id q) (d-below σ facts (openedAt σ 𝓟 q) _ _ _ _))
+          ap (firstIn σ) (place-one i q l b id joined h (s q b))
+          ∙ first-one σ facts (openedAt σ 𝓟 q) (firstAt id q) (d-below σ facts (openedAt σ 𝓟 q) _ _ _ _))
 
       second-sum : secondSum σ (𝓟 .servers) joined ≡ eAll id
       unfolding secondSum
       second-sum = sum-ext (modulo (σ .modulus)) (𝓟 .servers) _ _ (λ q b.
-        ap (secondIn σ) (place-one i q l b id joined h (s q b))
-        ∙ second-one σ facts (openedAt σ 𝓟 q) (firstAt id q) (e-below σ facts (openedAt σ 𝓟 q) _ _ _ _))
+          ap (secondIn σ) (place-one i q l b id joined h (s q b))
+          ∙ second-one σ facts (openedAt σ 𝓟 q) (firstAt id q) (e-below σ facts (openedAt σ 𝓟 q) _ _ _ _))
 
     -- ---- round two
     record Second (joined : List ℕ) (id q : ℕ) : Type 0 where
@@ -147,17 +147,17 @@ module _ (σ : Setting) (𝓟 : Pool σ) where
             let o = openedAt σ 𝓟 q in
             let w = withSums σ o (noted σ o n) (firstSum σ (𝓟 .servers) j) (secondSum σ (𝓟 .servers) j) in
             let r : idIn (answerTo σ o n j) ≡ w .id =
-                id-two σ o w (rw (id-noted σ o n) (sound-at q b .ids-fit n a)) in
+            id-two σ o w (rw (id-noted σ o n) (sound-at q b .ids-fit n a)) in
             let same : n .id ≡ id = sym (id-noted σ o n) ∙ sym r ∙ ap idIn (sym e) ∙ f .id-is in
             let s′ : Joined σ o 34 id j = subst (λ (v : ℕ). Joined σ o 34 v j) same s in
             let d : firstSum σ (𝓟 .servers) j ≡ dAll id = first-sum q b id j k s′ in
             let c : secondSum σ (𝓟 .servers) j ≡ eAll id = second-sum q b id j k s′ in
             record {
               is =
-                e
-                ∙ ap₂ (λ (x y : ℕ). messageTwo σ o (withSums σ o (noted σ o n) x y)) d c
-                ∙ ap (λ (v : Note). messageTwo σ o (withSums σ o (noted σ o v) (dAll id) (eAll id)))
-                (sym (found id q b n a same));
+                  e
+                  ∙ ap₂ (λ (x y : ℕ). messageTwo σ o (withSums σ o (noted σ o n) x y)) d c
+                  ∙ ap (λ (v : Note). messageTwo σ o (withSums σ o (noted σ o v) (dAll id) (eAll id)))
+                  (sym (found id q b n a same));
               of = is-noted id q b n a same;
             }
         go (of-close m e) =
@@ -170,11 +170,11 @@ module _ (σ : Setting) (𝓟 : Pool σ) where
     both-zero i l id joined h s =
         ap₂ (λ (x y : ℕ). eqb x 0 && eqb y 0)
         (sum-ext (modulo (σ .modulus)) (𝓟 .servers) _ _ (λ q b.
-          ap (firstIn σ) (place-two i q l b id joined h (s q b) .is)
-          ∙ first-two σ facts (openedAt σ 𝓟 q) (secondAt id q)))
+        ap (firstIn σ) (place-two i q l b id joined h (s q b) .is)
+        ∙ first-two σ facts (openedAt σ 𝓟 q) (secondAt id q)))
         (sum-ext (modulo (σ .modulus)) (𝓟 .servers) _ _ (λ q b.
-          ap (secondIn σ) (place-two i q l b id joined h (s q b) .is)
-          ∙ second-two σ facts (openedAt σ 𝓟 q) (secondAt id q) (tau-below σ facts (openedAt σ 𝓟 q) _ _ _ _)))
+        ap (secondIn σ) (place-two i q l b id joined h (s q b) .is)
+        ∙ second-two σ facts (openedAt σ 𝓟 q) (secondAt id q) (tau-below σ facts (openedAt σ 𝓟 q) _ _ _ _)))
 
     -- ---- a return judged to the end
     module _ (i : ℕ) (l : i < 𝓟 .servers) (k : Decided) (h : In k (ledgerAt σ 𝓟 i .decided))

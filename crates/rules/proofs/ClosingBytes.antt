@@ -89,9 +89,9 @@ sum-modulo p zero f = sym (zero-mod p)
 sum-modulo p (suc n) f =
     let last : sumOver f ((0 + n) ∷ []) ≡ f n = add-zero (f (0 + n)) ∙ ap f (zero-add n) in
     let all : sumOver f (countFrom 0 (suc n)) ≡ sumOver f (countFrom 0 n) + f n =
-        ap (sumOver f) (count-end 0 n)
-        ∙ sum-append f (countFrom 0 n) ((0 + n) ∷ [])
-        ∙ ap (λ (k : ℕ). sumOver f (countFrom 0 n) + k) last in
+    ap (sumOver f) (count-end 0 n)
+    ∙ sum-append f (countFrom 0 n) ((0 + n) ∷ [])
+    ∙ ap (λ (k : ℕ). sumOver f (countFrom 0 n) + k) last in
     ap (λ (k : ℕ). (k + f n) % p) (sum-modulo p n f)
     ∙ mod-add-mod (sumOver f (countFrom 0 n)) p (f n)
     ∙ ap (λ (k : ℕ). k % p) (sym all)

@@ -71,7 +71,7 @@ module _ (σ : Setting) (facts : Facts σ) (𝓟 : Pool σ) (some : 0 < 𝓟 .se
       let opened : Opens σ (𝓟 .servers) (𝓟 .sheet) (𝓟 .returns) = opened-says σ _ 0 _ _ _ (𝓟 .opens 0 some) in
       let most : ℕ = σ .modulus * max (suc (gatesIn (columns σ 𝓟) + gatesIn (columns σ 𝓟))) (testsIn (columns σ 𝓟) - 1) in
       let equal : letsIn σ (columns σ 𝓟) (𝓟 .servers) shares ≡ letsIn σ (columns σ 𝓟) (𝓟 .servers) (returnOf σ 𝓟 id) =
-          λ t r s. lets-in-same σ (columns σ 𝓟) (𝓟 .servers) shares (returnOf σ 𝓟 id) same r s t in
+      λ t r s. lets-in-same σ (columns σ 𝓟) (𝓟 .servers) shares (returnOf σ 𝓟 id) same r s t in
       subst (λ (f : ℕ → ℕ → Bool). countPairs (σ .modulus) (σ .modulus) f ≤ most) equal
       (sheet-few-pairs σ facts (𝓟 .sheet) (columns σ 𝓟) (opened .read) (𝓟 .servers) some shares shares-below
       (λ v. broken (subst (Valid (modulo (σ .modulus)) σ (columns σ 𝓟)) added-same v)))

@@ -124,7 +124,7 @@ module _ (σ : Setting) (facts : Facts σ) (𝓟 : Pool σ) (any : 0 < 𝓟 .ser
       let m = messageLength σ cs in
       let front : part 2 4 (take m (closings σ 𝓟)) ≡ part 2 4 (closings σ 𝓟) = part-of-take 2 4 m (closings σ 𝓟) (omega arith) in
       let first : take m (closings σ 𝓟) ≡ totalsAt σ cs (closings σ 𝓟) 0 =
-          ap (λ (k : ℕ). take m (drop k (closings σ 𝓟))) (sym (mul-zero m)) in
+      ap (λ (k : ℕ). take m (drop k (closings σ 𝓟))) (sym (mul-zero m)) in
       ap valueOf (sym front)
       ∙ ap acceptedCount (first ∙ place 0 any)
       ∙ closing-count 0 any
@@ -137,11 +137,11 @@ module _ (σ : Setting) (facts : Facts σ) (𝓟 : Pool σ) (any : 0 < 𝓟 .ser
       let k : getD m 0 0 ≡ σ .totalsByte = ap (λ (v : List ℕ). getD v 0 0) (place i l) ∙ closing-kind i in
       let s : getD m 1 0 ≡ i = ap (λ (v : List ℕ). getD v 1 0) (place i l) ∙ closing-server i in
       let c : acceptedCount m ≡ acceptedCount (closings σ 𝓟) =
-          ap acceptedCount (place i l) ∙ closing-count i l ∙ sym count-is in
+      ap acceptedCount (place i l) ∙ closing-count i l ∙ sym count-is in
       let b : allBelow p (sumsIn σ m) ≡ true =
-          ap (λ (v : List ℕ). allBelow p (sumsIn σ v)) (place i l)
-          ∙ ap (allBelow p) (closing-sums i)
-          ∙ below-of-all p (totalsOf i) (small-totals i) in
+      ap (λ (v : List ℕ). allBelow p (sumsIn σ v)) (place i l)
+      ∙ ap (allBelow p) (closing-sums i)
+      ∙ below-of-all p (totalsOf i) (small-totals i) in
       rw (eq-eqb _ _ k, eq-eqb _ _ s, eq-eqb _ _ c, b)
 
   joined-pass : joinedFault σ S cs (𝓟 .returns) (closings σ 𝓟) ≡ 0
@@ -151,7 +151,7 @@ module _ (σ : Setting) (facts : Facts σ) (𝓟 : Pool σ) (any : 0 < 𝓟 .ser
       rw (
         eq-eqb _ _ closings-length,
         at-every (λ i. totalsSound σ (acceptedCount (closings σ 𝓟)) i (totalsAt σ cs (closings σ 𝓟) i)) S sound,
-        le-leb _ _ few
+        le-leb _ _ few,
       )
 
   pub joins : (room : ℕ) → joinRefusal σ S (𝓟 .sheet) (𝓟 .returns) (closings σ 𝓟) room

@@ -120,7 +120,7 @@ module _ (σ : Setting) (o : Opened) where
         id-fits = value-below 4 (part 1 4 m) four (all-take _ 4 (all-drop _ 1 bytes));
         pair = check-passed (allowedPair σ cs r s) 8 (e₅ .0);
         below = all-of-below (σ .modulus) (shareElements σ m)
-          (check-passed (allBelow (σ .modulus) (shareElements σ m)) 7 (e₃ .0));
+            (check-passed (allBelow (σ .modulus) (shareElements σ m)) 7 (e₃ .0));
       }
 
   passed : (p : Progress) (ds : List Decided) (c : Call) → BytesIn c → refusalOf σ o (at p ds) c ≡ 0

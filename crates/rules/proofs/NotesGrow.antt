@@ -67,7 +67,7 @@ module _ (σ : Setting) (o : Opened) where
   sound-step (same e) s = subst Sound (sym e) s
   sound-step {ns} (more n e l fresh fits pair low) s = subst Sound (sym e) (record {
     apart =
-      subst Distinct (sym (map-append (λ (v : Note). v .id) ns (n ∷ []))) (distinct-end (idsOf ns) (n .id) (s .apart) fresh);
+        subst Distinct (sym (map-append (λ (v : Note). v .id) ns (n ∷ []))) (distinct-end (idsOf ns) (n .id) (s .apart) fresh);
     few = rw length-append (omega arith);
     ids-fit = of-each (λ v. v .id < 4294967296) ns n (s .ids-fit) fits;
     pairs = of-each (λ v. allowedPair σ (o .columns) (v .r) (v .s) ≡ true) ns n (s .pairs) pair;

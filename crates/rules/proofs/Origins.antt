@@ -148,6 +148,6 @@ module _ (σ : Setting) (o : Opened) where
   closing-written (next mv r) e =
       ⊎-elim
       (λ old. ⊎-elim (λ q. inl q)
-        (λ q. inr (inl (q ∙ ap (λ (v : Ledger). wrote (closingMessage σ o v)) (sym (stays-closed r old)))))
-        (first-closing mv old))
+      (λ q. inr (inl (q ∙ ap (λ (v : Ledger). wrote (closingMessage σ o v)) (sym (stays-closed r old)))))
+      (first-closing mv old))
       (λ new. inr (inr new)) (closing-written r e)

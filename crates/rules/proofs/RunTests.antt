@@ -130,11 +130,11 @@ module _ (σ : Setting) (𝓟 : Pool σ) where
   unfolding meets
   meets-conditions e = record {
     unaltered = λ i j l b joined h. written-in (placeIn σ joined j) (answersAt σ 𝓟 j)
-      (every-in _ (handedIn σ (openedAt σ 𝓟 i) empty (𝓟 .calls i))
-      (each-at unalteredAt (and-left (each unalteredAt) (each dropsAt) e) i j l b) joined h);
+        (every-in _ (handedIn σ (openedAt σ 𝓟 i) empty (𝓟 .calls i))
+        (each-at unalteredAt (and-left (each unalteredAt) (each dropsAt) e) i j l b) joined h);
     same-drops = λ i j l b id h k. has-not id (acceptedAt σ 𝓟 j)
-      (not-true _ (every-in _ (droppedAt σ 𝓟 i)
-      (each-at dropsAt (and-right (each unalteredAt) (each dropsAt) e) i j l b) id h)) k;
+        (not-true _ (every-in _ (droppedAt σ 𝓟 i)
+        (each-at dropsAt (and-right (each unalteredAt) (each dropsAt) e) i j l b) id h)) k;
   }
 
   -- every share noted under the id has the pair r, s

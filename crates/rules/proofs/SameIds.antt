@@ -114,10 +114,10 @@ module _ (σ : Setting) (𝓟 : Pool σ) (closed : AllClosed σ 𝓟) where
       let ns = notesWith isAccepted (decided i) in
       let f : ℕ → ℕ = λ id. returnOf σ 𝓟 id i e in
       let there : (n : Note) → In n ns → In n (notesAt σ 𝓟 i) =
-          λ n h. subst (λ (v : List Note). In n v) (sym (closed-notes i l)) (with-notes isAccepted n (decided i) h) in
+      λ n h. subst (λ (v : List Note). In n v) (sym (closed-notes i l)) (with-notes isAccepted n (decided i) h) in
       sum-cong (λ (n : Note). getD (n .elements) e 0) (λ (n : Note). f (n .id)) ns
       (λ n h. ap (λ (v : Note). getD (v .elements) e 0)
-        (sym (under-in n (notesAt σ 𝓟 i) (sound-at σ 𝓟 i l .apart) (there n h))))
+      (sym (under-in n (notesAt σ 𝓟 i) (sound-at σ 𝓟 i l .apart) (there n h))))
       ∙ sym (sum-map f (λ (n : Note). n .id) ns)
 
   module _ (facts : Facts σ) (𝓒 : Conditions σ 𝓟) where
@@ -130,19 +130,19 @@ module _ (σ : Setting) (𝓟 : Pool σ) (closed : AllClosed σ 𝓟) where
         let kept : isDropped (k .decision) ≡ false = accepted-kept (k .decision) (c .passes) in
         let at : Noted σ 𝓟 (k .note .id) j = noted-everywhere σ 𝓟 facts 𝓒 i l k (c .is-in) kept j b in
         let there : In (shareAt σ 𝓟 (k .note .id) j) (notesOf (decided j)) =
-            subst (λ (v : List Note). In (shareAt σ 𝓟 (k .note .id) j) v) (closed-notes j b) (at .is-in) in
+        subst (λ (v : List Note). In (shareAt σ 𝓟 (k .note .id) j) v) (closed-notes j b) (at .is-in) in
         let z = of-map (λ (v : Decided). v .note) (shareAt σ 𝓟 (k .note .id) j) (decided j) there in
         let k′ : Decided = z .0 in
         let same′ : k′ .note .id ≡ k .note .id = ap (λ (n : Note). n .id) (z .2) ∙ at .has-id in
         let back : (t : Decision → Bool) → t (k′ .decision) ≡ true → In id (idsOf (notesWith t (decided j))) =
-            λ t e. subst (λ (v : ℕ). In v (idsOf (notesWith t (decided j)))) (same′ ∙ same)
-              (in-map (λ (n : Note). n .id) (k′ .note) (notesWith t (decided j)) (with-of t k′ (decided j) (z .1) e)) in
+        λ t e. subst (λ (v : ℕ). In v (idsOf (notesWith t (decided j)))) (same′ ∙ same)
+        (in-map (λ (n : Note). n .id) (k′ .note) (notesWith t (decided j)) (with-of t k′ (decided j) (z .1) e)) in
         either (isDropped (k′ .decision)) refl (λ e. 𝓒 .same-drops j i b l id (back isDropped e) h)
         (λ e. back isAccepted
-          (agreed σ 𝓟 facts 𝓒 j b k′ (z .1) e
-          ∙ ap (verdictAll σ 𝓟) same′
-          ∙ sym (agreed σ 𝓟 facts 𝓒 i l k (c .is-in) kept)
-          ∙ c .passes))
+        (agreed σ 𝓟 facts 𝓒 j b k′ (z .1) e
+        ∙ ap (verdictAll σ 𝓟) same′
+        ∙ sym (agreed σ 𝓟 facts 𝓒 i l k (c .is-in) kept)
+        ∙ c .passes))
       where
         either : {d : Bool} (t : Bool) → d ≡ t → (d ≡ true → ⊥) → (d ≡ false → In id (acceptedAt σ 𝓟 j))
             → In id (acceptedAt σ 𝓟 j)

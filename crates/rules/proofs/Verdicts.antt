@@ -27,26 +27,25 @@ use Rattle.rules.proofs.Agreement.{agreed, noted-everywhere}
 -- equal shares are let in by the same pairs
 module _ (σ : Setting) (cs : List Column) (servers : ℕ) (x y : ℕ → ℕ → ℕ) (same : (i : ℕ) → i < servers → x i ≡ y i)
     (r s : ℕ) where
-
   d-same : dSum (modulo (σ .modulus)) σ cs servers x r ≡ dSum (modulo (σ .modulus)) σ cs servers y r
   unfolding dSum
   d-same = sum-ext (modulo (σ .modulus)) servers _ _ (λ i b.
-    ap (λ (z : ℕ → ℕ). dOf (modulo (σ .modulus)) σ cs (firstOnly (modulo (σ .modulus)) i) z r) (same i b))
+      ap (λ (z : ℕ → ℕ). dOf (modulo (σ .modulus)) σ cs (firstOnly (modulo (σ .modulus)) i) z r) (same i b))
 
   e-same : eSum (modulo (σ .modulus)) σ cs servers x r ≡ eSum (modulo (σ .modulus)) σ cs servers y r
   unfolding eSum
   e-same = sum-ext (modulo (σ .modulus)) servers _ _ (λ i b.
-    ap (λ (z : ℕ → ℕ). eOf (modulo (σ .modulus)) σ cs (firstOnly (modulo (σ .modulus)) i) z r) (same i b))
+      ap (λ (z : ℕ → ℕ). eOf (modulo (σ .modulus)) σ cs (firstOnly (modulo (σ .modulus)) i) z r) (same i b))
 
   sigma-same : sigmaSum (modulo (σ .modulus)) σ cs servers x r ≡ sigmaSum (modulo (σ .modulus)) σ cs servers y r
   unfolding sigmaSum
   sigma-same = sum-ext (modulo (σ .modulus)) servers _ _ (λ i b t.
-    sigmaOf (modulo (σ .modulus)) σ cs (firstOnly (modulo (σ .modulus)) i) (same i b t) r (d-same t) (e-same t))
+      sigmaOf (modulo (σ .modulus)) σ cs (firstOnly (modulo (σ .modulus)) i) (same i b t) r (d-same t) (e-same t))
 
   tau-same : tauSum (modulo (σ .modulus)) σ cs servers x s ≡ tauSum (modulo (σ .modulus)) σ cs servers y s
   unfolding tauSum
   tau-same = sum-ext (modulo (σ .modulus)) servers _ _ (λ i b.
-    ap (λ (z : ℕ → ℕ). tauOf (modulo (σ .modulus)) σ cs (firstOnly (modulo (σ .modulus)) i) z s) (same i b))
+      ap (λ (z : ℕ → ℕ). tauOf (modulo (σ .modulus)) σ cs (firstOnly (modulo (σ .modulus)) i) z s) (same i b))
 
   pub lets-in-same : letsIn σ cs servers x r s ≡ letsIn σ cs servers y r s
   unfolding letsIn
@@ -59,23 +58,23 @@ module _ (σ : Setting) (𝓟 : Pool σ) (id r s : ℕ)
   d-pair : dAll σ 𝓟 id ≡ dSum (modulo (σ .modulus)) σ (columns σ 𝓟) (𝓟 .servers) (returnOf σ 𝓟 id) r
   unfolding dSum waitingOf
   d-pair = sum-ext (modulo (σ .modulus)) (𝓟 .servers) _ _ (λ q b.
-    ap (dOf (modulo (σ .modulus)) σ (columns σ 𝓟) (firstOnly (modulo (σ .modulus)) q) (returnOf σ 𝓟 id q)) (one q b .0))
+      ap (dOf (modulo (σ .modulus)) σ (columns σ 𝓟) (firstOnly (modulo (σ .modulus)) q) (returnOf σ 𝓟 id q)) (one q b .0))
 
   e-pair : eAll σ 𝓟 id ≡ eSum (modulo (σ .modulus)) σ (columns σ 𝓟) (𝓟 .servers) (returnOf σ 𝓟 id) r
   unfolding eSum waitingOf
   e-pair = sum-ext (modulo (σ .modulus)) (𝓟 .servers) _ _ (λ q b.
-    ap (eOf (modulo (σ .modulus)) σ (columns σ 𝓟) (firstOnly (modulo (σ .modulus)) q) (returnOf σ 𝓟 id q)) (one q b .0))
+      ap (eOf (modulo (σ .modulus)) σ (columns σ 𝓟) (firstOnly (modulo (σ .modulus)) q) (returnOf σ 𝓟 id q)) (one q b .0))
 
   sigma-pair : sigmaAll σ 𝓟 id ≡ sigmaSum (modulo (σ .modulus)) σ (columns σ 𝓟) (𝓟 .servers) (returnOf σ 𝓟 id) r
   unfolding sigmaSum waitingOf sigmaIn sigmaOf
   sigma-pair = sum-ext (modulo (σ .modulus)) (𝓟 .servers) _ _ (λ q b t.
-    sigmaOf (modulo (σ .modulus)) σ (columns σ 𝓟) (firstOnly (modulo (σ .modulus)) q) (returnOf σ 𝓟 id q) (one q b .0 t)
-    (d-pair t) (e-pair t))
+      sigmaOf (modulo (σ .modulus)) σ (columns σ 𝓟) (firstOnly (modulo (σ .modulus)) q) (returnOf σ 𝓟 id q) (one q b .0 t)
+      (d-pair t) (e-pair t))
 
   tau-pair : tauAll σ 𝓟 id ≡ tauSum (modulo (σ .modulus)) σ (columns σ 𝓟) (𝓟 .servers) (returnOf σ 𝓟 id) s
   unfolding tauSum waitingOf
   tau-pair = sum-ext (modulo (σ .modulus)) (𝓟 .servers) _ _ (λ q b.
-    ap (tauOf (modulo (σ .modulus)) σ (columns σ 𝓟) (firstOnly (modulo (σ .modulus)) q) (returnOf σ 𝓟 id q)) (one q b .1))
+      ap (tauOf (modulo (σ .modulus)) σ (columns σ 𝓟) (firstOnly (modulo (σ .modulus)) q) (returnOf σ 𝓟 id q)) (one q b .1))
 
   verdict-pair : allowedPair σ (columns σ 𝓟) r s ≡ true
       → verdictAll σ 𝓟 id ≡ letsIn σ (columns σ 𝓟) (𝓟 .servers) (returnOf σ 𝓟 id) r s
@@ -91,7 +90,7 @@ module _ (σ : Setting) (facts : Facts σ) (𝓟 : Pool σ) where
       let id = k .note .id in
       let at : (q : ℕ) → q < 𝓟 .servers → Noted σ 𝓟 id q = noted-everywhere σ 𝓟 facts 𝓒 i l k h f in
       let pair : (q : ℕ) → q < 𝓟 .servers → (shareAt σ 𝓟 id q .r ≡ r) × (shareAt σ 𝓟 id q .s ≡ s) =
-          λ q b. one q b (shareAt σ 𝓟 id q) (at q b .is-in) (at q b .has-id) in
+      λ q b. one q b (shareAt σ 𝓟 id q) (at q b .is-in) (at q b .has-id) in
       let n : Note = shareAt σ 𝓟 id i in
       let allowed : allowedPair σ (columns σ 𝓟) (n .r) (n .s) ≡ true = sound-at σ 𝓟 i l .pairs n (at i l .is-in) in
       agreed σ 𝓟 facts 𝓒 i l k h f
@@ -108,7 +107,7 @@ module _ (σ : Setting) (facts : Facts σ) (𝓟 : Pool σ) where
       let n : Note = shareAt σ 𝓟 id i in
       let pair : (n .r ≡ r) × (n .s ≡ s) = one i l n (at .is-in) (at .has-id) in
       let allowed : allowedPair σ (columns σ 𝓟) r s ≡ true =
-          sym (ap₂ (allowedPair σ (columns σ 𝓟)) (pair .0) (pair .1)) ∙ sound-at σ 𝓟 i l .pairs n (at .is-in) in
+      sym (ap₂ (allowedPair σ (columns σ 𝓟)) (pair .0) (pair .1)) ∙ sound-at σ 𝓟 i l .pairs n (at .is-in) in
       let opens : Opens σ (𝓟 .servers) (𝓟 .sheet) (𝓟 .returns) = opened-says σ _ i _ _ _ (𝓟 .opens i l) in
       verdict 𝓒 i l k h f r s one
       ∙ lets-in-same σ (columns σ 𝓟) (𝓟 .servers) (returnOf σ 𝓟 id)

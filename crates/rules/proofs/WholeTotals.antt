@@ -51,13 +51,13 @@ module _ (σ : Setting) (facts : Facts σ) (𝓟 : Pool σ) (any : 0 < 𝓟 .ser
       let cs = columns σ 𝓟 in
       let kept : Limits (𝓟 .sheet) cs = limits (𝓟 .sheet) cs (opened .read) in
       let code : Encodes (modulo (σ .modulus)) cs (addedEntry σ 𝓟 id) =
-          sheet-tests-say-legal σ facts cs (addedEntry σ 𝓟 id) (entry-below id) (𝓟 .sheet) (opened .read) .0 valid in
+      sheet-tests-say-legal σ facts cs (addedEntry σ 𝓟 id) (entry-below id) (𝓟 .sheet) (opened .read) .0 valid in
       let v : ℕ = getD (encoding cs (code .values)) e 0 in
       let is : addedEntry σ 𝓟 id e ≡ v % σ .modulus =
-          code .entries-are e (all-in e (publishedFrom 0 cs) (kept .published-below) h) in
+      code .entries-are e (all-in e (publishedFrom 0 cs) (kept .published-below) h) in
       let less : v % σ .modulus * 𝓟 .returns ≤ v * 𝓟 .returns = mul-le-mul-right (𝓟 .returns) (mod-le v (σ .modulus)) in
       let fits : v * 𝓟 .returns < σ .modulus =
-          published-fits σ (𝓟 .returns) cs (code .values) (code .legal) (opened .fit) e h in
+      published-fits σ (𝓟 .returns) cs (code .values) (code .legal) (opened .fit) e h in
       rw is (omega arith)
 
   whole : ((id : ℕ) → In id (acceptedAt σ 𝓟 0) → KeepsForm σ 𝓟 id)
@@ -66,8 +66,8 @@ module _ (σ : Setting) (facts : Facts σ) (𝓟 : Pool σ) (any : 0 < 𝓟 .ser
   whole keeps =
       totals σ facts 𝓟 any 𝓒 closed
       ∙ map-same _ _ (publishedFrom 0 (columns σ 𝓟)) (λ e h. mod-eq-of-lt
-        (small-sum (σ .modulus) (𝓟 .returns) (λ id. addedEntry σ 𝓟 id e) (acceptedAt σ 𝓟 0)
-        (modulus-positive σ facts) (opened .some) (few-ids σ facts 𝓟 any 𝓒 closed) (λ id q. entry-fits id (keeps id q) e h)))
+      (small-sum (σ .modulus) (𝓟 .returns) (λ id. addedEntry σ 𝓟 id e) (acceptedAt σ 𝓟 0)
+      (modulus-positive σ facts) (opened .some) (few-ids σ facts 𝓟 any 𝓒 closed) (λ id q. entry-fits id (keeps id q) e h)))
 
   wrote-closing : (i : ℕ) → i < 𝓟 .servers
       → In (wrote (closingMessage σ (openedAt σ 𝓟 i) (ledgerAt σ 𝓟 i))) (answersAt σ 𝓟 i)

@@ -18,8 +18,8 @@ use Rattle.rules.specs.Values.{Encodes, encoding}
 use Rattle.rules.specs.Judging.{addedUp}
 use Rattle.rules.specs.Joining.{joinCount, joinTotals}
 use Rattle.rules.specs.Ledger.{wrote, closingMessage}
-use Rattle.rules.specs.WholeRun.{Pool, columns, openedAt, ledgerAt, answersAt, acceptedAt, addedEntry, KeepsForm, Conditions, AllClosed}
-use Rattle.rules.specs.WholeRun.{closings, Closed}
+use Rattle.rules.specs.WholeRun.{Pool, columns, openedAt, ledgerAt, answersAt, acceptedAt, addedEntry, KeepsForm}
+use Rattle.rules.specs.WholeRun.{Conditions, AllClosed, closings, Closed}
 use Rattle.rules.proofs.Limits.{Limits, limits}
 use Rattle.rules.proofs.Legal.{sheet-tests-say-legal}
 use Rattle.rules.proofs.Published.{published-fits}

@@ -2,12 +2,13 @@
 -- are refused in between; antt computes it. It meets the conditions, so what demand 3 says of it holds. Assumes nothing.
 use mathlib.Core.Path.{_≡_, refl}
 use mathlib.Core.Bool.{true, cond}
-use mathlib.Core.List.{List, [], _∷_, map}
-use Prim.Native.Nat.{ℕ, _+_}
+use mathlib.Core.List.{List, [], _∷_, _++_, map}
+use Prim.Native.Nat.{ℕ, _+_, _-_}
 use native.Mathlib.Omega.{arith}
-use lib.ListN.{getD, replicate}
+use lib.ListN.{getD, set, take, replicate}
 use Rattle.algebra.specs.Lists.{tabulate}
 use Rattle.algebra.specs.Modulo.{modulo}
+use Rattle.words.specs.Bytes.{part}
 use Rattle.rules.specs.Settings.{document01}
 use Rattle.rules.specs.Columns.{columnsOf}
 use Rattle.rules.specs.Making.{shareOf, madeShare, shareMessage}
@@ -74,14 +75,26 @@ wholeFalse = 2 ∷ 2 ∷ 3 ∷ 6 ∷ 0 ∷ 2147483645 ∷ 5 ∷ 7 ∷ 35 ∷ []
 abbrev false-return : ℕ → List ℕ
 false-return i = tabulate (shareOf (modulo 2147483647) 2 (λ k. getD wholeFalse k 0) (λ j k. getD random (4 + k) 0) i) 9
 
+-- joined messages of two servers in the wrong order
+abbrev swapped : List ℕ → List ℕ
+swapped joined = part 14 14 joined ++ part 0 14 joined
+
 unfoldable pub calls : ℕ → List Call
 calls i =
     give 77 honest 4 9 i
+    -- refused: a call that the stage does not allow; another id, own message altered, wrong order, cut; no room
     ∷ close 100
     ∷ roundOne (ones 2 sheet 3 78 honest 4 9) 14
+    ∷ roundOne (ones 2 sheet 3 77 honest 5 9) 14
+    ∷ roundOne (swapped (ones 2 sheet 3 77 honest 4 9)) 14
+    ∷ roundOne (take 27 (ones 2 sheet 3 77 honest 4 9)) 14
     ∷ roundOne (ones 2 sheet 3 77 honest 4 9) 13
     ∷ roundOne (ones 2 sheet 3 77 honest 4 9) 14
+    ∷ roundTwo (ones 2 sheet 3 77 honest 4 9)
     ∷ roundTwo (twos 2 sheet 3 77 honest 4 9)
+    -- refused: another server's share, an element p, an id decided, r = M
+    ∷ share (shareMessage document01 78 (1 - i) (false-return i)) 3 9 14
+    ∷ share (shareMessage document01 78 i (set (false-return i) 0 2147483647)) 3 9 14
     ∷ give 77 honest 4 9 i
     ∷ give 78 false-return 1 9 i
     ∷ give 78 false-return 3 9 i
@@ -89,6 +102,7 @@ calls i =
     ∷ roundTwo (twos 2 sheet 3 78 false-return 3 9)
     ∷ give 79 honest 4 9 i
     ∷ drop
+    -- refused: three returns are decided; no room; closed
     ∷ give 80 honest 4 9 i
     ∷ close 9
     ∷ close 10
@@ -103,7 +117,8 @@ abbrev pub pool : Pool document01
 pool = poolOf document01 2 sheet 3 (λ i. replicate 200 0) calls is-pool
 
 answers : map short (answersAt document01 pool 1)
-    ≡ 100 ∷ 11 ∷ 12 ∷ 14 ∷ 100 ∷ 200 ∷ 10 ∷ 9 ∷ 100 ∷ 100 ∷ 300 ∷ 100 ∷ 400 ∷ 13 ∷ 14 ∷ 100 ∷ 11 ∷ []
+    ≡ (100 ∷ 11 ∷ 12 ∷ 12 ∷ 12 ∷ 12 ∷ 14 ∷ 100 ∷ 12 ∷ 200 ∷ [])
+    ++ (7 ∷ 8 ∷ 10 ∷ 9 ∷ 100 ∷ 100 ∷ 300 ∷ 100 ∷ 400 ∷ 13 ∷ 14 ∷ 100 ∷ 11 ∷ [])
 unfolding everything short calls ones twos oneByOne
 answers = refl
 

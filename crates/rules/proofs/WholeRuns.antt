@@ -1,0 +1,24 @@
+-- DEMAND 3: what every list of calls at S servers comes to. Each field is a theorem of its own file.
+-- Assumes that there is a server; that there are 2 to 8 follows, since each was opened.
+use mathlib.Core.Path.{_≡_}
+use Prim.Native.Nat.{ℕ, _<_}
+use Rattle.rules.specs.Settings.{Setting, Facts}
+use Rattle.rules.specs.WholeRun.{Pool, columns, WholeRun}
+use Rattle.rules.proofs.OnSheets.{sheet-few-pairs}
+use Rattle.rules.proofs.TableOpens.{tables-tell}
+use Rattle.rules.proofs.Opened.{Opens, opened-says}
+use Rattle.rules.proofs.WholeTotals.{closed-together}
+use Rattle.rules.proofs.Verdicts.{verdict, honest}
+use Rattle.rules.proofs.Handled.{handled}
+
+pub whole-run : (σ : Setting) → Facts σ → (𝓟 : Pool σ) → 0 < 𝓟 .servers → WholeRun σ 𝓟
+whole-run σ facts 𝓟 some =
+    let opened : Opens σ (𝓟 .servers) (𝓟 .sheet) (𝓟 .returns) = opened-says σ _ 0 _ _ _ (𝓟 .opens 0 some) in
+    record {
+      tables = tables-tell σ facts 𝓟;
+      closed = closed-together σ facts 𝓟 some;
+      verdict = verdict σ facts 𝓟;
+      honest = honest σ facts 𝓟;
+      few = sheet-few-pairs σ facts (𝓟 .sheet) (columns σ 𝓟) (opened .read) (𝓟 .servers) some;
+      handled = handled σ facts 𝓟;
+    }

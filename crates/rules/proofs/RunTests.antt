@@ -5,8 +5,8 @@ use mathlib.Core.Logic.{_⊎_, ⊎-elim, inl, inr}
 use mathlib.Core.Bool.{Bool, true, false, not, _&&_, _||_, false≢true}
 use mathlib.Core.List.{List, [], _∷_}
 use Prim.Native.Nat.{ℕ, _<_}
-use borrow.Author.Tests.{eqb-true, eqb-false, not-true}
-use lib.Dec.{eqb}
+use borrow.Author.Tests.{eqb-true, eqb-false, ltb-true, not-true}
+use lib.Dec.{eqb, ltb}
 use lib.ListN.{length}
 use Rattle.algebra.specs.Lists.{In, every, countFrom}
 use Rattle.algebra.proofs.Members.{and-left, and-right, every-all, all-in, all-map}
@@ -55,16 +55,20 @@ module _ (σ : Setting) (servers : ℕ) (sheet : List ℕ) (returns : ℕ) (buff
       && (every bytesCall (calls i) && eqb (openRefusal σ servers i sheet returns (length (buffers i))) 0)
 
   unfoldable pub isPool : Bool
-  isPool = allBelow 256 sheet && every opensAt (countFrom 0 servers)
+  isPool = (ltb 0 servers && allBelow 256 sheet) && every opensAt (countFrom 0 servers)
 
   module _ (e : isPool ≡ true) where
     at-server : (i : ℕ) → i < servers → opensAt i ≡ true
     unfolding isPool
-    at-server = every-at opensAt servers (and-right (allBelow 256 sheet) (every opensAt (countFrom 0 servers)) e)
+    at-server = every-at opensAt servers (and-right (ltb 0 servers && allBelow 256 sheet) (every opensAt (countFrom 0 servers)) e)
+
+    pub some-servers : ltb 0 servers ≡ true
+    unfolding isPool
+    some-servers = and-left (ltb 0 servers) (allBelow 256 sheet) (and-left (ltb 0 servers && allBelow 256 sheet) _ e)
 
     pub sheet-is : allBelow 256 sheet ≡ true
     unfolding isPool
-    sheet-is = and-left (allBelow 256 sheet) (every opensAt (countFrom 0 servers)) e
+    sheet-is = and-right (ltb 0 servers) (allBelow 256 sheet) (and-left (ltb 0 servers && allBelow 256 sheet) _ e)
 
     pub buffer-is : (i : ℕ) → i < servers → allBelow 256 (buffers i) ≡ true
     unfolding opensAt
@@ -88,6 +92,7 @@ module _ (σ : Setting) (servers : ℕ) (sheet : List ℕ) (returns : ℕ) (buff
       sheet-bytes = all-of-below 256 sheet sheet-is;
       buffer-bytes = λ i l. all-of-below 256 (buffers i) (buffer-is i l);
       call-bytes = λ i l. all-map bytes-call (every-all bytesCall (calls i) (calls-are i l));
+      some = ltb-true 0 servers some-servers;
       opens = λ i l. eqb-true _ 0 (opens-is i l);
     }
 

@@ -23,7 +23,8 @@ use Rattle.rules.proofs.Checks.{IsOf}
 use Rattle.rules.proofs.Moves.{History, history, Joined, answerTo}
 use Rattle.rules.proofs.NotesGrow.{Sound, sound-notes}
 use Rattle.rules.proofs.Origins.{Origin, of-share, of-one, of-close, origin, JudgedOn, judged-on}
-use Rattle.rules.proofs.OwnMessages.{d-below, e-below, tau-below, kind-one, id-one, first-one, second-one, kind-two}
+use Rattle.rules.proofs.TableInvariant.{d-below, e-below, tau-below}
+use Rattle.rules.proofs.OwnMessages.{kind-one, id-one, first-one, second-one, kind-two}
 use Rattle.rules.proofs.OwnMessages.{id-two, first-two, second-two, id-noted, kind-closing}
 
 -- the share under an id is the one that was noted
@@ -121,13 +122,13 @@ module _ (σ : Setting) (𝓟 : Pool σ) where
       unfolding firstSum
       first-sum = sum-ext (modulo (σ .modulus)) (𝓟 .servers) _ _ (λ q b.
           ap (firstIn σ) (place-one i q l b id joined h (s q b))
-          ∙ first-one σ facts (openedAt σ 𝓟 q) (firstAt id q) (d-below σ facts (openedAt σ 𝓟 q) _ _ _ _))
+          ∙ first-one σ facts (openedAt σ 𝓟 q) (firstAt id q) (d-below σ facts (openedAt σ 𝓟 q) (shareAt id q)))
 
       second-sum : secondSum σ (𝓟 .servers) joined ≡ eAll id
       unfolding secondSum
       second-sum = sum-ext (modulo (σ .modulus)) (𝓟 .servers) _ _ (λ q b.
           ap (secondIn σ) (place-one i q l b id joined h (s q b))
-          ∙ second-one σ facts (openedAt σ 𝓟 q) (firstAt id q) (e-below σ facts (openedAt σ 𝓟 q) _ _ _ _))
+          ∙ second-one σ facts (openedAt σ 𝓟 q) (firstAt id q) (e-below σ facts (openedAt σ 𝓟 q) (shareAt id q)))
 
     -- ---- round two
     record Second (joined : List ℕ) (id q : ℕ) : Type 0 where
@@ -174,7 +175,7 @@ module _ (σ : Setting) (𝓟 : Pool σ) where
         ∙ first-two σ facts (openedAt σ 𝓟 q) (secondAt id q)))
         (sum-ext (modulo (σ .modulus)) (𝓟 .servers) _ _ (λ q b.
         ap (secondIn σ) (place-two i q l b id joined h (s q b) .is)
-        ∙ second-two σ facts (openedAt σ 𝓟 q) (secondAt id q) (tau-below σ facts (openedAt σ 𝓟 q) _ _ _ _)))
+        ∙ second-two σ facts (openedAt σ 𝓟 q) (secondAt id q) (tau-below σ facts (openedAt σ 𝓟 q) (shareAt id q))))
 
     -- ---- a return judged to the end
     module _ (i : ℕ) (l : i < 𝓟 .servers) (k : Decided) (h : In k (ledgerAt σ 𝓟 i .decided))

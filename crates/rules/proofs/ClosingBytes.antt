@@ -1,11 +1,11 @@
 -- A closing message is read back: byte, server, count and totals stand at their places. Sums modulo p that grow at their
 -- end are sums over a list, with one remainder. Assumes that count and totals fit.
-use mathlib.Core.Path.{_≡_, refl, sym, ap, ap₂, _∙_}
+use mathlib.Core.Path.{_≡_, refl, sym, ap, _∙_}
 use mathlib.Core.List.{List, [], _∷_, _++_, map}
 use Prim.Native.Nat.{ℕ, zero, suc, _+_, _-_, _*_, _%_, _≤_, _<_}
 use native.Mathlib.Nat.{mod-add-mod, zero-mod, zero-mul, zero-add, add-zero, mul-comm, mul-le-mul-right, le-of-mul-le-mul-left}
 use native.Mathlib.Omega.{arith}
-use lib.ListN.{length, getD, drop, length-append}
+use lib.ListN.{length, getD, drop}
 use lib.Seq.{take-at}
 use Rattle.algebra.specs.Lists.{All, In, tabulate, sumOver, countFrom}
 use Rattle.algebra.specs.Modulo.{modulo}
@@ -17,7 +17,6 @@ use Rattle.words.specs.Bytes.{valueOf, bytesOf, bytesOfAll, elementsOf}
 use Rattle.words.proofs.Numbers.{length-bytes, value-bytes}
 use Rattle.words.proofs.Elements.{length-bytes-all, elements-bytes}
 use Rattle.rules.specs.Settings.{Setting, Facts}
-use Rattle.rules.specs.Columns.{Column, publishedOf, publishedIn, publishedFrom, entriesOf}
 use Rattle.rules.specs.Server.{Opened, totalsMessage}
 use Rattle.rules.specs.Joining.{acceptedCount, sumsIn}
 use Rattle.rules.proofs.MessageBytes.{width-positive}
@@ -52,19 +51,7 @@ module _ (σ : Setting) (o : Opened) (count : ℕ) (totals : List ℕ) where
       ap (elementsOf (σ .width)) behind
       ∙ elements-bytes (σ .width) (width-positive σ facts) totals (all-map (λ x h. omega (arith, facts .fits)) below)
 
--- ---- the published entries
-length-count : (a n : ℕ) → length (countFrom a n) ≡ n
-unfolding countFrom
-length-count a zero = refl
-length-count a (suc n) = ap suc (length-count (suc a) n)
-
-pub length-published : (e : ℕ) (cs : List Column) → length (publishedFrom e cs) ≡ publishedIn cs
-unfolding publishedFrom publishedIn
-length-published e [] = refl
-length-published e (c ∷ cs) =
-    length-append (countFrom e (publishedOf c)) (publishedFrom (e + entriesOf c) cs)
-    ∙ ap₂ (λ (a b : ℕ). a + b) (length-count e (publishedOf c)) (length-published (e + entriesOf c) cs)
-
+-- ---- places
 -- a list made from another, place by place
 pub map-places : (f : ℕ → ℕ) (xs : List ℕ) → map f xs ≡ tabulate (λ k. f (getD xs k 0)) (length xs)
 map-places f xs =

@@ -1,5 +1,5 @@
 -- Field 7 of demand 3 put to a return: since every element noted is below p, few pairs let in a return that does not keep
--- its form. Shares past the last server count for nothing, so they may be taken as 0. Assumes that there is a server.
+-- its form. Shares past the last server count for nothing, so they may be taken as 0. Assumes nothing.
 use mathlib.Core.Path.{_≡_, refl, ap, subst}
 use mathlib.Core.Bool.{Bool, true, false, cond}
 use mathlib.Core.Logic.{inl, inr}
@@ -18,8 +18,8 @@ use Rattle.rules.specs.Run.{Valid}
 use Rattle.rules.specs.Judging.{addedUp, letsIn}
 use Rattle.rules.specs.Ledger.{Note}
 use Rattle.rules.specs.WholeRun.{Pool, columns, under, notesAt, returnOf, addedEntry, KeepsForm}
-use Rattle.rules.proofs.MessageBytes.{modulus-positive}
-use Rattle.rules.proofs.Opened.{Opens, opened-says}
+use Rattle.rules.proofs.TableInvariant.{positive}
+use Rattle.rules.proofs.PoolOpened.{is-read}
 use Rattle.rules.proofs.OnSheets.{sheet-few-pairs}
 use Rattle.rules.proofs.Agreement.{sound-at}
 use Rattle.rules.proofs.Verdicts.{lets-in-same}
@@ -40,10 +40,10 @@ getD-below p h [] all[] e = h
 getD-below p h (x ∷ xs) (all∷ l ls) zero = l
 getD-below p h (x ∷ xs) (all∷ l ls) (suc e) = getD-below p h xs ls e
 
-module _ (σ : Setting) (facts : Facts σ) (𝓟 : Pool σ) (some : 0 < 𝓟 .servers) (id : ℕ) where
+module _ (σ : Setting) (facts : Facts σ) (𝓟 : Pool σ) (id : ℕ) where
   return-below : (i : ℕ) → i < 𝓟 .servers → (e : ℕ) → returnOf σ 𝓟 id i e < σ .modulus
   return-below i l =
-      getD-below (σ .modulus) (modulus-positive σ facts) (under id (notesAt σ 𝓟 i) .elements)
+      getD-below (σ .modulus) (positive σ facts) (under id (notesAt σ 𝓟 i) .elements)
       (under-has (All (λ x. x < σ .modulus)) id (notesAt σ 𝓟 i) all[] (sound-at σ 𝓟 i l .below))
 
   -- the shares of the servers that there are
@@ -55,7 +55,7 @@ module _ (σ : Setting) (facts : Facts σ) (𝓟 : Pool σ) (some : 0 < 𝓟 .se
     where
       go : (b : Bool) → ltb i (𝓟 .servers) ≡ b → cond b (returnOf σ 𝓟 id i e) 0 < σ .modulus
       go true q = return-below i (ltb-true i (𝓟 .servers) q) e
-      go false q = modulus-positive σ facts
+      go false q = positive σ facts
 
   same : (i : ℕ) → i < 𝓟 .servers → shares i ≡ returnOf σ 𝓟 id i
   same i l = λ t e. cond (lt-ltb i (𝓟 .servers) l t) (returnOf σ 𝓟 id i e) 0
@@ -68,10 +68,9 @@ module _ (σ : Setting) (facts : Facts σ) (𝓟 : Pool σ) (some : 0 < 𝓟 .se
       → countPairs (σ .modulus) (σ .modulus) (letsIn σ (columns σ 𝓟) (𝓟 .servers) (returnOf σ 𝓟 id))
       ≤ σ .modulus * max (suc (gatesIn (columns σ 𝓟) + gatesIn (columns σ 𝓟))) (testsIn (columns σ 𝓟) - 1)
   few-for-return broken =
-      let opened : Opens σ (𝓟 .servers) (𝓟 .sheet) (𝓟 .returns) = opened-says σ _ 0 _ _ _ (𝓟 .opens 0 some) in
       let most : ℕ = σ .modulus * max (suc (gatesIn (columns σ 𝓟) + gatesIn (columns σ 𝓟))) (testsIn (columns σ 𝓟) - 1) in
       let equal : letsIn σ (columns σ 𝓟) (𝓟 .servers) shares ≡ letsIn σ (columns σ 𝓟) (𝓟 .servers) (returnOf σ 𝓟 id) =
       λ t r s. lets-in-same σ (columns σ 𝓟) (𝓟 .servers) shares (returnOf σ 𝓟 id) same r s t in
       subst (λ (f : ℕ → ℕ → Bool). countPairs (σ .modulus) (σ .modulus) f ≤ most) equal
-      (sheet-few-pairs σ facts (𝓟 .sheet) (columns σ 𝓟) (opened .read) (𝓟 .servers) some shares shares-below
+      (sheet-few-pairs σ facts (𝓟 .sheet) (columns σ 𝓟) (is-read σ 𝓟) (𝓟 .servers) (𝓟 .some) shares shares-below
       (λ v. broken (subst (Valid (modulo (σ .modulus)) σ (columns σ 𝓟)) added-same v)))

@@ -31,7 +31,8 @@ use Rattle.rules.specs.WholeRun.{seconds, secondsFrom, threeCalls, Ready
 use Rattle.rules.proofs.MessageBytes.{oneByOne}
 use Rattle.rules.proofs.ShareBytes.{length-share, share-kind, share-id, share-server, share-elements}
 use Rattle.rules.proofs.Checks.{Written, written}
-use Rattle.rules.proofs.OwnMessages.{d-below, e-below, sigma-below, tau-below}
+use Rattle.rules.proofs.OwnMessages.{sigma-below}
+use Rattle.rules.proofs.TableInvariant.{d-below, e-below, tau-below}
 use Rattle.rules.proofs.Moves.{at}
 
 not-has : (x : ℕ) (s : List ℕ) → (In x s → ⊥) → has x s ≡ false
@@ -81,10 +82,10 @@ module _ (σ : Setting) (o : Opened) where
         rw (e₁, e₂, e₃, e₄, e₅, e₆, pair, le-leb _ _ enough)
 
     -- what is noted of it
-    abbrev note : Note
-    note = record { id = id; elements = xs; r = r; s = s }
+    abbrev sentNote : Note
+    sentNote = record { id = id; elements = xs; r = r; s = s }
 
-    noted-share : noteOf σ o sent r s ≡ note
+    noted-share : noteOf σ o sent r s ≡ sentNote
     noted-share = λ t. record {
       id = share-id σ id (o .own) xs id-fits t;
       elements = share-elements σ id (o .own) xs facts below t;
@@ -92,7 +93,7 @@ module _ (σ : Setting) (o : Opened) where
       s = s;
     }
 
-    share-taken : TakenShare (at isIdle ds) (share sent r s room) note
+    share-taken : TakenShare (at isIdle ds) (share sent r s room) sentNote
     unfolding answerOf ledgerAfter messageTold stageTold
     share-taken = record {
       passes = share-passes;
@@ -108,6 +109,9 @@ module _ (σ : Setting) (facts : Facts σ) (𝓟 : Pool σ) (id : ℕ) (shares :
 
   abbrev S : ℕ
   S = 𝓟 .servers
+
+  abbrev note : ℕ → Note
+  note j = record { id = id; elements = shares j; r = r; s = s }
 
   abbrev wait : ℕ → Waiting
   wait j = firstWait σ 𝓟 id shares r s j
@@ -137,21 +141,18 @@ module _ (σ : Setting) (facts : Facts σ) (𝓟 : Pool σ) (id : ℕ) (shares :
   round-one : Written σ S 34 id (λ j. wait j .d) (λ j. wait j .e) joined₁
   round-one = subst (Written σ S 34 id (λ j. wait j .d) (λ j. wait j .e)) (sym (firsts-are 0 S))
       (written σ facts S 34 id _ _ (ready .id-fits)
-      (λ j h. d-below σ facts (o j) id (shares j) r s) (λ j h. e-below σ facts (o j) id (shares j) r s))
+      (λ j h. d-below σ facts (o j) (note j)) (λ j h. e-below σ facts (o j) (note j)))
 
   round-two : Written σ S 35 id (λ j. sigmaIn σ (o j) (wait₂ j)) (λ j. wait j .tau) joined₂
   round-two = subst (Written σ S 35 id (λ j. sigmaIn σ (o j) (wait₂ j)) (λ j. wait j .tau)) (sym (seconds-are 0 S))
       (written σ facts S 35 id _ _ (ready .id-fits)
-      (λ j h. sigma-below σ facts (o j) (wait₂ j)) (λ j h. tau-below σ facts (o j) id (shares j) r s))
+      (λ j h. sigma-below σ facts (o j) (wait₂ j)) (λ j h. tau-below σ facts (o j) (note j)))
 
   module _ (i : ℕ) (l : i < S) (ds : List Decided) where
-    abbrev n : Note
-    n = record { id = id; elements = shares i; r = r; s = s }
-
     abbrev afterOne : Ledger
-    afterOne = at (waitsTwo n (firstSum σ S joined₁) (secondSum σ S joined₁)) ds
+    afterOne = at (waitsTwo (note i) (firstSum σ S joined₁) (secondSum σ S joined₁)) ds
 
-    one-passes : refusalOf σ (o i) (at (waitsOne n) ds) (roundOne joined₁ room) ≡ 0
+    one-passes : refusalOf σ (o i) (at (waitsOne (note i)) ds) (roundOne joined₁ room) ≡ 0
     unfolding refusalOf told stageTold oneRefusal whileOne messageOne waitingOf orElse
     one-passes = rw (round-one .passes i l, le-leb _ _ (ready .enough))
 
@@ -159,11 +160,11 @@ module _ (σ : Setting) (facts : Facts σ) (𝓟 : Pool σ) (id : ℕ) (shares :
     unfolding refusalOf told stageTold twoRefusal whileTwo messageTwo waitingOf summed
     two-passes = round-two .passes i l
 
-    rounds-answers : ledgerAnswers σ (o i) (at (waitsOne n) ds) (roundOne joined₁ room ∷ roundTwo joined₂ ∷ [])
+    rounds-answers : ledgerAnswers σ (o i) (at (waitsOne (note i)) ds) (roundOne joined₁ room ∷ roundTwo joined₂ ∷ [])
         ≡ wrote (messageTwo σ (o i) (wait₂ i)) ∷ judged (bothZero σ S joined₂) ∷ []
     unfolding ledgerAfter sumsNoted answerOf messageTold stageTold ledgerAnswers summed
     rounds-answers =
-        answer-next σ (o i) (at (waitsOne n) ds) (roundOne joined₁ room) (roundTwo joined₂ ∷ []) one-passes
+        answer-next σ (o i) (at (waitsOne (note i)) ds) (roundOne joined₁ room) (roundTwo joined₂ ∷ []) one-passes
         ∙ ap (λ (v : List Answer). wrote (messageTwo σ (o i) (wait₂ i)) ∷ v)
         (answer-next σ (o i) afterOne (roundTwo joined₂) [] two-passes)
 

@@ -1,6 +1,6 @@
 -- Fields 2, 3 and 4 of demand 3: when all servers have closed, the accepted ids are the same at each, and joining the
 -- closing messages is refused 14 at most and gives their number and the sums of the added-up published entries. Sums over
--- servers and over ids may be taken in either order. Assumes the conditions of whole runs, and that there is a server.
+-- servers and over ids may be taken in either order. Assumes the conditions of whole runs.
 use mathlib.Core.Path.{_≡_, refl, sym, ap, _∙_}
 use mathlib.Core.Bool.{true}
 use mathlib.Core.List.{List, _++_, map}
@@ -29,14 +29,15 @@ use Rattle.rules.specs.Joining.{joinTotals}
 use Rattle.rules.specs.Ledger.{Note, isAccepted, notesWith, ledgerTotals, closingMessage}
 use Rattle.rules.specs.WholeRun.{Pool, columns, openedAt, ledgerAt, acceptedAt, returnOf, addedEntry}
 use Rattle.rules.specs.WholeRun.{Conditions, AllClosed, closingsFrom, closings}
-use Rattle.rules.proofs.MessageBytes.{modulus-positive, oneByOne, length-one-by-one, part-one-by-one}
+use Rattle.rules.proofs.MessageBytes.{oneByOne, length-one-by-one, part-one-by-one}
 use Rattle.rules.proofs.Checks.{at-every}
-use Rattle.rules.proofs.Opened.{Opens, opened-says}
+use Rattle.rules.proofs.TableInvariant.{positive}
+use Rattle.rules.proofs.PoolOpened.{opened, limited, returns-limits}
 use Rattle.rules.proofs.SameIds.{few-accepted, own-sum, same-ids}
 use Rattle.rules.proofs.ClosingBytes.{length-totals, totals-kind, totals-server, totals-count, totals-sums}
-use Rattle.rules.proofs.ClosingBytes.{length-published, map-places, getD-map, sum-modulo}
+use Rattle.rules.proofs.ClosingBytes.{map-places, getD-map, sum-modulo}
 
-module _ (σ : Setting) (facts : Facts σ) (𝓟 : Pool σ) (any : 0 < 𝓟 .servers) (𝓒 : Conditions σ 𝓟) (closed : AllClosed σ 𝓟) where
+module _ (σ : Setting) (facts : Facts σ) (𝓟 : Pool σ) (𝓒 : Conditions σ 𝓟) (closed : AllClosed σ 𝓟) where
   abbrev S : ℕ
   S = 𝓟 .servers
 
@@ -45,9 +46,6 @@ module _ (σ : Setting) (facts : Facts σ) (𝓟 : Pool σ) (any : 0 < 𝓟 .ser
 
   abbrev p : ℕ
   p = σ .modulus
-
-  pub opens : Opens σ S (𝓟 .sheet) (𝓟 .returns)
-  opens = opened-says σ S 0 (𝓟 .sheet) (𝓟 .returns) (length (𝓟 .buffers 0)) (𝓟 .opens 0 any)
 
   -- the accepted ids
   abbrev ids : List ℕ
@@ -58,10 +56,10 @@ module _ (σ : Setting) (facts : Facts σ) (𝓟 : Pool σ) (any : 0 < 𝓟 .ser
 
   count-at : (i : ℕ) → i < S → length (acceptedNotes i) ≡ length ids
   count-at i l =
-      sym (length-map (acceptedNotes i) (λ n. n .id)) ∙ rearranged-length (same-ids σ 𝓟 closed facts 𝓒 i 0 l any)
+      sym (length-map (acceptedNotes i) (λ n. n .id)) ∙ rearranged-length (same-ids σ 𝓟 closed facts 𝓒 i 0 l (𝓟 .some))
 
   pub few-ids : length ids ≤ 𝓟 .returns
-  few-ids = omega (arith, count-at 0 any, few-accepted σ 𝓟 closed 0 any)
+  few-ids = omega (arith, count-at 0 (𝓟 .some), few-accepted σ 𝓟 closed 0 (𝓟 .some))
 
   -- ---- the closing messages
   abbrev closing : ℕ → List ℕ
@@ -72,11 +70,11 @@ module _ (σ : Setting) (facts : Facts σ) (𝓟 : Pool σ) (any : 0 < 𝓟 .ser
 
   many-totals : (i : ℕ) → length (totalsOf i) ≡ publishedIn cs
   unfolding ledgerTotals
-  many-totals i = length-map (publishedFrom 0 cs) _ ∙ length-published 0 cs
+  many-totals i = length-map (publishedFrom 0 cs) _ ∙ limited σ 𝓟 .published-count
 
   small-totals : (i : ℕ) → All (λ x. x < p) (totalsOf i)
   unfolding ledgerTotals
-  small-totals i = map-all _ (in-all (publishedFrom 0 cs) (λ e h. mod-lt _ (modulus-positive σ facts)))
+  small-totals i = map-all _ (in-all (publishedFrom 0 cs) (λ e h. mod-lt _ (positive σ facts)))
 
   closing-length : (i : ℕ) → length (closing i) ≡ messageLength σ cs
   unfolding closingMessage
@@ -95,7 +93,7 @@ module _ (σ : Setting) (facts : Facts σ) (𝓟 : Pool σ) (any : 0 < 𝓟 .ser
   closing-count : (i : ℕ) → i < S → acceptedCount (closing i) ≡ length ids
   unfolding closingMessage
   closing-count i l =
-      let few : length (acceptedNotes i) < 4294967296 = omega (arith, few-accepted σ 𝓟 closed i l, opens .most) in
+      let few : length (acceptedNotes i) < 4294967296 = omega (arith, few-accepted σ 𝓟 closed i l, returns-limits σ 𝓟 .1) in
       totals-count σ (openedAt σ 𝓟 i) (length (acceptedNotes i)) (totalsOf i) few ∙ count-at i l
 
   closing-sums : (i : ℕ) → sumsIn σ (closing i) ≡ totalsOf i
@@ -126,8 +124,8 @@ module _ (σ : Setting) (facts : Facts σ) (𝓟 : Pool σ) (any : 0 < 𝓟 .ser
       let first : take m (closings σ 𝓟) ≡ totalsAt σ cs (closings σ 𝓟) 0 =
       ap (λ (k : ℕ). take m (drop k (closings σ 𝓟))) (sym (mul-zero m)) in
       ap valueOf (sym front)
-      ∙ ap acceptedCount (first ∙ place 0 any)
-      ∙ closing-count 0 any
+      ∙ ap acceptedCount (first ∙ place 0 (𝓟 .some))
+      ∙ closing-count 0 (𝓟 .some)
 
   -- ---- joining
   sound : (i : ℕ) → i < S → totalsSound σ (acceptedCount (closings σ 𝓟)) i (totalsAt σ cs (closings σ 𝓟) i) ≡ true
@@ -157,7 +155,9 @@ module _ (σ : Setting) (facts : Facts σ) (𝓟 : Pool σ) (any : 0 < 𝓟 .ser
   pub joins : (room : ℕ) → joinRefusal σ S (𝓟 .sheet) (𝓟 .returns) (closings σ 𝓟) room
       ≡ check (leb (σ .width * publishedIn cs) room) 14
   unfolding joinRefusal orElse
-  joins room = rw (opens .servers-pass, opens .sheet-passes, opens .returns-pass, opens .totals-pass, joined-pass)
+  joins room =
+      let o = opened σ 𝓟 in
+      rw (o .servers-fit, o .no-fault, o .returns-fit, o .totals-fit, joined-pass)
 
   -- ---- totals
   abbrev shareOf : ℕ → ℕ → ℕ → ℕ
@@ -173,7 +173,7 @@ module _ (σ : Setting) (facts : Facts σ) (𝓟 : Pool σ) (any : 0 < 𝓟 .ser
       ∙ getD-map (λ e. sumOver (λ n. getD (n .elements) e 0) (acceptedNotes i) % p) (publishedFrom 0 cs) k h
       ∙ ap (λ (v : ℕ). v % p)
       (own-sum σ 𝓟 closed i l (getD (publishedFrom 0 cs) k 0)
-      ∙ rearranged-sum (shareOf (getD (publishedFrom 0 cs) k 0) i) (same-ids σ 𝓟 closed facts 𝓒 i 0 l any))
+      ∙ rearranged-sum (shareOf (getD (publishedFrom 0 cs) k 0) i) (same-ids σ 𝓟 closed facts 𝓒 i 0 l (𝓟 .some)))
 
   added-is : (id e : ℕ) → addedEntry σ 𝓟 id e ≡ sumOver (λ i. shareOf e i id) (countFrom 0 S) % p
   unfolding addedUp
@@ -197,6 +197,6 @@ module _ (σ : Setting) (facts : Facts σ) (𝓟 : Pool σ) (any : 0 < 𝓟 .ser
   unfolding joinTotals
   totals =
       let f : ℕ → ℕ = λ k. sum (modulo p) S (λ i. getD (sumsIn σ (totalsAt σ cs (closings σ 𝓟) i)) k 0) in
-      ap (tabulate f) (sym (length-published 0 cs))
+      ap (tabulate f) (sym (limited σ 𝓟 .published-count))
       ∙ tabulate-cong f _ (length (publishedFrom 0 cs)) one-total
       ∙ sym (map-places (λ e. sumOver (λ id. addedEntry σ 𝓟 id e) ids % p) (publishedFrom 0 cs))

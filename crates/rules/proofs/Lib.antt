@@ -52,7 +52,7 @@ pub mod MessageBytes
 pub mod ShareBytes
 pub mod ClosingBytes
 pub mod Checks
-pub mod Opened
+pub mod PoolOpened
 pub mod Moves
 pub mod NotesGrow
 pub mod Origins

@@ -22,9 +22,6 @@ module _ (σ : Setting) (facts : Facts σ) where
   pub width-positive : 0 < σ .width
   width-positive = power-above (σ .width) (σ .modulus) (facts .large) (facts .fits)
 
-  pub modulus-positive : 0 < σ .modulus
-  modulus-positive = omega (arith, facts .large)
-
 -- ---- a round message
 module _ (σ : Setting) (kind id server x y : ℕ) where
   abbrev message : List ℕ

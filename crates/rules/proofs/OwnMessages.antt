@@ -1,23 +1,16 @@
 -- What is read in the messages that a server writes: round, id and the elements that Judging works out, which are below p
 -- since each is a remainder. Assumes nothing.
 use mathlib.Core.Path.{_≡_, refl}
-use mathlib.Core.List.{List}
-use Prim.Native.Nat.{ℕ, zero, suc, _+_, _^_, _<_}
+use Prim.Native.Nat.{ℕ, _^_, _<_}
 use native.Mathlib.Nat.{mod-lt}
 use native.Mathlib.Omega.{arith}
-use Rattle.algebra.specs.Modulo.{modulo}
-use Rattle.algebra.specs.Sums.{sum}
 use Rattle.rules.specs.Settings.{Setting, Facts}
-use Rattle.rules.specs.Judging.{dOf, eOf, sigmaFrom, tauOf, folded}
+use Rattle.rules.specs.Judging.{sigmaFrom}
 use Rattle.rules.specs.Messages.{kindIn, idIn, firstIn, secondIn}
 use Rattle.rules.specs.Server.{Opened, Waiting, waitingOf, sigmaIn, messageOne, messageTwo, totalsMessage}
 use Rattle.rules.specs.Ledger.{Note, Ledger, noted, closingMessage}
-use Rattle.rules.proofs.MessageBytes.{modulus-positive, round-kind, round-id, round-first, round-second}
-
-pub sum-below : (p : ℕ) → 0 < p → (n : ℕ) (f : ℕ → ℕ) → sum (modulo p) n f < p
-unfolding sum
-sum-below p h zero f = h
-sum-below p h (suc n) f = mod-lt (sum (modulo p) n f + f n) h
+use Rattle.rules.proofs.TableInvariant.{positive}
+use Rattle.rules.proofs.MessageBytes.{round-kind, round-id, round-first, round-second}
 
 -- ---- rounds and ids
 module _ (σ : Setting) (o : Opened) where
@@ -51,21 +44,9 @@ module _ (σ : Setting) (facts : Facts σ) (o : Opened) where
   abbrev Below : ℕ → Type 0
   Below x = x < σ .modulus
 
-  pub d-below : (id : ℕ) (xs : List ℕ) (r s : ℕ) → Below (waitingOf σ o id xs r s .d)
-  unfolding waitingOf dOf
-  d-below id xs r s = mod-lt _ (modulus-positive σ facts)
-
-  pub e-below : (id : ℕ) (xs : List ℕ) (r s : ℕ) → Below (waitingOf σ o id xs r s .e)
-  unfolding waitingOf eOf
-  e-below id xs r s = mod-lt _ (modulus-positive σ facts)
-
   pub sigma-below : (w : Waiting) → Below (sigmaIn σ o w)
   unfolding sigmaIn sigmaFrom
-  sigma-below w = mod-lt _ (modulus-positive σ facts)
-
-  pub tau-below : (id : ℕ) (xs : List ℕ) (r s : ℕ) → Below (waitingOf σ o id xs r s .tau)
-  unfolding waitingOf tauOf folded
-  tau-below id xs r s = sum-below (σ .modulus) (modulus-positive σ facts) _ _
+  sigma-below w = mod-lt _ (positive σ facts)
 
   fits : (n : ℕ) → Below n → n < 256 ^ σ .width
   fits n h = omega (arith, facts .fits)

@@ -4,7 +4,6 @@ use mathlib.Core.Path.{_≡_, refl}
 use mathlib.Core.Bool.{true, cond}
 use mathlib.Core.List.{List, [], _∷_, _++_, map}
 use Prim.Native.Nat.{ℕ, _+_, _-_}
-use native.Mathlib.Omega.{arith}
 use lib.ListN.{getD, set, take, replicate}
 use Rattle.algebra.specs.Lists.{tabulate}
 use Rattle.algebra.specs.Modulo.{modulo}
@@ -141,7 +140,7 @@ pair-78 = one-pair document01 pool 78 3 9 refl
 
 -- what is promised of it
 pub joined : Closed document01 pool
-joined = closed-together document01 document01-facts pool (omega arith) meets-them ended
+joined = closed-together document01 document01-facts pool meets-them ended
 
 -- and what comes of it: 77 is accepted, 79 dropped, and the one total is 1
 accepted-ids : acceptedAt document01 pool 1 ≡ 77 ∷ []

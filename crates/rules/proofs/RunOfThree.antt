@@ -5,7 +5,6 @@ use mathlib.Core.Path.{_≡_, refl}
 use mathlib.Core.Bool.{true, cond}
 use mathlib.Core.List.{List, [], _∷_, _++_, map}
 use Prim.Native.Nat.{ℕ, zero, suc, _+_, _*_, _%_}
-use native.Mathlib.Omega.{arith}
 use lib.Dec.{eqb}
 use lib.ListN.{replicate, set}
 use Rattle.algebra.specs.Lists.{tabulate}
@@ -94,7 +93,7 @@ ended = all-closed document01 pool refl
 
 -- what is promised of it
 pub joined : Closed document01 pool
-joined = closed-together document01 document01-facts pool (omega arith) meets-them ended
+joined = closed-together document01 document01-facts pool meets-them ended
 
 -- and what comes of it: 1 and 3 are accepted; one yes, the last option twice, and 3 + 1
 accepted-ids : acceptedAt document01 pool 2 ≡ 1 ∷ 3 ∷ []

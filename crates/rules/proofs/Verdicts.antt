@@ -5,7 +5,6 @@ use mathlib.Core.Path.{_≡_, sym, ap, ap₂, _∙_}
 use mathlib.Core.Bool.{true, false, _&&_}
 use mathlib.Core.List.{List}
 use Prim.Native.Nat.{ℕ, _<_}
-use native.Mathlib.Omega.{arith}
 use lib.Dec.{eqb}
 use lib.ListN.{getD}
 use Rattle.algebra.specs.Lists.{In}
@@ -19,7 +18,7 @@ use Rattle.rules.specs.Server.{waitingOf, sigmaIn}
 use Rattle.rules.specs.Ledger.{Note, Decided, isAccepted, isDropped}
 use Rattle.rules.specs.WholeRun.{Pool, columns, ledgerAt, returnOf, OnePair, Conditions, DeliveredWhole}
 use Rattle.words.proofs.Below.{all-of-below}
-use Rattle.rules.proofs.Opened.{Opens, opened-says}
+use Rattle.rules.proofs.PoolOpened.{is-read}
 use Rattle.rules.proofs.OnSheets.{sheet-honest-let-in}
 use Rattle.rules.proofs.Agreement.{sound-at, shareAt, dAll, eAll, sigmaAll, tauAll, verdictAll, Noted}
 use Rattle.rules.proofs.Agreement.{agreed, noted-everywhere}
@@ -108,10 +107,9 @@ module _ (σ : Setting) (facts : Facts σ) (𝓟 : Pool σ) where
       let pair : (n .r ≡ r) × (n .s ≡ s) = one i l n (at .is-in) (at .has-id) in
       let allowed : allowedPair σ (columns σ 𝓟) r s ≡ true =
       sym (ap₂ (allowedPair σ (columns σ 𝓟)) (pair .0) (pair .1)) ∙ sound-at σ 𝓟 i l .pairs n (at .is-in) in
-      let opens : Opens σ (𝓟 .servers) (𝓟 .sheet) (𝓟 .returns) = opened-says σ _ i _ _ _ (𝓟 .opens i l) in
       verdict 𝓒 i l k h f r s one
       ∙ lets-in-same σ (columns σ 𝓟) (𝓟 .servers) (returnOf σ 𝓟 id)
       (λ i e. getD (madeShare σ (columns σ 𝓟) (𝓟 .servers) (w .values) (w .random) i) e 0)
       (λ q b t e. getD (w .noted q b t) e 0) r s
-      ∙ sheet-honest-let-in σ facts (𝓟 .sheet) (columns σ 𝓟) (opens .read) (𝓟 .servers) (omega arith)
+      ∙ sheet-honest-let-in σ facts (𝓟 .sheet) (columns σ 𝓟) (is-read σ 𝓟) (𝓟 .servers) (𝓟 .some)
       (w .values) (w .random) (w .legal) (all-of-below (σ .modulus) (w .random) (w .below)) r s allowed

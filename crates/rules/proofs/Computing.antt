@@ -38,6 +38,8 @@ use Rattle.rules.specs.Recount.{decimalFrom, refusalText, lineText, opti
 use Rattle.rules.specs.Recount.{recountText}
 use Rattle.rules.specs.Ledger.{notesWith, ledgerTotals, closingMessage, stageTold, told, refusalOf, decideWaiting}
 use Rattle.rules.specs.Ledger.{sumsNoted, ledgerAfter, messageTold, answerOf, runLedger, ledgerAnswers}
+use Rattle.rules.specs.Runs.{tableRefusal, tableAfter, tableAnswer, runTable, tableAnswers}
+use Rattle.rules.specs.WholeRun.{waitingNote, notesIn, under, joinedIn, handedIn, closingsFrom, firstsFrom, secondsFrom}
 
 unfoldable pub part0 : Unit {0}
 unfolding sum product descending others weight basis interpolate inverseFrom tabulate every countFrom sumOver valueOf
@@ -112,9 +114,14 @@ unfolding closingMessage stageTold told refusalOf decideWaiting sumsNoted ledger
 part17 = tt
 
 unfoldable pub part18 : Unit {0}
-unfolding ledgerAnswers
+unfolding ledgerAnswers tableRefusal tableAfter tableAnswer runTable tableAnswers waitingNote notesIn under joinedIn handedIn
 part18 = tt
+
+unfoldable pub part19 : Unit {0}
+unfolding closingsFrom firstsFrom secondsFrom
+part19 = tt
 
 unfoldable pub everything : Unit {0}
 unfolding part0 part1 part2 part3 part4 part5 part6 part7 part8 part9 part10 part11 part12 part13 part14 part15 part16 part17 part18
+    part19
 everything = tt

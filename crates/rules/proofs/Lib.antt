@@ -47,3 +47,26 @@ pub mod LedgerGrows
 pub mod TableDecided
 pub mod TableRun
 pub mod TableOpens
+-- Demand 3: the bytes of messages; what a call does to a ledger, and what a history of calls comes to
+pub mod MessageBytes
+pub mod ShareBytes
+pub mod ClosingBytes
+pub mod Checks
+pub mod PoolOpened
+pub mod Moves
+pub mod NotesGrow
+pub mod Origins
+pub mod OwnMessages
+-- Demand 3: verdicts, the same ids, totals; a sound return is handled; the whole claim
+pub mod Agreement
+pub mod Verdicts
+pub mod FewReturns
+pub mod SameIds
+pub mod JoinedTotals
+pub mod WholeTotals
+pub mod Handled
+pub mod WholeRuns
+-- Runs that compute and meet the conditions
+pub mod RunTests
+pub mod RunExamples
+pub mod RunOfThree

@@ -238,7 +238,7 @@ unfoldable pub onTables : List Row
 onTables =
     row "an honest return is accepted" (twoVerdict σ (summedUp fresh honest 77 4 0) (twos fresh honest 77 4))
     ∷ row "round one and two are not refused"
-      (eqb (oneRefused σ (waiting 0) messages 14) 0 && eqb (twoRefused σ (summedUp fresh honest 77 4 0) (twos fresh honest 77 4)) 0)
+    (eqb (oneRefused σ (waiting 0) messages 14) 0 && eqb (twoRefused σ (summedUp fresh honest 77 4 0) (twos fresh honest 77 4)) 0)
     ∷ row "a false return is rejected" (not (twoVerdict σ (summedUp first cheat 78 3 1) (twos first cheat 78 3)))
     ∷ row "the first return decided: a second is taken" (eqb (shareRefused σ (first 0) (shareIn cheat 78 0) 3 9 14) 0)
     ∷ row "N decided: every share is 13, however broken" (eqb (shareRefused σ (second 0) broken 3 9 14) 13)

@@ -40,7 +40,8 @@ BytesIn drop = Unit {0}
 BytesIn (close room) = Unit {0}
 
 -- "Servers are opened alike when S, sheet and N are the same and their numbers are 0 to S - 1, one each." Server i's table
--- is opened in the buffer i, without refusal, and has the list `calls i`
+-- is opened in the buffer i, without refusal, and has the list `calls i`. There is a server; opening then says that there
+-- are 2 to 8
 pub record Pool (σ : Setting) : Type 0 where
   pub servers : ℕ
   pub sheet : List ℕ
@@ -50,6 +51,7 @@ pub record Pool (σ : Setting) : Type 0 where
   pub sheet-bytes : Bytes sheet
   pub buffer-bytes : (i : ℕ) → i < servers → Bytes (buffers i)
   pub call-bytes : (i : ℕ) → i < servers → All BytesIn (calls i)
+  pub some : 0 < servers
   pub opens : (i : ℕ) → i < servers → openRefusal σ servers i sheet returns (length (buffers i)) ≡ 0
 
 module _ (σ : Setting) (𝓟 : Pool σ) where

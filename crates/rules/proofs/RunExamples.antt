@@ -1,0 +1,156 @@
+-- A whole run of two servers with the sheet 17: an honest return is accepted, a false one rejected, one dropped, and calls
+-- are refused in between; antt computes it. It meets the conditions, so what demand 3 says of it holds. Assumes nothing.
+use mathlib.Core.Path.{_≡_, refl}
+use mathlib.Core.Bool.{true, cond}
+use mathlib.Core.List.{List, [], _∷_, _++_, map}
+use Prim.Native.Nat.{ℕ, _+_, _-_}
+use lib.ListN.{getD, set, take, replicate}
+use Rattle.algebra.specs.Lists.{tabulate}
+use Rattle.algebra.specs.Modulo.{modulo}
+use Rattle.words.specs.Bytes.{part}
+use Rattle.rules.specs.Settings.{document01}
+use Rattle.rules.specs.Columns.{columnsOf}
+use Rattle.rules.specs.Making.{shareOf, madeShare, shareMessage}
+use Rattle.rules.specs.Server.{Opened, Waiting, waitingOf, messageOne, messageTwo, summed}
+use Rattle.rules.specs.Joining.{joinRefusal, joinCount, joinTotals}
+use Rattle.rules.specs.Ledger.{Call, share, roundOne, roundTwo, drop, close, Answer, refused, wrote, judged, done}
+use Rattle.rules.specs.WholeRun.{Pool, answersAt, acceptedAt, droppedAt, Conditions, OnePair, AllClosed, closings, Closed}
+use Rattle.rules.proofs.Computing.{everything}
+use Rattle.rules.proofs.Facts.{document01-facts}
+use Rattle.rules.proofs.MessageBytes.{oneByOne}
+use Rattle.rules.proofs.RunTests.{bytesCall, opensAt, isPool, poolOf, hasWritten, meets, meets-conditions, onePair, one-pair}
+use Rattle.rules.proofs.RunTests.{isEnded, allEnded, all-closed}
+use Rattle.rules.proofs.WholeTotals.{closed-together}
+
+-- ---- the messages of a return, for servers opened alike
+module _ (servers : ℕ) (sheet : List ℕ) (returns : ℕ) where
+  abbrev pub openedAs : ℕ → Opened
+  openedAs i = record { servers = servers; own = i; columns = columnsOf sheet; returns = returns }
+
+  abbrev pub taken : ℕ → (ℕ → List ℕ) → ℕ → ℕ → ℕ → Waiting
+  taken id shares r s i = waitingOf document01 (openedAs i) id (shares i) r s
+
+  unfoldable pub ones : ℕ → (ℕ → List ℕ) → ℕ → ℕ → List ℕ
+  ones id shares r s = oneByOne (λ i. messageOne document01 (openedAs i) (taken id shares r s i)) 0 servers
+
+  unfoldable pub twos : ℕ → (ℕ → List ℕ) → ℕ → ℕ → List ℕ
+  twos id shares r s =
+      let joined = ones id shares r s in
+      oneByOne (λ i. messageTwo document01 (openedAs i) (summed document01 (openedAs i) (taken id shares r s i) joined)) 0 servers
+
+abbrev pub give : ℕ → (ℕ → List ℕ) → ℕ → ℕ → ℕ → Call
+give id shares r s i = share (shareMessage document01 id i (shares i)) r s 14
+
+-- the answers in short: a refusal's number; 100 for a message; 200 for accepted, 300 for rejected; 400 for a drop
+unfoldable pub short : Answer → ℕ
+short (refused n) = n
+short (wrote m) = 100
+short (judged b) = cond b 200 300
+short done = 400
+
+-- what joining says: refusal, count, totals
+unfoldable pub joinResult : ℕ → List ℕ → ℕ → List ℕ → List ℕ
+joinResult servers sheet returns messages =
+    joinRefusal document01 servers sheet returns messages 1000
+    ∷ joinCount messages
+    ∷ joinTotals document01 servers sheet messages
+
+-- ---- two servers, the sheet 17, at most three returns
+abbrev sheet : List ℕ
+sheet = 17 ∷ []
+
+-- u_0, v_0, a, b, and server 1's share
+abbrev random : List ℕ
+random =
+    2 ∷ 3 ∷ 5 ∷ 7 ∷ 10 ∷ 2000 ∷ 300000 ∷ 40000000 ∷ 2147483646 ∷ 60 ∷ 7 ∷ 888888888 ∷ 99 ∷ []
+
+-- yes; and the false entry 2
+abbrev honest : ℕ → List ℕ
+honest = madeShare document01 (columnsOf sheet) 2 (1 ∷ []) random
+
+abbrev wholeFalse : List ℕ
+wholeFalse = 2 ∷ 2 ∷ 3 ∷ 6 ∷ 0 ∷ 2147483645 ∷ 5 ∷ 7 ∷ 35 ∷ []
+
+abbrev false-return : ℕ → List ℕ
+false-return i = tabulate (shareOf (modulo 2147483647) 2 (λ k. getD wholeFalse k 0) (λ j k. getD random (4 + k) 0) i) 9
+
+-- joined messages of two servers in the wrong order
+abbrev swapped : List ℕ → List ℕ
+swapped joined = part 14 14 joined ++ part 0 14 joined
+
+unfoldable pub calls : ℕ → List Call
+calls i =
+    give 77 honest 4 9 i
+    -- refused: a call that the stage does not allow; another id, own message altered, wrong order, cut; no room
+    ∷ close 100
+    ∷ roundOne (ones 2 sheet 3 78 honest 4 9) 14
+    ∷ roundOne (ones 2 sheet 3 77 honest 5 9) 14
+    ∷ roundOne (swapped (ones 2 sheet 3 77 honest 4 9)) 14
+    ∷ roundOne (take 27 (ones 2 sheet 3 77 honest 4 9)) 14
+    ∷ roundOne (ones 2 sheet 3 77 honest 4 9) 13
+    ∷ roundOne (ones 2 sheet 3 77 honest 4 9) 14
+    ∷ roundTwo (ones 2 sheet 3 77 honest 4 9)
+    ∷ roundTwo (twos 2 sheet 3 77 honest 4 9)
+    -- refused: another server's share, an element p, an id decided, r = M
+    ∷ share (shareMessage document01 78 (1 - i) (false-return i)) 3 9 14
+    ∷ share (shareMessage document01 78 i (set (false-return i) 0 2147483647)) 3 9 14
+    ∷ give 77 honest 4 9 i
+    ∷ give 78 false-return 1 9 i
+    ∷ give 78 false-return 3 9 i
+    ∷ roundOne (ones 2 sheet 3 78 false-return 3 9) 14
+    ∷ roundTwo (twos 2 sheet 3 78 false-return 3 9)
+    ∷ give 79 honest 4 9 i
+    ∷ drop
+    -- refused: three returns are decided; no room; closed
+    ∷ give 80 honest 4 9 i
+    ∷ close 9
+    ∷ close 10
+    ∷ close 10
+    ∷ []
+
+pub is-pool : isPool document01 2 sheet 3 (λ i. replicate 200 0) calls ≡ true
+unfolding everything isPool opensAt bytesCall calls ones twos oneByOne
+is-pool = refl
+
+abbrev pub pool : Pool document01
+pool = poolOf document01 2 sheet 3 (λ i. replicate 200 0) calls is-pool
+
+answers : map short (answersAt document01 pool 1)
+    ≡ (100 ∷ 11 ∷ 12 ∷ 12 ∷ 12 ∷ 12 ∷ 14 ∷ 100 ∷ 12 ∷ 200 ∷ [])
+    ++ (7 ∷ 8 ∷ 10 ∷ 9 ∷ 100 ∷ 100 ∷ 300 ∷ 100 ∷ 400 ∷ 13 ∷ 14 ∷ 100 ∷ 11 ∷ [])
+unfolding everything short calls ones twos oneByOne
+answers = refl
+
+pub meets-them : Conditions document01 pool
+unfolding everything meets hasWritten calls ones twos oneByOne
+meets-them = meets-conditions document01 pool refl
+
+pub ended : AllClosed document01 pool
+unfolding everything allEnded isEnded calls ones twos oneByOne
+ended = all-closed document01 pool refl
+
+-- ids 77 and 78 have one pair each
+pub pair-77 : OnePair document01 pool 77 4 9
+unfolding everything onePair calls ones twos oneByOne
+pair-77 = one-pair document01 pool 77 4 9 refl
+
+pub pair-78 : OnePair document01 pool 78 3 9
+unfolding everything onePair calls ones twos oneByOne
+pair-78 = one-pair document01 pool 78 3 9 refl
+
+-- what is promised of it
+pub joined : Closed document01 pool
+joined = closed-together document01 document01-facts pool meets-them ended
+
+-- and what comes of it: 77 is accepted, 79 dropped, and the one total is 1
+accepted-ids : acceptedAt document01 pool 1 ≡ 77 ∷ []
+unfolding everything calls ones twos oneByOne
+accepted-ids = refl
+
+dropped-ids : droppedAt document01 pool 0 ≡ 79 ∷ []
+unfolding everything calls ones twos oneByOne
+dropped-ids = refl
+
+join-is : joinResult 2 sheet 3 (closings document01 pool) ≡ 0 ∷ 1 ∷ 1 ∷ []
+unfolding everything joinResult calls ones twos oneByOne
+join-is = refl

@@ -1,0 +1,184 @@
+-- Tests that compute, for runs that are given: whether numbers make a pool, whether it meets the conditions of whole runs,
+-- whether an id has one pair, whether all servers have closed. Each is proved to say what it tests. Assumes nothing.
+use mathlib.Core.Path.{_≡_, refl, ap}
+use mathlib.Core.Logic.{_⊎_, ⊎-elim, inl, inr}
+use mathlib.Core.Bool.{Bool, true, false, not, _&&_, _||_, false≢true}
+use mathlib.Core.List.{List, [], _∷_}
+use Prim.Native.Nat.{ℕ, _<_}
+use borrow.Author.Tests.{eqb-true, eqb-false, ltb-true, not-true}
+use lib.Dec.{eqb, ltb}
+use lib.ListN.{length}
+use Rattle.algebra.specs.Lists.{In, every, countFrom}
+use Rattle.algebra.proofs.Members.{and-left, and-right, every-all, all-in, all-map}
+use Rattle.words.specs.Bytes.{allBelow, sameBytes}
+use Rattle.words.proofs.Below.{all-of-below}
+use Rattle.words.proofs.Same.{same-equal}
+use Rattle.rules.specs.Settings.{Setting}
+use Rattle.rules.specs.Messages.{placeIn}
+use Rattle.rules.specs.Server.{has}
+use Rattle.rules.specs.Table.{openRefusal}
+use Rattle.rules.specs.Ledger.{Call, share, roundOne, roundTwo, drop, close, Answer, refused, wrote, judged, done, Note}
+use Rattle.rules.specs.Ledger.{Progress, isIdle, waitsOne, waitsTwo, isClosed, empty}
+use Rattle.rules.specs.WholeRun.{BytesIn, Pool, openedAt, ledgerAt, answersAt, acceptedAt, droppedAt, handedIn, notesAt}
+use Rattle.rules.specs.WholeRun.{OnePair, Conditions, AllClosed}
+use Rattle.rules.proofs.Checks.{every-at}
+use Rattle.rules.proofs.Moves.{has-not}
+
+or-split : (a b : Bool) → (a || b) ≡ true → (a ≡ true) ⊎ (b ≡ true)
+or-split true b e = inl refl
+or-split false b e = inr e
+
+every-in : {A : Type 0} (t : A → Bool) (s : List A) → every t s ≡ true → (x : A) → In x s → t x ≡ true
+every-in t s e x h = all-in x s (every-all t s e) h
+
+-- ---- bytes
+unfoldable pub bytesCall : Call → Bool
+bytesCall (share m r s room) = allBelow 256 m
+bytesCall (roundOne joined room) = allBelow 256 joined
+bytesCall (roundTwo joined) = allBelow 256 joined
+bytesCall drop = true
+bytesCall (close room) = true
+
+pub bytes-call : (c : Call) → bytesCall c ≡ true → BytesIn c
+unfolding bytesCall
+bytes-call (share m r s room) e = all-of-below 256 m e
+bytes-call (roundOne joined room) e = all-of-below 256 joined e
+bytes-call (roundTwo joined) e = all-of-below 256 joined e
+bytes-call drop e = tt
+bytes-call (close room) e = tt
+
+-- ---- a pool
+module _ (σ : Setting) (servers : ℕ) (sheet : List ℕ) (returns : ℕ) (buffers : ℕ → List ℕ) (calls : ℕ → List Call) where
+  unfoldable pub opensAt : ℕ → Bool
+  opensAt i =
+      allBelow 256 (buffers i)
+      && (every bytesCall (calls i) && eqb (openRefusal σ servers i sheet returns (length (buffers i))) 0)
+
+  unfoldable pub isPool : Bool
+  isPool = (ltb 0 servers && allBelow 256 sheet) && every opensAt (countFrom 0 servers)
+
+  module _ (e : isPool ≡ true) where
+    at-server : (i : ℕ) → i < servers → opensAt i ≡ true
+    unfolding isPool
+    at-server = every-at opensAt servers (and-right (ltb 0 servers && allBelow 256 sheet) (every opensAt (countFrom 0 servers)) e)
+
+    pub some-servers : ltb 0 servers ≡ true
+    unfolding isPool
+    some-servers = and-left (ltb 0 servers) (allBelow 256 sheet) (and-left (ltb 0 servers && allBelow 256 sheet) _ e)
+
+    pub sheet-is : allBelow 256 sheet ≡ true
+    unfolding isPool
+    sheet-is = and-right (ltb 0 servers) (allBelow 256 sheet) (and-left (ltb 0 servers && allBelow 256 sheet) _ e)
+
+    pub buffer-is : (i : ℕ) → i < servers → allBelow 256 (buffers i) ≡ true
+    unfolding opensAt
+    buffer-is i l = and-left (allBelow 256 (buffers i)) _ (at-server i l)
+
+    pub calls-are : (i : ℕ) → i < servers → every bytesCall (calls i) ≡ true
+    unfolding opensAt
+    calls-are i l = and-left (every bytesCall (calls i)) _ (and-right (allBelow 256 (buffers i)) _ (at-server i l))
+
+    pub opens-is : (i : ℕ) → i < servers → eqb (openRefusal σ servers i sheet returns (length (buffers i))) 0 ≡ true
+    unfolding opensAt
+    opens-is i l = and-right (every bytesCall (calls i)) _ (and-right (allBelow 256 (buffers i)) _ (at-server i l))
+
+    abbrev pub poolOf : Pool σ
+    poolOf = record {
+      servers = servers;
+      sheet = sheet;
+      returns = returns;
+      buffers = buffers;
+      calls = calls;
+      sheet-bytes = all-of-below 256 sheet sheet-is;
+      buffer-bytes = λ i l. all-of-below 256 (buffers i) (buffer-is i l);
+      call-bytes = λ i l. all-map bytes-call (every-all bytesCall (calls i) (calls-are i l));
+      some = ltb-true 0 servers some-servers;
+      opens = λ i l. eqb-true _ 0 (opens-is i l);
+    }
+
+-- ---- the conditions
+unfoldable pub hasWritten : List ℕ → List Answer → Bool
+hasWritten m [] = false
+hasWritten m (refused n ∷ xs) = hasWritten m xs
+hasWritten m (wrote x ∷ xs) = sameBytes x m || hasWritten m xs
+hasWritten m (judged b ∷ xs) = hasWritten m xs
+hasWritten m (done ∷ xs) = hasWritten m xs
+
+written-in : (m : List ℕ) (xs : List Answer) → hasWritten m xs ≡ true → In (wrote m) xs
+unfolding hasWritten
+written-in m [] e = absurd (false≢true e)
+written-in m (refused n ∷ xs) e = inr (written-in m xs e)
+written-in m (wrote x ∷ xs) e =
+    ⊎-elim (λ q. inl (ap wrote (same-equal x m q))) (λ q. inr (written-in m xs q)) (or-split (sameBytes x m) (hasWritten m xs) e)
+written-in m (judged b ∷ xs) e = inr (written-in m xs e)
+written-in m (done ∷ xs) e = inr (written-in m xs e)
+
+module _ (σ : Setting) (𝓟 : Pool σ) where
+  abbrev each : (ℕ → ℕ → Bool) → Bool
+  each t = every (λ i. every (t i) (countFrom 0 (𝓟 .servers))) (countFrom 0 (𝓟 .servers))
+
+  each-at : (t : ℕ → ℕ → Bool) → each t ≡ true → (i j : ℕ) → i < 𝓟 .servers → j < 𝓟 .servers → t i j ≡ true
+  each-at t e i j l b =
+      every-at (t i) (𝓟 .servers) (every-at (λ i. every (t i) (countFrom 0 (𝓟 .servers))) (𝓟 .servers) e i l) j b
+
+  abbrev unalteredAt : ℕ → ℕ → Bool
+  unalteredAt i j =
+      every (λ joined. hasWritten (placeIn σ joined j) (answersAt σ 𝓟 j)) (handedIn σ (openedAt σ 𝓟 i) empty (𝓟 .calls i))
+
+  abbrev dropsAt : ℕ → ℕ → Bool
+  dropsAt i j = every (λ id. not (has id (acceptedAt σ 𝓟 j))) (droppedAt σ 𝓟 i)
+
+  unfoldable pub meets : Bool
+  meets = each unalteredAt && each dropsAt
+
+  pub meets-conditions : meets ≡ true → Conditions σ 𝓟
+  unfolding meets
+  meets-conditions e = record {
+    unaltered = λ i j l b joined h. written-in (placeIn σ joined j) (answersAt σ 𝓟 j)
+        (every-in _ (handedIn σ (openedAt σ 𝓟 i) empty (𝓟 .calls i))
+        (each-at unalteredAt (and-left (each unalteredAt) (each dropsAt) e) i j l b) joined h);
+    same-drops = λ i j l b id h k. has-not id (acceptedAt σ 𝓟 j)
+        (not-true _ (every-in _ (droppedAt σ 𝓟 i)
+        (each-at dropsAt (and-right (each unalteredAt) (each dropsAt) e) i j l b) id h)) k;
+  }
+
+  -- every share noted under the id has the pair r, s
+  abbrev pairTest : ℕ → ℕ → ℕ → Note → Bool
+  pairTest id r s n = not (eqb (n .id) id) || (eqb (n .r) r && eqb (n .s) s)
+
+  unfoldable pub onePair : ℕ → ℕ → ℕ → Bool
+  onePair id r s = every (λ i. every (pairTest id r s) (notesAt σ 𝓟 i)) (countFrom 0 (𝓟 .servers))
+
+  pub one-pair : (id r s : ℕ) → onePair id r s ≡ true → OnePair σ 𝓟 id r s
+  unfolding onePair
+  one-pair id r s e i l n h q =
+      ⊎-elim
+      (λ (a : not (eqb (n .id) id) ≡ true). absurd (eqb-false (n .id) id (not-true _ a) q))
+      (λ (b : (eqb (n .r) r && eqb (n .s) s) ≡ true). (
+        eqb-true (n .r) r (and-left (eqb (n .r) r) (eqb (n .s) s) b),
+        eqb-true (n .s) s (and-right (eqb (n .r) r) (eqb (n .s) s) b),
+      ))
+      (or-split (not (eqb (n .id) id)) (eqb (n .r) r && eqb (n .s) s)
+      (every-in (pairTest id r s) (notesAt σ 𝓟 i)
+      (every-at (λ i. every (pairTest id r s) (notesAt σ 𝓟 i)) (𝓟 .servers) e i l) n h))
+
+  unfoldable pub isEnded : Progress → Bool
+  isEnded isIdle = false
+  isEnded (waitsOne n) = false
+  isEnded (waitsTwo n d e) = false
+  isEnded isClosed = true
+
+  is-closed : (p : Progress) → isEnded p ≡ true → p ≡ isClosed
+  unfolding isEnded
+  is-closed isIdle e = absurd (false≢true e)
+  is-closed (waitsOne n) e = absurd (false≢true e)
+  is-closed (waitsTwo n d x) e = absurd (false≢true e)
+  is-closed isClosed e = refl
+
+  unfoldable pub allEnded : Bool
+  allEnded = every (λ i. isEnded (ledgerAt σ 𝓟 i .progress)) (countFrom 0 (𝓟 .servers))
+
+  pub all-closed : allEnded ≡ true → AllClosed σ 𝓟
+  unfolding allEnded
+  all-closed e i l =
+      is-closed (ledgerAt σ 𝓟 i .progress) (every-at (λ i. isEnded (ledgerAt σ 𝓟 i .progress)) (𝓟 .servers) e i l)

@@ -66,7 +66,3 @@ pub mod JoinedTotals
 pub mod WholeTotals
 pub mod Handled
 pub mod WholeRuns
--- Runs that compute and meet the conditions
-pub mod RunTests
-pub mod RunExamples
-pub mod RunOfThree

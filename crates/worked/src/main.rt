@@ -2,7 +2,6 @@
 // In both, f and g are lines through their values at 0 and 1, and h is given by its values at 0, 1 and 2.
 ghost use Prim.Native.Nat.{_<_};
 ghost use Rattle.field.specs.Residues.{prime};
-
 use libc::STDOUT_FILENO;
 
 fn line(name: &[u8], value: u32) {
@@ -46,11 +45,17 @@ fn judge(u: u32, v: u32, h2: u32, r: u32)
     requires { ⌜ (u < prime) × (v < prime) × (h2 < prime) × (r < prime) ⌝ }
 {
     line(b"r ", r);
-    line(b"sigma ", sigma(straight(2, u, r), straight(3, v, r), curve(6, 0, h2, r), r));
+    line(
+        b"sigma ",
+        sigma(straight(2, u, r), straight(3, v, r), curve(6, 0, h2, r), r),
+    );
 }
 
 fn main() {
-    line(b"yes, h(2) ", field::mul(straight(2, 1, 2), straight(3, 0, 2)));
+    line(
+        b"yes, h(2) ",
+        field::mul(straight(2, 1, 2), straight(3, 0, 2)),
+    );
     judge(1, 0, 0, 4);
     line(b"false entry ", 2);
     judge(2, 1, 2147483645, 2);

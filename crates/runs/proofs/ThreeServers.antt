@@ -8,18 +8,18 @@ use Prim.Native.Nat.{ℕ, zero, suc, _+_, _*_, _%_}
 use lib.Dec.{eqb}
 use lib.ListN.{replicate, set}
 use Rattle.algebra.specs.Lists.{tabulate}
 use Rattle.rules.specs.Settings.{document01}
 use Rattle.rules.specs.Columns.{columnsOf}
 use Rattle.rules.specs.Making.{madeShare}
 use Rattle.rules.specs.Ledger.{Call, roundOne, roundTwo, drop, close}
 use Rattle.rules.specs.WholeRun.{Pool, answersAt, acceptedAt, Conditions, AllClosed, closings, Closed}
 use Rattle.rules.proofs.Computing.{everything}
 use Rattle.rules.proofs.Facts.{document01-facts}
 use Rattle.rules.proofs.MessageBytes.{oneByOne}
-use Rattle.rules.proofs.RunTests.{bytesCall, opensAt, isPool, poolOf, hasWritten, meets, meets-conditions}
-use Rattle.rules.proofs.RunTests.{isEnded, allEnded, all-closed}
+use Rattle.runs.proofs.Tests.{bytesCall, opensAt, isPool, poolOf, hasWritten, meets, meets-conditions}
+use Rattle.runs.proofs.Tests.{isEnded, allEnded, all-closed}
 use Rattle.rules.proofs.WholeTotals.{closed-together}
-use Rattle.rules.proofs.RunExamples.{ones, twos, give, short, joinResult}
+use Rattle.runs.proofs.TwoServers.{ones, twos, give, short, joinResult}
 
 abbrev sheet : List ℕ
 sheet = 17 ∷ 18 ∷ 3 ∷ 19 ∷ 2 ∷ []

@@ -8,19 +8,19 @@ use lib.ListN.{getD, set, take, replicate}
 use Rattle.algebra.specs.Lists.{tabulate}
 use Rattle.algebra.specs.Modulo.{modulo}
 use Rattle.words.specs.Bytes.{part}
 use Rattle.rules.specs.Settings.{document01}
 use Rattle.rules.specs.Columns.{columnsOf}
 use Rattle.rules.specs.Making.{shareOf, madeShare, shareMessage}
 use Rattle.rules.specs.Server.{Opened, Waiting, waitingOf, messageOne, messageTwo, summed}
 use Rattle.rules.specs.Joining.{joinRefusal, joinCount, joinTotals}
 use Rattle.rules.specs.Ledger.{Call, share, roundOne, roundTwo, drop, close, Answer, refused, wrote, judged, done}
 use Rattle.rules.specs.WholeRun.{Pool, answersAt, acceptedAt, droppedAt, Conditions, OnePair, AllClosed, closings, Closed}
 use Rattle.rules.proofs.Computing.{everything}
 use Rattle.rules.proofs.Facts.{document01-facts}
 use Rattle.rules.proofs.MessageBytes.{oneByOne}
-use Rattle.rules.proofs.RunTests.{bytesCall, opensAt, isPool, poolOf, hasWritten, meets, meets-conditions, onePair, one-pair}
-use Rattle.rules.proofs.RunTests.{isEnded, allEnded, all-closed}
+use Rattle.runs.proofs.Tests.{bytesCall, opensAt, isPool, poolOf, hasWritten, meets, meets-conditions, onePair, one-pair}
+use Rattle.runs.proofs.Tests.{isEnded, allEnded, all-closed}
 use Rattle.rules.proofs.WholeTotals.{closed-together}
 
 -- ---- the messages of a return, for servers opened alike
 module _ (servers : ℕ) (sheet : List ℕ) (returns : ℕ) where

@@ -1,0 +1,4 @@
+-- Whole runs that antt computes, and that meet the conditions of the theorem on whole runs.
+pub mod Tests
+pub mod TwoServers
+pub mod ThreeServers

@@ -16,7 +16,7 @@ use Rattle.algebra.specs.Interpolation.{ascending, descending, others, w
 use Rattle.algebra.specs.Claims.{Apart}
 use Rattle.algebra.proofs.Tables.{length-tabulate, tabulate-none, tabulate-front}
 use Rattle.algebra.proofs.Members.{all-tabulate}
-use Rattle.algebra.proofs.Ring.{ring, add-zero, add-neg, add-mul, mul-zero, zero-mul, mul-one, mul-comm, mul-assoc, sub-zero, mul-nonzero}
+use Rattle.algebra.proofs.Ring.{add-neg, add-mul, mul-zero, zero-mul, mul-one, mul-comm, sub-zero, mul-nonzero}
 use Rattle.algebra.proofs.Sums.{sum-ext, sum-one, sum-zero, sum-add, product-ext, product-front, product-nonzero, product-zero}
 use Rattle.algebra.proofs.Polynomial.{poly-add, poly-const, poly-id, poly-ext, poly-mul, poly-product, poly-scale, poly-sum}
 use Rattle.algebra.proofs.Roots.{unique}

@@ -85,7 +85,8 @@ module _ (p : ℕ) (prime : Prime p) where
       let lt : p % b < b = mod-lt p (omega arith) in
       let nz : p % b ≢ 0 = prime .only b h small in
       let c = inverseFrom p a (p % b) in
-      let same : c ≡ inverseFrom p (p % b) (p % b) = inverse-steps a (p % b) (p % b) (omega arith) (omega arith) (omega arith) (omega arith) in
+      let same : c ≡ inverseFrom p (p % b) (p % b) =
+      inverse-steps a (p % b) (p % b) (omega arith) (omega arith) (omega arith) (omega arith) in
       opened (leb b 1) (lt-leb b 1 h) ∙ mod-mod ((p / b) * c * (p - 1)) p ∙ negated (p / b) c (div-le-self p b)
       ∙ sym (mul-mod-mod (p - p / b) c p) ∙ ap (λ (t : ℕ). ((p - p / b) * (t % p)) % p) same
     where

@@ -6,7 +6,8 @@ use native.Mathlib.Decide.{ℕ-discrete}
 use native.Mathlib.Omega.{arith}
 use Rattle.algebra.specs.Ops.{Ops, Field}
 use Rattle.algebra.specs.Sums.{sum, product}
-use Rattle.algebra.proofs.Ring.{ring, add-zero, zero-add, neg-zero, neg-dist, mul-zero, zero-mul, mul-add, add-mul, mul-one, one-mul, mul-comm, mul-assoc, mul-nonzero, product-inverse}
+use Rattle.algebra.proofs.Ring.{ring, add-zero, zero-add, neg-zero, neg-dist, mul-zero, zero-mul, mul-add, add-mul}
+use Rattle.algebra.proofs.Ring.{mul-one, one-mul, mul-assoc, mul-nonzero, product-inverse}
 
 module _ (O : Ops) where
   pub sum-ext : (m : ℕ) (g h : ℕ → O .F) → ((i : ℕ) → i < m → g i ≡ h i) → sum O m g ≡ sum O m h

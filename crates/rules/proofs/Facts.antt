@@ -5,4 +5,12 @@ use Rattle.algebra.proofs.Trial.{prime-2147483647}
 use Rattle.rules.specs.Settings.{document01, Facts}
 
 pub document01-facts : Facts document01
-document01-facts = record { prime = prime-2147483647; large = lit< tt; fits = lit≤ tt; roomy = lit≤ tt; apart = lit< tt; totals-fits = lit< tt; table-fits = lit< tt }
+document01-facts = record {
+  prime = prime-2147483647;
+  large = lit< tt;
+  fits = lit≤ tt;
+  roomy = lit≤ tt;
+  apart = lit< tt;
+  totals-fits = lit< tt;
+  table-fits = lit< tt;
+}

@@ -23,6 +23,7 @@ use Rattle.rules.specs.Table.{idsPlace, totalsPlace, sheetSize, columnsI
 use Rattle.rules.specs.Table.{decidedTable, addedTotals}
 use Rattle.rules.specs.Ledger.{Note, Progress, isIdle, isClosed, Decision, accepted, rejected, dropped, Decided, Ledger}
 use Rattle.rules.specs.Ledger.{isAccepted, notesWith, idsOf, notesOf, ledgerTotals}
+use Rattle.rules.proofs.MessageBytes.{width-positive}
 use Rattle.rules.proofs.TableParts.{Parts, Sized, assemble, placed, columns-in, decided-are, accepted-are}
 use Rattle.rules.proofs.TableKnown.{waitingAt, opened-is, waiting-is, totals-are}
 use Rattle.rules.proofs.TableWrites.{setStage, setCounts, setRuns, put-stage, put-counts, put-totals, put-ids}
@@ -91,16 +92,10 @@ module _ (σ : Setting) (cs : List Column) (g : Parts) (z : Sized σ cs g) where
         (bytesOf 4 id) (id-inside id))
         ∙ put-stage σ _ 0
 
-module _ (σ : Setting) (facts : Facts σ) (o : Opened) (sheet : List ℕ) (many : length (publishedFrom 0 (o .columns)) ≡ publishedIn (o .columns)) where
+module _ (σ : Setting) (facts : Facts σ) (o : Opened) (sheet : List ℕ)
+    (many : length (publishedFrom 0 (o .columns)) ≡ publishedIn (o .columns)) where
   abbrev W : ℕ
   W = σ .width
-
-  pub width-positive : 0 < W
-  width-positive = go W (facts .fits)
-    where
-      go : (w : ℕ) → σ .modulus ≤ 256 ^ w → 0 < w
-      go zero h = let big : 16777216 < σ .modulus = facts .large in absurd (omega arith)
-      go (suc w) h = omega arith
 
   -- the waiting id, and the elements of its share
   pub record Waits (n : Note) (wait : List ℕ) : Type 0 where
@@ -124,7 +119,8 @@ module _ (σ : Setting) (facts : Facts σ) (o : Opened) (sheet : List ℕ) (many
         ≡ idsOf (notesOf (ds ++ (decidedAs n d ∷ [])))
     used d =
         ap (λ (k : ℕ). elementsOf 4 (take (4 * (g .decided + 1)) (splice (g .ids) (4 * g .decided) (bytesOf 4 k)))) (w .id-is)
-        ∙ id-noted (g .ids) (g .decided) (n .id) (w .fits .id-fits) (inside σ (o .columns) g (b .sized) 0 (g .totals) refl (omega arith) left)
+        ∙ id-noted (g .ids) (g .decided) (n .id) (w .fits .id-fits)
+        (inside σ (o .columns) g (b .sized) 0 (g .totals) refl (omega arith) left)
         ∙ ap (_++ (n .id ∷ [])) (b .used-are)
         ∙ sym (ids-grow ds n d)
 
@@ -196,7 +192,8 @@ module _ (σ : Setting) (facts : Facts σ) (o : Opened) (sheet : List ℕ) (many
         let new = ledgerTotals σ o (notesWith isAccepted ds ++ (n ∷ [])) in
         let t = bytesOfAll W new in
         let back : elementsOf W t ≡ new =
-        elements-bytes W width-positive new (all-map (λ x h. fits-bytes σ facts o sheet x h) (totals-low (notesWith isAccepted ds ++ (n ∷ [])))) in
+        elements-bytes W (width-positive σ facts) new
+        (all-map (λ x h. fits-bytes σ facts o sheet x h) (totals-low (notesWith isAccepted ds ++ (n ∷ [])))) in
         let long : length t ≡ length (g .totals) =
         length-bytes-all W new ∙ ap (W *_) (totals-many (notesWith isAccepted ds ++ (n ∷ []))) ∙ sym (b .sized .totals-long) in
         let put : splice T (totalsPlace σ (sheetSize σ T) (columnsIn σ T) (returnsIn σ T)) (bytesOfAll W (addedTotals σ T))

@@ -27,10 +27,10 @@ use Rattle.rules.specs.Runs.{openedTable, tableAnswers}
 use Rattle.rules.specs.WholeRun.{Pool, BytesIn, columns, openedAt, tableAt, answersAt}
 use Rattle.rules.proofs.Limits.{Limits, within-both}
 use Rattle.rules.proofs.Refusals.{sheet-read, sheet-limits}
+use Rattle.rules.proofs.MessageBytes.{width-positive}
 use Rattle.rules.proofs.TableParts.{Parts, Sized, header, body, assemble}
 use Rattle.rules.proofs.TableInvariant.{Opens, Beside, positive}
 use Rattle.rules.proofs.TableTaken.{fits-bytes}
-use Rattle.rules.proofs.TableDecided.{width-positive}
 use Rattle.rules.proofs.TableRun.{passed, answers-same}
 
 -- the bytes of zeros
@@ -135,24 +135,20 @@ module _ (σ : Setting) (facts : Facts σ) (servers own : ℕ) (sheet : List ℕ
       ∙ ap (header σ parts ++_) (simp append-assoc)
 
   -- the first totals: all 0
+  zeros-again : elementsOf (σ .width) (parts .totals) ≡ replicate (publishedIn cs) 0
+  zeros-again =
+      ap (elementsOf (σ .width)) (sym (zeros-bytes (σ .width) (publishedIn cs)))
+      ∙ elements-bytes (σ .width) (width-positive σ facts) (replicate (publishedIn cs) 0)
+      (all-zeros (256 ^ σ .width) (fits-bytes σ facts o sheet 0 (positive σ facts)) (publishedIn cs))
+
   totals-none : elementsOf (σ .width) (parts .totals) ≡ ledgerTotals σ o []
   unfolding ledgerTotals sumOver
   totals-none =
-      ap (elementsOf (σ .width)) (sym (zeros-bytes (σ .width) (publishedIn cs)))
-      ∙ elements-bytes (σ .width) (width-positive σ facts o sheet (limited .published-count)) (replicate (publishedIn cs) 0)
-      (all-zeros (256 ^ σ .width) (fits-bytes σ facts o sheet 0 (positive σ facts)) (publishedIn cs))
-      ∙ ap (λ (n : ℕ). replicate n 0) (sym (limited .published-count))
-      ∙ each (publishedFrom 0 cs)
+      zeros-again ∙ ap (λ (n : ℕ). replicate n 0) (sym (limited .published-count)) ∙ each (publishedFrom 0 cs)
     where
       each : (l : List ℕ) → replicate (length l) 0 ≡ map (λ e. 0 % σ .modulus) l
       each [] = refl
       each (e ∷ l) = ap₂ (λ (a : ℕ) (b : List ℕ). a ∷ b) (sym (zero-mod (σ .modulus))) (each l)
-
-  zeros-again : elementsOf (σ .width) (parts .totals) ≡ replicate (publishedIn cs) 0
-  zeros-again =
-      ap (elementsOf (σ .width)) (sym (zeros-bytes (σ .width) (publishedIn cs)))
-      ∙ elements-bytes (σ .width) (width-positive σ facts o sheet (limited .published-count)) (replicate (publishedIn cs) 0)
-      (all-zeros (256 ^ σ .width) (fits-bytes σ facts o sheet 0 (positive σ facts)) (publishedIn cs))
 
   pub opened-beside : Beside σ o sheet (openedTable σ servers own sheet returns buffer) empty
   unfolding notesWith elementsOf Rattle.algebra.specs.Lists.tabulate

@@ -138,7 +138,9 @@ module _ (σ : Setting) (facts : Facts σ) (o : Opened) (sheet : List ℕ) (open
   take-share T isIdle ds b m r s room bytes e =
       let f = share-sound ds m r s room e in
       record {
-        answers = ap (λ (p : Opened). wrote (messageOne σ p (waitingOf σ p (idIn m) (shareElements σ m) r s))) (opened-same T (at isIdle ds) b);
+        answers =
+            ap (λ (p : Opened). wrote (messageOne σ p (waitingOf σ p (idIn m) (shareElements σ m) r s)))
+            (opened-same T (at isIdle ds) b);
         after = share-taken σ facts o sheet T ds b m r s bytes (f .long) (f .below) (f .pair) (f .few);
       }
   take-share T (waitsOne n) ds b m r s room bytes e = no-eleven e

@@ -56,7 +56,8 @@ module _ (σ : Setting) (facts : Facts σ) (o : Opened) (sheet : List ℕ) where
         let place = waitPlace σ (length (g .sheet)) (o .columns) (g .returns) in
         let all : length ys ≡ length (g .wait) =
         wait-long σ (o .columns) (noted σ o (noteOf σ o m r s)) (drop 6 m) long ∙ sym (z .wait-long) in
-        ap₂ (λ (k : ℕ) (p : Opened). splice (splice T k (waitBytes σ (waitingOf σ p (idIn m) (shareElements σ m) r s) (drop 6 m))) 1 (1 ∷ []))
+        ap₂ (λ (k : ℕ) (p : Opened).
+        splice (splice T k (waitBytes σ (waitingOf σ p (idIn m) (shareElements σ m) r s) (drop 6 m))) 1 (1 ∷ []))
         (placed σ (o .columns) g z (waitPlace σ)) opened-o
         ∙ ap (λ (t : List ℕ). splice t 1 (1 ∷ []))
         (ap (λ (k : ℕ). splice T k ys) (sym (add-zero place))

@@ -6,7 +6,7 @@ use mathlib.Core.List.{List, [], _∷_, _++_}
 use Prim.Native.Nat.{ℕ, zero, suc, _+_, _-_, _*_}
 use Prim.Native.String.{String}
 use lib.Dec.{eqb}
-use lib.ListN.{length, getD, set, take, replicate}
+use lib.ListN.{length, getD, set, take, drop, replicate}
 use Rattle.algebra.specs.Lists.{tabulate}
 use Rattle.algebra.specs.Modulo.{modulo}
 use Rattle.words.specs.Bytes.{bytesOf, bytesOfAll, sameBytes}
@@ -254,13 +254,16 @@ onTables =
     ∷ row "another's sound message is not compared" (eqb (oneRefused σ (waiting 0) (set messages 20 7) 14) 0)
     ∷ row "messages of another id: 12" (eqb (oneRefused σ (waiting 0) (ones fresh honest 78 4) 14) 12)
     ∷ row "messages of the other round: 12" (eqb (oneRefused σ (waiting 0) (twos fresh honest 77 4) 14) 12)
+    ∷ row "another's element that is p: 12" (eqb (oneRefused σ (waiting 0) (take 20 messages ++ bytesOfAll 4 (P ∷ 0 ∷ [])) 14) 12)
+    ∷ row "messages in another server order: 12" (eqb (oneRefused σ (waiting 0) (drop 14 messages ++ take 14 messages) 14) 12)
     ∷ row "one message missing: 12" (eqb (oneRefused σ (waiting 0) (take 14 messages) 14) 12)
     ∷ row "room for 13 bytes: 14" (eqb (oneRefused σ (waiting 0) messages 13) 14)
     ∷ row "a share while one waits: 11" (eqb (shareRefused σ (waiting 0) (shareIn honest 79 0) 4 9 14) 11)
     ∷ row "a close while one waits: 11" (eqb (closeRefused σ (waiting 0) 100) 11)
     ∷ row "round two before round one: 11" (eqb (twoRefused σ (waiting 0) (twos fresh honest 77 4)) 11)
     ∷ row "a drop with nothing waiting: 11" (eqb (dropRefused σ (fresh 0)) 11)
-    ∷ row "closed: everything is 11" (eqb (shareRefused σ (closeTable σ (first 0)) broken 3 9 14) 11 && eqb (closeRefused σ (closeTable σ (first 0)) 100) 11)
+    ∷ row "closed: a share is 11" (eqb (shareRefused σ (closeTable σ (first 0)) broken 3 9 14) 11)
+    ∷ row "closed: a close is 11" (eqb (closeRefused σ (closeTable σ (first 0)) 100) 11)
     ∷ row "a share for another server: 7" (eqb (shareRefused σ (fresh 1) shareOf77 4 9 14) 7)
     ∷ row "an element that is p: 8" (eqb (shareRefused σ (fresh 0) (take 6 shareOf77 ++ bytesOfAll 4 (P ∷ replicate 8 0)) 4 9 14) 8)
     ∷ row "a table cut by a byte: 11" (eqb (closeRefused σ (take (length (fresh 0) - 1) (fresh 0)) 100) 11)

@@ -1,0 +1,2 @@
+-- What the reader answers, in the numbers of code.
+pub mod Reading

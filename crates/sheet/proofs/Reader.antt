@@ -29,7 +29,7 @@ use Rattle.sheet.proofs.Totals.{entries, published, gates, tests, total
 abbrev size : Bool → Bool → Bool → ℕ
 size a b d = cond a 1 (cond b 2 (cond d 2 0))
 
-abbrev body : Bool → Bool → Bool → Option ℕ
+abbrev pub body : Bool → Bool → Bool → Option ℕ
 body a b d = cond a (some 0) (cond b (some 1) (cond d (some 1) none))
 
 module _ (k : ℕ) where

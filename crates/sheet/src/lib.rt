@@ -6,6 +6,8 @@ ghost use Prim.Native.Nat.{_≤_};
 ghost use Rattle.rules.specs.Columns.{choice, number, within, counted, columnOf};
 ghost use Rattle.sheet.specs.Reading.{bytesOfKind, countsOf, alone, Small, more, limited, readingOf};
 
+pub mod columns;
+
 // What the columns of a sheet come to: entries, published entries, multiplications and tests.
 pub struct Counts {
     pub columns: usize,

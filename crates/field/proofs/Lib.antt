@@ -1,0 +1,7 @@
+-- Laws that the proofs of the functions cite, and that callers may.
+pub mod Reduction
+pub mod Below
+pub mod Parts
+pub mod Running
+pub mod Falling
+pub mod Recurrence

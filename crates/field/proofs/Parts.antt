@@ -1,0 +1,36 @@
+-- The inner product by sums of the lower and the upper parts of the products, which are reduced once at the end. A product
+-- is lower + 2147483648 * upper and 2147483648 leaves 1, so the two sums leave what the inner product is. Assumes nothing.
+use mathlib.Core.Path.{_≡_, refl, sym, ap, ap₂, _∙_}
+use Prim.Native.Nat.{ℕ, _+_, _*_, _/_, _%_, _^_, _≤_, _<_}
+use native.Mathlib.Nat.{mod-add-mod, add-mod-mod}
+use native.Mathlib.Numerals.{add-one}
+use native.Mathlib.Omega.{arith}
+use Rattle.algebra.specs.Sums.{sum, inner}
+use Rattle.field.specs.Residues.{prime, top, residues}
+use Rattle.field.proofs.Reduction.{folded}
+
+module _ (x y : ℕ → ℕ) where
+  -- low and high are the sums of the parts of the first i products
+  pub record Parts (low high i : ℕ) : Type 0 where
+    pub low-most : low ≤ top * i
+    pub high-most : high ≤ 4 * top * i
+    pub is : (low + high) % prime ≡ inner residues i x y
+
+  pub start : Parts 0 0 0
+  unfolding sum
+  start = record { low-most = omega arith; high-most = omega arith; is = refl }
+
+  pub turn : {low high i : ℕ} (z : ℕ) → Parts low high i → z ≡ x i * y i → z < 2 ^ 64
+      → Parts (low + z % top) (high + z / top) (i + 1)
+  unfolding sum
+  turn {low} {high} {i} z v e fits = record { low-most = omega arith; high-most = omega arith; is = next }
+    where
+      next : (low + z % top + (high + z / top)) % prime ≡ inner residues (i + 1) x y
+      next =
+          let apart : low + z % top + (high + z / top) ≡ low + high + (z % top + z / top) = omega arith in
+          ap (λ (t : ℕ). t % prime) apart
+          ∙ sym (add-mod-mod (low + high) (z % top + z / top) prime)
+          ∙ ap (λ (t : ℕ). (low + high + t) % prime) (folded z)
+          ∙ sym (mod-add-mod (low + high) prime (z % prime))
+          ∙ ap₂ (λ (s t : ℕ). (s + t % prime) % prime) (v .is) e
+          ∙ ap (λ (n : ℕ). inner residues n x y) (sym (add-one i))

@@ -1,0 +1,184 @@
+// Arithmetic modulo the prime 2147483647. An element is a u32 below the prime. Each contract is an equality with a
+// definition of algebra at that prime, which also says that the result is an element. No step depends on the value of
+// an element, and no loop but that of `inverses` divides: / and % by TOP are a shift and a mask.
+ghost use mathlib.Core.Path.{_≡_};
+ghost use Prim.Native.Nat.{suc, _+_, _-_, _*_, _/_, _%_, _<_, _≤_};
+ghost use lib.ListN.{length, getD};
+ghost use Rattle.algebra.specs.Ops.{minus};
+ghost use Rattle.algebra.specs.Sums.{product as Sums·product, inner as Sums·inner, power};
+ghost use Rattle.algebra.specs.Interpolation.{ascending as Interpolation·ascending, descending as Interpolation·descending};
+ghost use Rattle.algebra.specs.Lists.{tabulate};
+ghost use Rattle.field.specs.Residues.{prime, top, longest, residues};
+
+pub const P: u32 = 2147483647;
+
+// The most members that `inner` takes.
+pub const LONGEST: usize = 65536;
+
+// P + 1, which leaves 1 modulo P.
+const TOP: u64 = 2147483648;
+
+// y modulo P: y itself, or y - P where y + 1 reaches TOP.
+fn reduce(y: u64) -> u32
+    requires { ⌜ y < 2 * prime ⌝ }
+    ensures { λ r. ⌜ r ≡ y % prime ⌝ }
+{
+    ((y + (y + 1) / TOP) % TOP) as u32
+}
+
+// A smaller number that leaves the same.
+fn fold(x: u64) -> u64
+    ensures { λ r. ⌜ r ≡ x % top + x / top ⌝ }
+{
+    x % TOP + x / TOP
+}
+
+fn product(a: u32, b: u32) -> u64
+    ensures { λ r. ⌜ r ≡ a * b ⌝ }
+{
+    (a as u64) * (b as u64)
+}
+
+pub fn add(a: u32, b: u32) -> u32
+    requires { ⌜ (a < prime) × (b < prime) ⌝ }
+    ensures { λ r. ⌜ r ≡ residues ._⊕_ a b ⌝ }
+{
+    reduce((a as u64) + (b as u64))
+}
+
+pub fn sub(a: u32, b: u32) -> u32
+    requires { ⌜ (a < prime) × (b < prime) ⌝ }
+    ensures { λ r. ⌜ r ≡ minus residues a b ⌝ }
+{
+    reduce((a as u64) + ((P - b) as u64))
+}
+
+pub fn neg(a: u32) -> u32
+    requires { ⌜ a < prime ⌝ }
+    ensures { λ r. ⌜ r ≡ residues .neg a ⌝ }
+{
+    reduce((P - a) as u64)
+}
+
+pub fn mul(a: u32, b: u32) -> u32
+    requires { ⌜ (a < prime) × (b < prime) ⌝ }
+    ensures { λ r. ⌜ r ≡ residues ._⊗_ a b ⌝ }
+{
+    reduce(fold(product(a, b)))
+}
+
+// a * x for an element a and any x. What is done to x first does not wait for a.
+fn times(a: u32, x: u32) -> u32
+    requires { ⌜ a < prime ⌝ }
+    ensures { λ r. ⌜ r ≡ residues ._⊗_ a x ⌝ }
+{
+    reduce(fold((a as u64) * fold(x as u64)))
+}
+
+// a * b + c
+pub fn mul_add(a: u32, b: u32, c: u32) -> u32
+    requires { ⌜ (a < prime) × (b < prime) × (c < prime) ⌝ }
+    ensures { λ r. ⌜ r ≡ residues ._⊕_ (residues ._⊗_ a b) c ⌝ }
+{
+    reduce(fold(product(a, b) + (c as u64)))
+}
+
+// The inner product of a and b, whose members may be any numbers. Low and high parts of the products are summed apart,
+// so that no sum overflows and the loop has no reduction.
+pub fn inner(a: &[u32], b: &[u32]) -> u32
+    requires { ⌜ (length (now a) ≡ length (now b)) × (length (now a) ≤ longest) ⌝ }
+    ensures { λ r. ⌜ r ≡ Sums·inner residues (length (now (a .entry)))
+        (λ i. getD (now (a .entry)) i 0) (λ i. getD (now (b .entry)) i 0) ⌝ }
+{
+    let mut low: u64 = 0;
+    let mut high: u64 = 0;
+    let mut i = 0;
+    while i < a.len() {
+        let x = product(a[i], b[i]);
+        low += x % TOP;
+        high += x / TOP;
+        i += 1;
+    }
+    reduce(fold(low + high))
+}
+
+// out[j] = x (x - 1) .. (x - (j - 1))
+pub fn ascending(x: u32, out: &mut [u32])
+    requires { ⌜ (x < prime) × (length (now out) ≤ prime) ⌝ }
+    ensures { λ _. ⌜ now (out .exit) ≡ tabulate (λ j. Interpolation·ascending residues 0 j x) (length (now (out .entry))) ⌝ }
+{
+    let mut acc: u32 = 1;
+    let mut i = 0;
+    while i < out.len() {
+        out[i] = acc;
+        acc = mul(acc, sub(x, i as u32));
+        i += 1;
+    }
+}
+
+// out[j] = (x - (j + 1)) .. (x - (n - 1)), where n is the length of out: filled from the back.
+pub fn descending(x: u32, out: &mut [u32])
+    requires { ⌜ (x < prime) × (length (now out) ≤ prime) ⌝ }
+    ensures { λ _. ⌜ now (out .exit) ≡ tabulate (λ j. Interpolation·descending residues (suc j)
+        (length (now (out .entry)) - 1 - j) x) (length (now (out .entry))) ⌝ }
+{
+    let mut acc: u32 = 1;
+    let mut j = out.len();
+    while 0 < j {
+        j -= 1;
+        out[j] = acc;
+        acc = mul(sub(x, j as u32), acc);
+    }
+}
+
+// out[j] = xs[0] .. xs[j - 1], where xs may have any numbers as members: at most one more entry than xs has members.
+pub fn running_products(xs: &[u32], out: &mut [u32])
+    requires { ⌜ length (now out) ≤ length (now xs) + 1 ⌝ }
+    ensures { λ _. ⌜ now (out .exit) ≡ tabulate (λ j. Sums·product residues j (λ i. getD (now (xs .entry)) i 0))
+        (length (now (out .entry))) ⌝ }
+{
+    if out.len() == 0 {
+        return;
+    }
+    let last = out.len() - 1;
+    let mut acc: u32 = 1;
+    let mut i = 0;
+    while i < last {
+        out[i] = acc;
+        acc = times(acc, xs[i]);
+        i += 1;
+    }
+    out[i] = acc;
+}
+
+// out[j] = s to the power j
+pub fn powers(s: u32, out: &mut [u32])
+    requires { ⌜ s < prime ⌝ }
+    ensures { λ _. ⌜ now (out .exit) ≡ tabulate (power residues s) (length (now (out .entry))) ⌝ }
+{
+    let mut acc: u32 = 1;
+    let mut i = 0;
+    while i < out.len() {
+        out[i] = acc;
+        acc = mul(acc, s);
+        i += 1;
+    }
+}
+
+// out[i] = 1 / (i + 1). From P = (P / a) a + P % a, the inverse of a is that of P % a, which is below a, times - (P / a).
+pub fn inverses(out: &mut [u32])
+    requires { ⌜ length (now out) < prime ⌝ }
+    ensures { λ _. ⌜ now (out .exit) ≡ tabulate (λ i. residues .inv (suc i)) (length (now (out .entry))) ⌝ }
+{
+    if out.len() == 0 {
+        return;
+    }
+    out[0] = 1;
+    let mut i = 1;
+    while i < out.len() {
+        let a = (i + 1) as u32;
+        let r = (P % a) as usize;
+        out[i] = mul(P - P / a, out[r - 1]);
+        i += 1;
+    }
+}

@@ -1,0 +1,2 @@
+-- What the exported kernels take, answer and leave.
+pub mod Outcomes

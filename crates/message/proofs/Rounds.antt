@@ -1,0 +1,92 @@
+-- Joined round messages. Element x of message i stands at 14 i + 6 or 14 i + 10 of the joined bytes, so that rules' sums
+-- are sums of words at steps of 14; and messages without a fault can be summed. Assumes nothing.
+use mathlib.Core.Path.{_≡_, refl, sym, ap}
+use mathlib.Core.Bool.{Bool, true, _&&_}
+use mathlib.Core.List.{List}
+use Prim.Native.Nat.{ℕ, _+_, _*_, _≤_, _<_}
+use native.Mathlib.Omega.{arith}
+use borrow.Author.Tests.{eqb-true, ltb-true}
+use lib.Dec.{eqb, ltb}
+use lib.ListN.{length}
+use Rattle.algebra.proofs.Members.{and-left, and-right}
+use Rattle.algebra.proofs.Sums.{sum-ext}
+use Rattle.words.specs.Bytes.{valueOf, sameBytes}
+use Rattle.rules.specs.Settings.{document01}
+use Rattle.rules.specs.Columns.{check}
+use Rattle.rules.specs.Messages.{kindIn, idIn, serverIn, roundSound, roundFault, placeIn, firstIn, secondIn, firstSum, secondSum}
+use Rattle.field.specs.Residues.{prime, residues}
+use Rattle.message.specs.Words.{wordOf, Words, sumOf}
+use Rattle.message.specs.Rounds.{Summable, soundAt, allSound}
+use Rattle.message.proofs.Every.{every-at}
+use Rattle.message.proofs.Parts.{part-of-part, check-holds, second, fourth}
+
+-- ---- where the elements stand
+module _ (joined : List ℕ) (i : ℕ) where
+  pub first-word : firstIn document01 (placeIn document01 joined i) ≡ wordOf joined 14 6 i
+  first-word = ap valueOf (part-of-part 6 4 (14 * i) 14 joined (omega arith))
+
+  pub second-word : secondIn document01 (placeIn document01 joined i) ≡ wordOf joined 14 10 i
+  second-word = ap valueOf (part-of-part 10 4 (14 * i) 14 joined (omega arith))
+
+module _ (servers : ℕ) (joined : List ℕ) where
+  pub first-sum : sumOf joined 14 6 servers ≡ firstSum document01 servers joined
+  unfolding sumOf firstSum
+  first-sum = sum-ext residues servers _ _ (λ i h. sym (first-word joined i))
+
+  pub second-sum : sumOf joined 14 10 servers ≡ secondSum document01 servers joined
+  unfolding sumOf secondSum
+  second-sum = sum-ext residues servers _ _ (λ i h. sym (second-word joined i))
+
+  module _ (s : Summable servers joined) where
+    within : (at i : ℕ) → at + 4 ≤ 14 → i < servers → 14 * i + at + 4 ≤ length joined
+    within at i h k = omega (arith, s .long)
+
+    pub first-words : Words joined 14 6 servers
+    first-words = record {
+      within = λ i h. within 6 i (omega arith) h;
+      below = λ i h. rw (← first-word joined i) (s .first-below i h);
+    }
+
+    pub second-words : Words joined 14 10 servers
+    second-words = record {
+      within = λ i h. within 10 i (omega arith) h;
+      below = λ i h. rw (← second-word joined i) (s .second-below i h);
+    }
+
+-- ---- faults
+module _ (servers kind id own : ℕ) (mine joined : List ℕ) where
+  pub round-fault : roundFault document01 servers kind id own mine joined
+      ≡ check
+      (eqb (length joined) (14 * servers) && (allSound servers kind id joined && sameBytes (placeIn document01 joined own) mine)) 12
+  unfolding roundFault allSound
+  round-fault = refl
+
+-- messages without a fault
+module _ (servers kind id own : ℕ) (mine joined : List ℕ) (sound : roundFault document01 servers kind id own mine joined ≡ 0) where
+  all-hold : eqb (length joined) (14 * servers) && (allSound servers kind id joined && sameBytes (placeIn document01 joined own) mine)
+      ≡ true
+  all-hold = check-holds _ 11 (rw round-fault at sound)
+
+  -- the two elements of message i
+  abbrev firstBelow : ℕ → Bool
+  firstBelow i = ltb (firstIn document01 (placeIn document01 joined i)) prime
+
+  abbrev secondBelow : ℕ → Bool
+  secondBelow i = ltb (secondIn document01 (placeIn document01 joined i)) prime
+
+  elements-hold : (i : ℕ) → i < servers → firstBelow i && secondBelow i ≡ true
+  unfolding allSound roundSound
+  elements-hold i h =
+      let m = placeIn document01 joined i in
+      let every : allSound servers kind id joined ≡ true
+      = second (eqb (length joined) (14 * servers)) (allSound servers kind id joined) (sameBytes (placeIn document01 joined own) mine)
+      all-hold in
+      fourth (eqb (kindIn m) kind) (eqb (idIn m) id) (eqb (serverIn m) i) (firstBelow i && secondBelow i)
+      (every-at (soundAt kind id joined) servers i every h)
+
+  pub rounds-summable : Summable servers joined
+  rounds-summable = record {
+    long = eqb-true (length joined) (14 * servers) (and-left _ _ all-hold);
+    first-below = λ i h. ltb-true _ _ (and-left (firstBelow i) (secondBelow i) (elements-hold i h));
+    second-below = λ i h. ltb-true _ _ (and-right (firstBelow i) (secondBelow i) (elements-hold i h));
+  }

@@ -111,10 +111,10 @@ pub fn round_refusal(joined: &[u8], servers: u32, kind: u8, id: u32, own: u32, m
     }
     let start = 14 * (own as usize);
     let end = start + 14;
-    if !words::equal(&joined[start..end], mine) {
-        return 12;
+    if words::equal(&joined[start..end], mine) {
+        return 0;
     }
-    0
+    12
 }
 
 // The sum of n words, of which word i stands at step * i + at.

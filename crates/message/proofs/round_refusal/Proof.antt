@@ -57,7 +57,7 @@ returns-3 c =
       round-fault (a .servers) (a .kind) (a .id) (a .own) (a .mine .now) (a .joined .now),
       eq-eqb _ _ (c .before .before .before .before .before .if1 .left),
       sym (c .before .before .before .before .all-sound .ensures) ∙ not-false _ (c .before .before .before .if2 .left),
-      rw (span (14 * a .own) 14 (a .joined .now)) at (sym (c .before .equal .ensures) ∙ not-true _ (c .if3 .taken)),
+      rw (span (14 * a .own) 14 (a .joined .now)) at (sym (c .before .equal .ensures) ∙ c .if3 .taken),
     )
 
 returns-4 : tie.Need-returns-4
@@ -67,7 +67,7 @@ returns-4 c =
       round-fault (a .servers) (a .kind) (a .id) (a .own) (a .mine .now) (a .joined .now),
       eq-eqb _ _ (c .before .before .before .before .before .if1 .left),
       sym (c .before .before .before .before .all-sound .ensures) ∙ not-false _ (c .before .before .before .if2 .left),
-      rw (span (14 * a .own) 14 (a .joined .now)) at (sym (c .before .equal .ensures) ∙ not-false _ (c .if3 .left)),
+      rw (span (14 * a .own) 14 (a .joined .now)) at (sym (c .before .equal .ensures) ∙ c .if3 .left),
     )
 
 pub round-refusal-spec : {M : Type 1} → statement M

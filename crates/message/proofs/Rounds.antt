@@ -1,57 +1,46 @@
--- Joined round messages. Element x of message i stands at 14 i + 6 or 14 i + 10 of the joined bytes, so that rules' sums
--- are sums of words at steps of 14; and messages without a fault can be summed. Assumes nothing.
-use mathlib.Core.Path.{_≡_, refl, sym, ap}
+-- Joined round messages. The elements stand at 6 and at 10 of each message, so that rules' sums are sums of words at steps
+-- of 14; and messages without a fault can be summed. Assumes nothing.
+use mathlib.Core.Path.{_≡_, refl}
 use mathlib.Core.Bool.{Bool, true, _&&_}
 use mathlib.Core.List.{List}
-use Prim.Native.Nat.{ℕ, _+_, _*_, _≤_, _<_}
+use Prim.Native.Nat.{ℕ, _*_, _<_}
 use native.Mathlib.Omega.{arith}
 use borrow.Author.Tests.{eqb-true, ltb-true}
 use lib.Dec.{eqb, ltb}
 use lib.ListN.{length}
 use Rattle.algebra.proofs.Members.{and-left, and-right}
-use Rattle.algebra.proofs.Sums.{sum-ext}
-use Rattle.words.specs.Bytes.{valueOf, sameBytes}
+use Rattle.words.specs.Bytes.{sameBytes}
 use Rattle.rules.specs.Settings.{document01}
 use Rattle.rules.specs.Columns.{check}
 use Rattle.rules.specs.Messages.{kindIn, idIn, serverIn, roundSound, roundFault, placeIn, firstIn, secondIn, firstSum, secondSum}
-use Rattle.field.specs.Residues.{prime, residues}
-use Rattle.message.specs.Words.{wordOf, Words, sumOf}
+use Rattle.field.specs.Residues.{prime}
+use Rattle.message.specs.Words.{Words, sumOf}
 use Rattle.message.specs.Rounds.{Summable, soundAt, allSound}
 use Rattle.message.proofs.Every.{every-at}
-use Rattle.message.proofs.Parts.{part-of-part, check-holds, second, fourth}
+use Rattle.message.proofs.Parts.{check-holds, second, fourth}
+use Rattle.message.proofs.Words.{words-within, words-sum}
 
--- ---- where the elements stand
-module _ (joined : List ℕ) (i : ℕ) where
-  pub first-word : firstIn document01 (placeIn document01 joined i) ≡ wordOf joined 14 6 i
-  first-word = ap valueOf (part-of-part 6 4 (14 * i) 14 joined (omega arith))
+-- ---- sums
+module _ (servers : ℕ) (joined : List ℕ) (s : Summable servers joined) where
+  abbrev firsts : ℕ → ℕ
+  firsts i = firstIn document01 (placeIn document01 joined i)
 
-  pub second-word : secondIn document01 (placeIn document01 joined i) ≡ wordOf joined 14 10 i
-  second-word = ap valueOf (part-of-part 10 4 (14 * i) 14 joined (omega arith))
+  abbrev seconds : ℕ → ℕ
+  seconds i = secondIn document01 (placeIn document01 joined i)
 
-module _ (servers : ℕ) (joined : List ℕ) where
+  pub first-words : Words joined 14 6 servers
+  first-words = words-within 14 servers joined (s .long) 6 (omega arith) firsts (λ i h. refl) (s .first-below)
+
   pub first-sum : sumOf joined 14 6 servers ≡ firstSum document01 servers joined
-  unfolding sumOf firstSum
-  first-sum = sum-ext residues servers _ _ (λ i h. sym (first-word joined i))
+  unfolding firstSum
+  first-sum = words-sum 14 servers joined (s .long) 6 (omega arith) firsts (λ i h. refl)
+
+  pub second-words : Words joined 14 10 servers
+  second-words = words-within 14 servers joined (s .long) 10 (omega arith) seconds (λ i h. refl) (s .second-below)
 
   pub second-sum : sumOf joined 14 10 servers ≡ secondSum document01 servers joined
-  unfolding sumOf secondSum
-  second-sum = sum-ext residues servers _ _ (λ i h. sym (second-word joined i))
-
-  module _ (s : Summable servers joined) where
-    within : (at i : ℕ) → at + 4 ≤ 14 → i < servers → 14 * i + at + 4 ≤ length joined
-    within at i h k = omega (arith, s .long)
-
-    pub first-words : Words joined 14 6 servers
-    first-words = record {
-      within = λ i h. within 6 i (omega arith) h;
-      below = λ i h. rw (← first-word joined i) (s .first-below i h);
-    }
-
-    pub second-words : Words joined 14 10 servers
-    second-words = record {
-      within = λ i h. within 10 i (omega arith) h;
-      below = λ i h. rw (← second-word joined i) (s .second-below i h);
-    }
+  unfolding secondSum
+  second-sum = words-sum 14 servers joined (s .long) 10 (omega arith) seconds (λ i h. refl)
 
 -- ---- faults
 module _ (servers kind id own : ℕ) (mine joined : List ℕ) where

@@ -1,19 +1,17 @@
 -- Joined totals messages by the number of published entries: rules' definitions at publishedIn, by unfolding both. Element
--- k of message i stands at (6 + 4 published) i + 6 + 4 k of the joined bytes. Messages without a fault can be summed.
+-- k stands at 6 + 4 k of each message, so that totals are sums of words; and messages without a fault can be summed.
 -- Assumes nothing.
-use mathlib.Core.Path.{_≡_, refl, sym, ap, _∙_}
+use mathlib.Core.Path.{_≡_, refl, ap, _∙_}
 use mathlib.Core.Bool.{true, _&&_}
 use mathlib.Core.List.{List, _++_}
-use Prim.Native.Nat.{ℕ, suc, _+_, _*_, _≤_, _<_}
-use native.Mathlib.Nat.{mul-le-mul-left}
+use Prim.Native.Nat.{ℕ, _+_, _*_, _≤_, _<_}
 use native.Mathlib.Omega.{arith}
 use borrow.Author.Tests.{eqb-true}
 use lib.Dec.{eqb, leb, lit<}
 use lib.ListN.{length, getD, drop, length-drop}
 use Rattle.algebra.specs.Lists.{tabulate}
 use Rattle.algebra.proofs.Members.{and-left}
-use Rattle.algebra.proofs.Sums.{sum-ext}
-use Rattle.words.specs.Bytes.{valueOf, bytesOfAll, allBelow}
+use Rattle.words.specs.Bytes.{valueOf, bytesOfAll, part, allBelow}
 use Rattle.words.proofs.Splice.{length-part, part-of-drop}
 use Rattle.words.proofs.Elements.{element-within}
 use Rattle.words.proofs.Below.{all-of-below}
@@ -21,13 +19,14 @@ use Rattle.rules.specs.Settings.{document01}
 use Rattle.rules.specs.Columns.{Column, publishedIn, columnsOf}
 use Rattle.rules.specs.Server.{Opened, totalsMessage}
 use Rattle.rules.specs.Joining.{acceptedCount, sumsIn, totalsSound, joinedFault, joinTotals}
-use Rattle.field.specs.Residues.{prime, residues}
+use Rattle.field.specs.Residues.{prime}
 use Rattle.field.proofs.Below.{member-below}
-use Rattle.message.specs.Words.{wordOf, Words, sumOf}
+use Rattle.message.specs.Words.{Words, sumOf}
 use Rattle.message.specs.Totals.{totalsBytes, totalsPart, totalsSoundAt, allTotalsSound}
 use Rattle.message.specs.Totals.{joinedFaultAt, totalAt, totalsHeader, WholeTotals, SummableTotals}
 use Rattle.message.proofs.Every.{every-at}
-use Rattle.message.proofs.Parts.{part-of-part, check-holds, second, fourth}
+use Rattle.message.proofs.Parts.{check-holds, second, fourth}
+use Rattle.message.proofs.Words.{message-within, words-within, words-sum}
 
 pub joined-fault : (servers : ℕ) (cs : List Column) (returns : ℕ) (joined : List ℕ)
     → joinedFault document01 servers cs returns joined ≡ joinedFaultAt servers (publishedIn cs) returns joined
@@ -45,41 +44,33 @@ pub totals-message : (o : Opened) (count : ℕ) (totals : List ℕ)
 unfolding totalsMessage totalsHeader
 totals-message o count totals = refl
 
--- message i lies within the joined bytes
-inside : (servers published : ℕ) (joined : List ℕ) (i : ℕ) → length joined ≡ totalsBytes published * servers → i < servers
-    → totalsBytes published * i + totalsBytes published ≤ length joined
-inside servers published joined i long h =
-    let k : totalsBytes published * suc i ≤ totalsBytes published * servers = mul-le-mul-left (totalsBytes published) h in
-    omega arith
-
 pub totals-within : {servers published : ℕ} {joined : List ℕ} {i : ℕ} → WholeTotals servers published joined → i < servers
     → totalsBytes published * i + totalsBytes published ≤ length joined
-totals-within {servers} {published} {joined} {i} w h = inside servers published joined i (w .long) h
+totals-within {servers} {published} {joined} {i} w h = message-within (totalsBytes published) servers joined (w .long) i h
 
-module _ (servers published : ℕ) (joined : List ℕ) (long : length joined ≡ totalsBytes published * servers) where
-  -- ---- where the elements stand
-  module _ (k : ℕ) (one : k < published) where
-    element-word : (i : ℕ) → i < servers
-        → getD (sumsIn document01 (totalsPart published joined i)) k 0 ≡ wordOf joined (totalsBytes published) (6 + 4 * k) i
-    element-word i h =
-        let m = totalsPart published joined i in
-        let l : length m ≡ totalsBytes published = length-part _ _ joined (inside servers published joined i long h) in
-        let d : 4 * k + 4 ≤ length (drop 6 m) = rw length-drop (omega arith) in
-        element-within 4 (lit< tt) (drop 6 m) k d
-        ∙ ap valueOf
-        (part-of-drop (4 * k) 4 6 m
-        ∙ part-of-part (6 + 4 * k) 4 (totalsBytes published * i) (totalsBytes published) joined (omega arith))
+-- ---- sums
+module _ (servers published k : ℕ) (joined : List ℕ) (s : SummableTotals servers published k joined) where
+  abbrev elements : ℕ → ℕ
+  elements i = getD (sumsIn document01 (totalsPart published joined i)) k 0
 
-    pub total-sum : sumOf joined (totalsBytes published) (6 + 4 * k) servers ≡ totalAt servers published joined k
-    unfolding sumOf totalAt
-    total-sum = sum-ext residues servers _ _ (λ i h. sym (element-word i h))
+  fits : 6 + 4 * k + 4 ≤ totalsBytes published
+  fits = omega (arith, s .one)
 
-    pub total-words : ((i : ℕ) → i < servers → getD (sumsIn document01 (totalsPart published joined i)) k 0 < prime)
-        → Words joined (totalsBytes published) (6 + 4 * k) servers
-    total-words below = record {
-      within = λ i h. omega (arith, inside servers published joined i long h);
-      below = λ i h. rw (← element-word i h) (below i h);
-    }
+  element-word : (i : ℕ) → i < servers → elements i ≡ valueOf (part (6 + 4 * k) 4 (totalsPart published joined i))
+  element-word i h =
+      let m = totalsPart published joined i in
+      let n = totalsBytes published in
+      let l : length m ≡ n = length-part (n * i) n joined (message-within n servers joined (s .long) i h) in
+      let d : 4 * k + 4 ≤ length (drop 6 m) = rw length-drop (omega (arith, fits)) in
+      element-within 4 (lit< tt) (drop 6 m) k d ∙ ap valueOf (part-of-drop (4 * k) 4 6 m)
+
+  pub total-words : Words joined (totalsBytes published) (6 + 4 * k) servers
+  total-words =
+      words-within (totalsBytes published) servers joined (s .long) (6 + 4 * k) fits elements element-word (s .below)
+
+  pub total-sum : sumOf joined (totalsBytes published) (6 + 4 * k) servers ≡ totalAt servers published joined k
+  unfolding totalAt
+  total-sum = words-sum (totalsBytes published) servers joined (s .long) (6 + 4 * k) fits elements element-word
 
 -- ---- messages without a fault
 module _ (servers published returns : ℕ) (joined : List ℕ) (sound : joinedFaultAt servers published returns joined ≡ 0) where

@@ -22,6 +22,10 @@ pub length-totals-header : (own count : ℕ) → length (totalsHeader own count)
 unfolding totalsHeader
 length-totals-header own count = simp length-bytes
 
+pub length-round : (kind id server x y : ℕ) → length (roundMessage document01 kind id server x y) ≡ 14
+unfolding roundMessage
+length-round kind id server x y = simp (length-append, length-bytes)
+
 -- a byte more
 put-byte : (s : List ℕ) (a : ℕ) (ys : List ℕ) (n v : ℕ) → length ys ≡ n → a + n < length s
     → set (splice s a ys) (a + n) v ≡ splice s a (ys ++ (v ∷ []))

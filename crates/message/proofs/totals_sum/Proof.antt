@@ -1,4 +1,4 @@
--- `message::totals_sum` meets its contract: the elements k are the words at their places (`element-word`). Assumes nothing.
+-- `message::totals_sum` meets its contract: the elements k are words at equal steps (`total-sum`). Assumes nothing.
 use mathlib.Core.Path.{_∙_}
 use Rattle.message.proofs.Totals.{total-sum, total-words}
 use borrow.Author.Needs.{needs}
@@ -19,15 +19,12 @@ add-sum-words-2 c = search needs
 
 sum-words-requires : tie.Need-sum-words-requires
 sum-words-requires c κs =
-    let a = c .before .args in
-    let p = c .before .pre in
-    total-words (a .servers) (a .published) (a .joined .now) (p .long) (a .k) (p .one) (p .below)
+    let a = c .before .args in total-words (a .servers) (a .published) (a .k) (a .joined .now) (c .before .pre)
 
 returns : tie.Need-returns
 returns c =
     let a = c .before .before .args in
-    let p = c .before .before .pre in
-    c .sum-words .ensures ∙ total-sum (a .servers) (a .published) (a .joined .now) (p .long) (a .k) (p .one)
+    c .sum-words .ensures ∙ total-sum (a .servers) (a .published) (a .k) (a .joined .now) (c .before .before .pre)
 
 pub totals-sum-spec : {M : Type 1} → statement M
 totals-sum-spec =

@@ -1,0 +1,73 @@
+-- `message::totals_sound` meets its contract. Each test that led to a return is put into the definition, which then
+-- computes; the part handed on goes to the end of the message (`to-end`). Assumes nothing.
+use borrow.Author.Tests.{eq-eqb, ne-eqb}
+use Rattle.rules.specs.Joining.{totalsSound}
+use Rattle.message.proofs.Parts.{to-end}
+use borrow.Author.Needs.{needs}
+use Rattle.message.proofs.totals_sound.Statement.{statement}
+use Rattle.message.proofs.totals_sound.Tie as tie
+
+shared-slice-read-if1 : tie.Need-shared-slice-read-if1
+shared-slice-read-if1 c = search needs
+
+returns : tie.Need-returns
+unfolding totalsSound
+returns c = simp (ne-eqb _ _ (c .if1 .taken))
+
+shared-slice-read-if2 : tie.Need-shared-slice-read-if2
+shared-slice-read-if2 c = search needs
+
+returns-2 : tie.Need-returns-2
+unfolding totalsSound
+returns-2 c = simp (eq-eqb _ _ (c .before .before .if1 .left), ne-eqb _ _ (c .if2 .taken))
+
+accepted-count-requires : tie.Need-accepted-count-requires
+accepted-count-requires c κs = search needs
+
+returns-3 : tie.Need-returns-3
+unfolding totalsSound
+returns-3 c =
+    simp (
+      eq-eqb _ _ (c .before .before .before .before .if1 .left),
+      eq-eqb _ _ (c .before .before .if2 .left),
+      ne-eqb _ _ (rw (c .before .accepted-count .ensures) at (c .if3 .taken)),
+    )
+
+sub-elements-below : tie.Need-sub-elements-below
+sub-elements-below c = search needs
+
+part-elements-below-start : tie.Need-part-elements-below-start
+part-elements-below-start c = search needs
+
+part-elements-below-end : tie.Need-part-elements-below-end
+part-elements-below-end c = search needs
+
+elements-below-requires : tie.Need-elements-below-requires
+elements-below-requires c κs = search needs
+
+returns-4 : tie.Need-returns-4
+unfolding totalsSound
+returns-4 c =
+    simp (
+      eq-eqb _ _ (c .before .before .before .before .before .before .if1 .left),
+      eq-eqb _ _ (c .before .before .before .before .if2 .left),
+      eq-eqb _ _ (rw (c .before .before .before .accepted-count .ensures) at (c .before .before .if3 .left)),
+      c .elements-below .ensures,
+      to-end 6,
+    )
+
+pub totals-sound-spec : {M : Type 1} → statement M
+totals-sound-spec =
+    tie.close
+    (tie.spec
+    shared-slice-read-if1
+    returns
+    shared-slice-read-if2
+    returns-2
+    accepted-count-requires
+    returns-3
+    sub-elements-below
+    part-elements-below-start
+    part-elements-below-end
+    elements-below-requires
+    returns-4)

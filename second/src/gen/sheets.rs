@@ -1,0 +1,187 @@
+//! Sheets, values and elements.
+
+use super::Rng;
+use crate::field::{self, P};
+use crate::sheet::{Column, Sheet, MAX_ENTRIES, MAX_LIMIT};
+
+/// A legal sheet of at most so many entries (at least 1, at most 256): mixed, or of one
+/// kind only; small, or filled up.
+pub fn sheet(rng: &mut Rng, max_entries: usize) -> Vec<u8> {
+    let max = (max_entries as u64).clamp(1, MAX_ENTRIES);
+    let target = match rng.below(4) {
+        0 => rng.between(1, max.min(4)),
+        1 => rng.between(1, max.min(30)),
+        2 => rng.between(1, max),
+        _ => max,
+    };
+    let only = rng.pick([None, None, None, Some(17), Some(18), Some(19)]);
+    let widest = rng.pick([2, 5, 64]);
+    let mut left = target;
+    let mut bytes = Vec::new();
+    while left > 0 {
+        let kind = only.unwrap_or_else(|| rng.pick([17, 18, 19]));
+        // Kinds 18 and 19 need two entries at least.
+        if kind == 17 || left == 1 {
+            bytes.push(17);
+            left -= 1;
+        } else if kind == 18 {
+            let options = rng.between(2, left.min(64).min(widest));
+            bytes.extend([18, options as u8]);
+            left -= options;
+        } else {
+            let most = (left - 1).min(24).min(widest);
+            // Wide numbers often: they are what refusal 4 is about.
+            let bits = if rng.chance(30) {
+                most
+            } else {
+                rng.between(1, most)
+            };
+            bytes.extend([19, bits as u8]);
+            left -= bits + 1;
+        }
+    }
+    bytes
+}
+
+/// A sheet that is meant to be refused, 1 or 2. (A few that were only touched in one byte
+/// are legal after all.)
+pub fn damaged_sheet(rng: &mut Rng) -> Vec<u8> {
+    let mut bytes = match rng.below(4) {
+        0 => Vec::new(),
+        1 => sheet(rng, 256),
+        _ => sheet(rng, 12),
+    };
+    match rng.below(9) {
+        0 => return Vec::new(),
+        // An unknown kind, last or with more behind it.
+        1 => {
+            bytes.push(rng.pick([0, 1, 16, 20, 33, 255]));
+            if rng.chance(50) {
+                bytes.extend(sheet(rng, 5));
+            }
+        }
+        // A count outside its limits.
+        2 => {
+            bytes.extend(rng.pick([
+                [18, 0],
+                [18, 1],
+                [18, 65],
+                [18, 255],
+                [19, 0],
+                [19, 25],
+                [19, 255],
+            ]));
+            if rng.chance(50) {
+                bytes.extend(sheet(rng, 5));
+            }
+        }
+        // A cut body.
+        3 => bytes.push(rng.pick([18, 19])),
+        // Too many entries.
+        4 => {
+            while Sheet::read(&bytes).is_ok() || bytes.is_empty() {
+                bytes.extend(sheet(rng, 256));
+            }
+        }
+        // Too many entries, and then a record at fault.
+        5 => {
+            bytes.extend(vec![17; 300]);
+            bytes.extend(rng.pick([[99, 17], [18, 1], [17, 18]]));
+        }
+        // Two records at fault.
+        6 => bytes.extend(rng.pick([
+            [18, 1, 99, 17],
+            [99, 18, 1, 17],
+            [19, 25, 17, 18],
+            [19, 0, 20, 20],
+            [20, 19, 0, 18],
+        ])),
+        7 => {
+            let length = rng.between(1, 20) as usize;
+            bytes = rng.bytes(length);
+        }
+        _ => {
+            if bytes.is_empty() {
+                bytes.push(17);
+            }
+            let at = rng.index(bytes.len());
+            bytes[at] = rng.pick([0, 1, 2, 16, 17, 18, 19, 20, 24, 25, 64, 65, 255]);
+        }
+    }
+    bytes
+}
+
+/// The greatest N with which a sheet opens (refusal 4).
+pub fn largest_limit(sheet: &Sheet) -> u32 {
+    let columns = sheet.columns().iter();
+    let most = columns.map(|column| (P - 1) / column.largest()).min();
+    most.map_or(MAX_LIMIT, |most| most.min(u64::from(MAX_LIMIT)) as u32)
+}
+
+/// One legal value for each column, 4 bytes each.
+pub fn values(rng: &mut Rng, sheet: &Sheet) -> Vec<u8> {
+    let columns = sheet.columns().iter();
+    columns
+        .flat_map(|column| value(rng, *column).to_le_bytes())
+        .collect()
+}
+
+fn value(rng: &mut Rng, column: Column) -> u32 {
+    let last = column.values() - 1;
+    match rng.below(6) {
+        0 => 0,
+        1 => last,
+        _ => rng.between(0, u64::from(last)) as u32,
+    }
+}
+
+/// Values that are refused 5.
+pub fn damaged_values(rng: &mut Rng, sheet: &Sheet) -> Vec<u8> {
+    let mut bytes = values(rng, sheet);
+    match rng.below(4) {
+        0 => {
+            let keep = rng.index(bytes.len());
+            bytes.truncate(keep);
+        }
+        1 => {
+            let more = rng.between(1, 8) as usize;
+            bytes.resize(bytes.len() + more, 0);
+        }
+        _ => {
+            let at = rng.index(sheet.columns().len());
+            let past = sheet.columns()[at].values();
+            let any = rng.between(u64::from(past), u64::from(u32::MAX)) as u32;
+            let wrong = rng.pick([past, past + 1, any, u32::MAX]);
+            bytes[4 * at..4 * at + 4].copy_from_slice(&wrong.to_le_bytes());
+        }
+    }
+    bytes
+}
+
+/// So many random elements, 4 bytes each.
+pub fn elements(rng: &mut Rng, count: usize) -> Vec<u8> {
+    (0..count)
+        .flat_map(|_| field::bytes(rng.element()))
+        .collect()
+}
+
+/// Elements of which one is not below p, or too few or too many bytes.
+pub fn damaged_elements(rng: &mut Rng, count: usize) -> Vec<u8> {
+    let mut bytes = elements(rng, count);
+    match rng.below(4) {
+        0 => {
+            let cut = rng.between(1, 4) as usize;
+            bytes.truncate(bytes.len().saturating_sub(cut));
+        }
+        1 => {
+            let more = rng.between(1, 4) as usize;
+            bytes.resize(bytes.len() + more, 0);
+        }
+        _ if count > 0 => {
+            let at = 4 * rng.index(count);
+            bytes[at..at + 4].copy_from_slice(&rng.no_element().to_le_bytes());
+        }
+        _ => bytes.push(0),
+    }
+    bytes
+}

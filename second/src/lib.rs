@@ -1,0 +1,39 @@
+//! A second program for the figures pool of document 01, written from the paper
+//! alone.
+//!
+//! Two forms of the same rules live here:
+//!
+//! * the plain form, one module for each part of the paper: [`field`], [`sheet`],
+//!   [`mod@circuit`], [`values`], [`making`], [`judging`], [`table`], [`joining`]
+//!   and [`mod@recount`];
+//! * the fast form, [`fast`], with the same calls and the same answers.
+//!
+//! [`gen`] makes random sheets, values, elements and whole scripts of calls from a
+//! seed.
+//!
+//! Every call answers `Result<_, u32>`, where the error is the number of the
+//! refusal (see [`refusal`]). A refused call changes nothing. `room` is the length
+//! of the caller's output buffer.
+
+#![forbid(unsafe_code)]
+#![warn(missing_docs)]
+
+pub mod circuit;
+pub mod fast;
+pub mod field;
+pub mod gen;
+pub mod joining;
+pub mod judging;
+pub mod making;
+pub mod recount;
+pub mod refusal;
+pub mod sheet;
+pub mod table;
+pub mod values;
+
+pub use circuit::{circuit, read_circuit, Circuit, Step};
+pub use joining::{join, Joined};
+pub use making::make;
+pub use recount::recount;
+pub use sheet::{Column, Sheet};
+pub use table::{close, drop, open, round_one, round_two, share, Stage, Table, Verdict};

@@ -1,0 +1,233 @@
+//! "Sheet and circuit", first half: columns and the sheet reader.
+
+use crate::field::P;
+use crate::refusal;
+
+/// Entries, at most.
+pub const MAX_ENTRIES: u64 = 256;
+/// Multiplications, at most.
+pub const MAX_MULTIPLICATIONS: u64 = 256;
+/// Tests, at most.
+pub const MAX_TESTS: u64 = 512;
+/// Decided returns N, at most.
+pub const MAX_LIMIT: u32 = 1024;
+
+/// One column of a sheet.
+#[derive(Clone, Copy, Debug, PartialEq, Eq)]
+pub enum Column {
+    /// Kind 17: one entry, 0 or 1.
+    YesNo,
+    /// Kind 18 with B options: B entries, the chosen one is 1, the rest 0.
+    Choice(u8),
+    /// Kind 19 with b bits: entry v, then b bit entries, lowest first.
+    Number(u8),
+}
+
+impl Column {
+    /// How many entries the column has.
+    pub fn entries(self) -> usize {
+        match self {
+            Column::YesNo => 1,
+            Column::Choice(options) => usize::from(options),
+            Column::Number(bits) => 1 + usize::from(bits),
+        }
+    }
+
+    /// How many of its entries are published. They stand at the column's start:
+    /// every entry of kinds 17 and 18, and v of kind 19.
+    pub fn published(self) -> usize {
+        match self {
+            Column::YesNo | Column::Number(_) => 1,
+            Column::Choice(options) => usize::from(options),
+        }
+    }
+
+    /// How many multiplications its part of the circuit has: one for each bit check.
+    pub fn multiplications(self) -> usize {
+        match self {
+            Column::YesNo => 1,
+            Column::Choice(options) => usize::from(options),
+            Column::Number(bits) => usize::from(bits),
+        }
+    }
+
+    /// How many tests its part of the circuit has: one for each bit check, and one
+    /// for the sum of kinds 18 and 19.
+    pub fn tests(self) -> usize {
+        match self {
+            Column::YesNo => 1,
+            Column::Choice(_) | Column::Number(_) => self.multiplications() + 1,
+        }
+    }
+
+    /// How many values the column has: a value is from 0 to this less 1.
+    pub fn values(self) -> u32 {
+        match self {
+            Column::YesNo => 2,
+            Column::Choice(options) => u32::from(options),
+            Column::Number(bits) => 1u32.checked_shl(u32::from(bits)).unwrap_or(u32::MAX),
+        }
+    }
+
+    /// The largest value of a published entry: 2^b - 1 for kind 19, else 1.
+    pub fn largest(self) -> u64 {
+        match self {
+            Column::YesNo | Column::Choice(_) => 1,
+            Column::Number(_) => u64::from(self.values()) - 1,
+        }
+    }
+}
+
+/// A sheet that was read: its columns and its counts.
+#[derive(Clone, Debug, PartialEq, Eq)]
+pub struct Sheet {
+    columns: Vec<Column>,
+    entries: usize,
+    published: usize,
+    multiplications: usize,
+    tests: usize,
+}
+
+impl Sheet {
+    /// Reads a sheet. "Reading stops at the first record at fault, and its number is
+    /// the refusal: kind and cut, then counts ...; the total limits last."
+    pub fn read(bytes: &[u8]) -> Result<Sheet, u32> {
+        let mut columns = Vec::new();
+        let mut rest = bytes;
+        loop {
+            let (column, next) = match rest {
+                [] => break,
+                [17, next @ ..] => (Column::YesNo, next),
+                [18, options, next @ ..] => match options {
+                    2..=64 => (Column::Choice(*options), next),
+                    _ => return Err(refusal::LIMIT),
+                },
+                [19, bits, next @ ..] => match bits {
+                    1..=24 => (Column::Number(*bits), next),
+                    _ => return Err(refusal::LIMIT),
+                },
+                // An unknown kind, or kind 18 or 19 as the last byte.
+                _ => return Err(refusal::KIND),
+            };
+            columns.push(column);
+            rest = next;
+        }
+
+        // A sheet has no length limit of its own. A column is at least one byte and
+        // adds at most 65 to each count, so the sums stay far below 2^64.
+        let total = |count: fn(Column) -> usize| -> u64 {
+            columns.iter().map(|&column| count(column) as u64).sum()
+        };
+        let entries = total(Column::entries);
+        let multiplications = total(Column::multiplications);
+        let tests = total(Column::tests);
+        // The limits of circuit bytes and wires follow from that of the entries.
+        if !(1..=MAX_ENTRIES).contains(&entries)
+            || !(1..=MAX_MULTIPLICATIONS).contains(&multiplications)
+            || !(1..=MAX_TESTS).contains(&tests)
+        {
+            return Err(refusal::LIMIT);
+        }
+        Ok(Sheet {
+            entries: entries as usize,
+            published: columns.iter().map(|column| column.published()).sum(),
+            multiplications: multiplications as usize,
+            tests: tests as usize,
+            columns,
+        })
+    }
+
+    /// The columns in sheet order.
+    pub fn columns(&self) -> &[Column] {
+        &self.columns
+    }
+
+    /// L, the number of entries.
+    pub fn entries(&self) -> usize {
+        self.entries
+    }
+
+    /// The number of published entries.
+    pub fn published(&self) -> usize {
+        self.published
+    }
+
+    /// M, the number of multiplications.
+    pub fn multiplications(&self) -> usize {
+        self.multiplications
+    }
+
+    /// K, the number of tests.
+    pub fn tests(&self) -> usize {
+        self.tests
+    }
+
+    /// "A share has L + 2M + 6 elements."
+    pub fn share_elements(&self) -> usize {
+        self.entries + 2 * self.multiplications + 6
+    }
+
+    /// The length of a share message: kind byte, id, server number, the elements.
+    pub fn share_length(&self) -> usize {
+        6 + 4 * self.share_elements()
+    }
+
+    /// The length of a closing message: kind byte, server, count, published totals.
+    pub fn closing_length(&self) -> usize {
+        6 + 4 * self.published
+    }
+
+    /// The entry numbers of the published entries, in entry order.
+    pub fn published_entries(&self) -> impl Iterator<Item = usize> + '_ {
+        let mut start = 0;
+        self.columns.iter().flat_map(move |column| {
+            let first = start;
+            start += column.entries();
+            first..first + column.published()
+        })
+    }
+}
+
+/// "Shares of S servers (2 to 8)": S outside is refused 2.
+pub(crate) fn check_servers(servers: u32) -> Result<(), u32> {
+    if (2..=8).contains(&servers) {
+        Ok(())
+    } else {
+        Err(refusal::LIMIT)
+    }
+}
+
+/// "N (1 to 1,024 decided returns)", then refusal 4.
+pub(crate) fn check_limit(sheet: &Sheet, limit: u32) -> Result<(), u32> {
+    if !(1..=MAX_LIMIT).contains(&limit) {
+        return Err(refusal::LIMIT);
+    }
+    let wraps = |column: &Column| u64::from(limit) * column.largest() >= P;
+    if sheet.columns.iter().any(wraps) {
+        return Err(refusal::WRAPS);
+    }
+    Ok(())
+}
+
+#[cfg(test)]
+mod tests {
+    use super::*;
+
+    #[test]
+    fn counts_of_each_kind() {
+        let sheet = Sheet::read(&[17, 18, 3, 19, 4]).unwrap();
+        assert_eq!(
+            sheet.columns(),
+            [Column::YesNo, Column::Choice(3), Column::Number(4)]
+        );
+        assert_eq!(sheet.entries(), 1 + 3 + 5);
+        assert_eq!(sheet.published(), 1 + 3 + 1);
+        assert_eq!(sheet.multiplications(), 1 + 3 + 4);
+        assert_eq!(sheet.tests(), 1 + 4 + 5);
+        let published: Vec<usize> = sheet.published_entries().collect();
+        assert_eq!(published, [0, 1, 2, 3, 4]);
+        let sheet = Sheet::read(&[19, 2, 17, 19, 1, 18, 2]).unwrap();
+        let published: Vec<usize> = sheet.published_entries().collect();
+        assert_eq!(published, [0, 3, 4, 6, 7]);
+    }
+}

@@ -1,0 +1,64 @@
+//! From values to the list of entries.
+
+use crate::field;
+use crate::refusal;
+use crate::sheet::{Column, Sheet};
+
+/// The entries of a list of values, 4 bytes to a value. Refusal 5: "not one value per
+/// column, or a value outside its column".
+pub fn encode(sheet: &Sheet, values: &[u8]) -> Result<Vec<u64>, u32> {
+    let columns = sheet.columns();
+    if values.len() != field::WIDTH * columns.len() {
+        return Err(refusal::VALUES);
+    }
+    let mut entries = Vec::with_capacity(sheet.entries());
+    for (&column, value) in columns.iter().zip(field::words(values)) {
+        if value >= column.values() {
+            return Err(refusal::VALUES);
+        }
+        match column {
+            Column::YesNo => entries.push(u64::from(value)),
+            // "B entries; the chosen one is 1, the rest 0."
+            Column::Choice(options) => {
+                entries.extend((0..u32::from(options)).map(|option| u64::from(option == value)));
+            }
+            // "Entry v, then b bit entries, lowest first."
+            Column::Number(bits) => {
+                entries.push(u64::from(value));
+                entries.extend((0..bits).map(|bit| u64::from(value >> bit & 1)));
+            }
+        }
+    }
+    Ok(entries)
+}
+
+#[cfg(test)]
+mod tests {
+    use super::*;
+
+    fn bytes(values: &[u32]) -> Vec<u8> {
+        values
+            .iter()
+            .flat_map(|value| value.to_le_bytes())
+            .collect()
+    }
+
+    #[test]
+    fn each_kind() {
+        let sheet = Sheet::read(&[17, 18, 3, 19, 4]).unwrap();
+        assert_eq!(
+            encode(&sheet, &bytes(&[1, 2, 6])),
+            Ok(vec![1, 0, 0, 1, 6, 0, 1, 1, 0])
+        );
+        for wrong in [[2, 0, 0], [0, 3, 0], [0, 0, 16], [u32::MAX, 0, 0]] {
+            assert_eq!(encode(&sheet, &bytes(&wrong)), Err(refusal::VALUES));
+        }
+        assert_eq!(encode(&sheet, &bytes(&[1, 2])), Err(refusal::VALUES));
+        assert_eq!(encode(&sheet, &bytes(&[1, 2, 3, 0])), Err(refusal::VALUES));
+        assert_eq!(
+            encode(&sheet, &bytes(&[1, 2, 3])[..11]),
+            Err(refusal::VALUES)
+        );
+        assert_eq!(encode(&sheet, &[]), Err(refusal::VALUES));
+    }
+}

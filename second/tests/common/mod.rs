@@ -1,0 +1,80 @@
+//! Helpers of the tests.
+#![allow(dead_code)]
+
+use second::field::{self, P};
+use second::{open, round_one, round_two, share, Table, Verdict};
+
+/// Room that never runs out.
+pub const ROOM: usize = usize::MAX;
+
+pub fn hex(text: &str) -> Vec<u8> {
+    text.split_whitespace()
+        .map(|byte| u8::from_str_radix(byte, 16).unwrap())
+        .collect()
+}
+
+/// 4 bytes to a number, lowest byte first.
+pub fn words(numbers: &[u32]) -> Vec<u8> {
+    numbers.iter().flat_map(|n| n.to_le_bytes()).collect()
+}
+
+/// A share message.
+pub fn share_message(id: u32, server: u8, elements: &[u32]) -> Vec<u8> {
+    let mut message = vec![33];
+    message.extend(id.to_le_bytes());
+    message.push(server);
+    message.extend(words(elements));
+    message
+}
+
+/// A closing message.
+pub fn closing(server: u8, count: u32, totals: &[u32]) -> Vec<u8> {
+    let mut message = vec![36, server];
+    message.extend(count.to_le_bytes());
+    message.extend(words(totals));
+    message
+}
+
+/// The two elements of a round message.
+pub fn pair_of(message: &[u8]) -> (u64, u64) {
+    let elements = field::elements(&message[6..14]).unwrap();
+    (elements[0], elements[1])
+}
+
+/// The sums of two elements over joined messages.
+pub fn sums(joined: &[u8]) -> (u64, u64) {
+    joined.chunks(14).map(pair_of).fold((0, 0), |sums, pair| {
+        ((sums.0 + pair.0) % P, (sums.1 + pair.1) % P)
+    })
+}
+
+/// Opens S tables alike.
+pub fn open_all(servers: u32, sheet: &[u8], limit: u32) -> Vec<Table> {
+    (0..servers)
+        .map(|own| open(servers, own, sheet, limit).unwrap())
+        .collect()
+}
+
+/// Takes one return through share and both rounds; gives the joined messages of both
+/// rounds and the verdict.
+pub fn judge(
+    tables: &mut [Table],
+    shares: &[Vec<u8>],
+    r: u64,
+    s: u64,
+) -> (Vec<u8>, Vec<u8>, Verdict) {
+    let mut first = Vec::new();
+    for (table, message) in tables.iter_mut().zip(shares) {
+        first.extend(share(table, message, r, s, 14).unwrap());
+    }
+    let mut second = Vec::new();
+    for table in tables.iter_mut() {
+        second.extend(round_one(table, &first, 14).unwrap());
+    }
+    let verdicts: Vec<Verdict> = tables
+        .iter_mut()
+        .map(|table| round_two(table, &second).unwrap())
+        .collect();
+    assert!(verdicts.iter().all(|verdict| *verdict == verdicts[0]));
+    (first, second, verdicts[0])
+}

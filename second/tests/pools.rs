@@ -1,0 +1,354 @@
+//! Random whole pools.
+
+mod common;
+
+use std::collections::{BTreeMap, BTreeSet};
+
+use common::*;
+use second::field::{self, P};
+use second::gen::{self, added_up, lets_in, Answer, Call, CaseAnswer, Origin, Return, Rng, Script};
+use second::{close, drop, join, make, open, share, Circuit, Joined, Sheet, Verdict};
+
+/// What a ledger notes of one server: the shares it took, by id, and the ids it accepted
+/// and dropped.
+#[derive(Default)]
+struct Ledger {
+    taken: BTreeMap<u32, (Vec<u64>, u64, u64)>,
+    waiting: Option<u32>,
+    accepted: Vec<u32>,
+    rejected: Vec<u32>,
+    dropped: Vec<u32>,
+    closing: Option<Vec<u8>>,
+}
+
+/// Reads the ledgers of a script off its calls and answers.
+fn ledgers(script: &Script) -> Vec<Ledger> {
+    let mut ledgers: Vec<Ledger> = (0..script.servers).map(|_| Ledger::default()).collect();
+    for step in &script.steps {
+        let ledger = &mut ledgers[step.server as usize];
+        match (&step.call, &step.answer) {
+            (_, Answer::Refused(_)) => {}
+            (Call::Share { message, r, s, .. }, Answer::Message(written)) => {
+                assert_eq!(written.len(), 14);
+                let id = u32::from_le_bytes(message[1..5].try_into().unwrap());
+                let elements = field::elements(&message[6..]).unwrap();
+                assert!(ledger.taken.insert(id, (elements, *r, *s)).is_none());
+                ledger.waiting = Some(id);
+            }
+            (Call::RoundOne { .. }, Answer::Message(written)) => assert_eq!(written.len(), 14),
+            (Call::RoundTwo { joined }, Answer::Verdict(verdict)) => {
+                let id = ledger.waiting.take().unwrap();
+                if *verdict == Verdict::Accepted {
+                    ledger.accepted.push(id);
+                } else {
+                    ledger.rejected.push(id);
+                }
+                assert_eq!(sums(joined) == (0, 0), *verdict == Verdict::Accepted);
+            }
+            (Call::Drop, Answer::Dropped) => ledger.dropped.push(ledger.waiting.take().unwrap()),
+            (Call::Close { .. }, Answer::Message(message)) => {
+                assert!(ledger.closing.replace(message.clone()).is_none());
+            }
+            other => panic!("an answer of the wrong kind: {other:?}"),
+        }
+    }
+    ledgers
+}
+
+/// The closing message that a ledger comes to.
+fn expected_closing(sheet: &Sheet, server: usize, ledger: &Ledger) -> Vec<u8> {
+    let totals: Vec<u32> = sheet
+        .published_entries()
+        .map(|entry| {
+            let shares = ledger.accepted.iter().map(|id| ledger.taken[id].0[entry]);
+            field::sum(shares) as u32
+        })
+        .collect();
+    closing(server as u8, ledger.accepted.len() as u32, &totals)
+}
+
+/// Checks one script; notes the refusals it met and the verdicts by origin.
+fn check(script: &Script, met: &mut BTreeSet<u32>, verdicts: &mut BTreeMap<String, [u32; 2]>) {
+    let sheet = Sheet::read(&script.sheet).unwrap();
+    let ledgers = ledgers(script);
+    for (server, ledger) in ledgers.iter().enumerate() {
+        let decided = ledger.accepted.len() + ledger.rejected.len() + ledger.dropped.len();
+        assert!(decided <= script.limit as usize);
+        if let Some(message) = &ledger.closing {
+            assert_eq!(*message, expected_closing(&sheet, server, ledger));
+        }
+    }
+    for step in &script.steps {
+        if let Answer::Refused(number) = step.answer {
+            met.insert(number);
+        }
+    }
+    for exchange in &script.joins {
+        if let CaseAnswer::Refused(number) = exchange.answer {
+            met.insert(number);
+        }
+    }
+
+    let Some(truth) = &script.truth else {
+        return;
+    };
+    // Under demand 3's conditions the accepted ids are the same at each server, and
+    // joining gives their number and the sums of the added-up published entries.
+    assert!(ledgers.iter().all(|l| l.accepted == ledgers[0].accepted));
+    assert!(ledgers.iter().all(|l| l.rejected == ledgers[0].rejected));
+    assert_eq!(script.joins[0].answer, CaseAnswer::Joined(truth.clone()));
+    let mut totals = vec![0; sheet.published()];
+    for id in &ledgers[0].accepted {
+        for (total, entry) in totals.iter_mut().zip(sheet.published_entries()) {
+            *total = field::sum(ledgers.iter().map(|l| l.taken[id].0[entry]).chain([*total]));
+        }
+    }
+    let totals: Vec<u32> = totals.iter().map(|&total| total as u32).collect();
+    assert_eq!(truth.count as usize, ledgers[0].accepted.len());
+    assert_eq!(truth.totals, words(&totals));
+
+    // A return with one pair is accepted exactly when the pair lets it in.
+    for given in &script.returns {
+        let accepted = ledgers[0].accepted.contains(&given.id);
+        if !accepted && !ledgers[0].rejected.contains(&given.id) {
+            continue;
+        }
+        let (_, r, s) = ledgers[0].taken[&given.id];
+        if ledgers
+            .iter()
+            .any(|l| (l.taken[&given.id].1, l.taken[&given.id].2) != (r, s))
+        {
+            // Honest returns and unequal pairs: no promise is made.
+            continue;
+        }
+        let whole = added_up(&sheet, &given.shares).unwrap();
+        assert_eq!(lets_in(&sheet, &whole, r, s), Some(accepted));
+        let valid = Circuit::of(&sheet).is_valid(&whole[..sheet.entries()]);
+        if given.origin == Origin::Honest {
+            assert!(accepted && valid == Some(true));
+        }
+        if matches!(given.origin, Origin::Lucky | Origin::LuckyTriple) {
+            assert!(accepted, "{:?} is bent for its pair", given.origin);
+        }
+        let row = verdicts.entry(format!("{:?}", given.origin)).or_default();
+        row[usize::from(accepted)] += 1;
+    }
+}
+
+#[test]
+fn orderly_pools() {
+    let mut met = BTreeSet::new();
+    let mut verdicts = BTreeMap::new();
+    let mut servers = BTreeSet::new();
+    for seed in 0..250 {
+        let script = Script::orderly(seed);
+        assert!(script.truth.is_some());
+        servers.insert(script.servers);
+        check(&script, &mut met, &mut verdicts);
+    }
+    assert_eq!(servers, (2..=8).collect());
+    assert!((7..=14).all(|number| met.contains(&number)), "{met:?}");
+    assert_eq!(verdicts.len(), 7, "{verdicts:?}");
+    assert_eq!(verdicts["Honest"][0], 0);
+    assert!(verdicts["Honest"][1] > 100);
+    for origin in ["Altered", "FalseEntries", "Forged", "FalseTriple"] {
+        assert!(verdicts[origin][0] > 5, "{verdicts:?}");
+    }
+}
+
+#[test]
+fn wild_lists() {
+    let mut met = BTreeSet::new();
+    let mut accepted = 0;
+    let mut rejected = 0;
+    let mut dropped = 0;
+    for seed in 0..200 {
+        let script = Script::wild(seed);
+        assert!(script.truth.is_none());
+        check(&script, &mut met, &mut BTreeMap::new());
+        for ledger in ledgers(&script) {
+            accepted += ledger.accepted.len();
+            rejected += ledger.rejected.len();
+            dropped += ledger.dropped.len();
+        }
+    }
+    assert!((7..=14).all(|number| met.contains(&number)), "{met:?}");
+    assert!(accepted > 200 && rejected > 200 && dropped > 200);
+}
+
+#[test]
+fn every_refusal_is_reached() {
+    let mut met = BTreeSet::new();
+    let mut good = 0;
+    let mut rng = Rng::new(5);
+    for _ in 0..3000 {
+        match gen::Case::random(&mut rng).plain() {
+            CaseAnswer::Refused(number) => {
+                met.insert(number);
+            }
+            CaseAnswer::Text(text) => {
+                if let Some(number) = text.strip_prefix("refused ") {
+                    met.insert(number.trim_end().parse().unwrap());
+                } else {
+                    good += 1;
+                }
+            }
+            _ => good += 1,
+        }
+    }
+    assert!(good > 1000, "{good} good cases");
+    for seed in 0..60 {
+        check(&Script::random(seed), &mut met, &mut BTreeMap::new());
+    }
+    assert_eq!(met, (1..=14).collect());
+}
+
+#[test]
+fn scripts_repeat() {
+    for seed in [0, 1, 2, 77] {
+        assert_eq!(Script::random(seed), Script::random(seed));
+        let text = Script::random(seed).to_string();
+        assert!(text.starts_with("open "));
+        assert_eq!(text, Script::random(seed).to_string());
+    }
+}
+
+/// Values in, true sums out, for sheets of every kind and up to 256 entries.
+#[test]
+fn true_sums() {
+    let mut rng = Rng::new(6);
+    let mut sheets = vec![
+        vec![17; 256],
+        vec![18, 64, 18, 64, 18, 64, 18, 64],
+        [19, 24].repeat(10).into_iter().chain([19, 5]).collect(),
+        [19, 1].repeat(128),
+        [18, 2].repeat(128),
+    ];
+    for max in [1, 2, 5, 10, 20, 40, 80] {
+        for _ in 0..6 {
+            sheets.push(gen::sheet(&mut rng, max));
+        }
+    }
+    for bytes in sheets {
+        let sheet = Sheet::read(&bytes).unwrap();
+        let servers = rng.between(2, 8) as u32;
+        let returns = if sheet.entries() > 100 { 2 } else { 6 };
+        let limit = gen::largest_limit(&sheet).min(returns + 2);
+        let mut tables = open_all(servers, &bytes, limit);
+        let mut expected = vec![0u64; sheet.published()];
+        for id in 0..returns {
+            let values = gen::values(&mut rng, &sheet);
+            let count = (servers as usize - 1) * sheet.share_elements() + 4;
+            let random = gen::elements(&mut rng, count);
+            let messages = make(&bytes, servers, id, &values, &random, ROOM).unwrap();
+            let shares: Vec<Vec<u8>> = messages
+                .chunks(sheet.share_length())
+                .map(<[u8]>::to_vec)
+                .collect();
+            let (r, s) = gen::pair(&mut rng, sheet.multiplications());
+            assert_eq!(judge(&mut tables, &shares, r, s).2, Verdict::Accepted);
+
+            // The sums, straight from the values.
+            let mut at = 0;
+            for (column, value) in sheet.columns().iter().zip(values.chunks(4)) {
+                let value = u32::from_le_bytes(value.try_into().unwrap());
+                match column {
+                    second::Column::Choice(options) => {
+                        expected[at + value as usize] += 1;
+                        at += usize::from(*options);
+                    }
+                    _ => {
+                        expected[at] += u64::from(value);
+                        at += 1;
+                    }
+                }
+            }
+        }
+        let joined: Vec<u8> = tables
+            .iter_mut()
+            .flat_map(|table| close(table, ROOM).unwrap())
+            .collect();
+        let totals: Vec<u32> = expected.iter().map(|&total| total as u32).collect();
+        assert!(expected.iter().all(|&total| total < P));
+        assert_eq!(
+            join(servers, &bytes, limit, &joined, ROOM),
+            Ok(Joined {
+                count: returns,
+                totals: words(&totals),
+            })
+        );
+    }
+}
+
+/// N at its greatest: 1,024 decided returns, some of them dropped.
+#[test]
+fn a_full_pool() {
+    let mut rng = Rng::new(7);
+    let mut tables = open_all(2, &[17], 1024);
+    let (mut count, mut total) = (0, 0);
+    for id in 0..1024 {
+        let value = rng.below(2) as u32;
+        let random = gen::elements(&mut rng, 13);
+        let messages = make(&[17], 2, id, &words(&[value]), &random, 84).unwrap();
+        let shares: Vec<Vec<u8>> = messages.chunks(42).map(<[u8]>::to_vec).collect();
+        if rng.chance(10) {
+            for (table, message) in tables.iter_mut().zip(&shares) {
+                share(table, message, 2, 0, 14).unwrap();
+                drop(table).unwrap();
+            }
+        } else {
+            let (r, s) = gen::pair(&mut rng, 1);
+            assert_eq!(judge(&mut tables, &shares, r, s).2, Verdict::Accepted);
+            count += 1;
+            total += value;
+        }
+    }
+    let mut joined = Vec::new();
+    for table in &mut tables {
+        assert_eq!(share(table, &[], 0, 0, 0), Err(13));
+        joined.extend(close(table, 10).unwrap());
+    }
+    assert_eq!(
+        join(2, &[17], 1024, &joined, 4),
+        Ok(Joined {
+            count,
+            totals: words(&[total]),
+        })
+    );
+}
+
+/// At most so many pairs let a false return in: for the smallest circuit, count them over
+/// small r and s.
+#[test]
+fn few_pairs_let_a_false_return_in() {
+    let sheet = Sheet::read(&[17]).unwrap();
+    let mut rng = Rng::new(8);
+    for origin in [Origin::FalseEntries, Origin::Forged, Origin::Lucky] {
+        for _ in 0..10 {
+            let given = Return::random(&mut rng, &sheet, 2, 1, origin);
+            let whole = added_up(&sheet, &given.shares).unwrap();
+            if Circuit::of(&sheet).is_valid(&whole[..1]) == Some(true) {
+                continue;
+            }
+            // r × (f g - h) + c - a b has degree at most 2M + 1; with one test, s has no say.
+            let pairs = (2..200)
+                .filter(|&r| lets_in(&sheet, &whole, r, 3) == Some(true))
+                .count();
+            assert!(pairs <= 3, "{pairs} of {origin:?}");
+        }
+    }
+}
+
+#[test]
+fn a_dropped_share_leaves_no_trace_in_the_totals() {
+    let sheet = Sheet::read(&[19, 4]).unwrap();
+    let mut rng = Rng::new(9);
+    let given = Return::random(&mut rng, &sheet, 2, 1, Origin::Honest);
+    for own in 0..2 {
+        let mut table = open(2, own, &[19, 4], 3).unwrap();
+        let message = &given.shares[own as usize];
+        share(&mut table, message, given.r, given.s, 14).unwrap();
+        drop(&mut table).unwrap();
+        assert_eq!(close(&mut table, 10), Ok(closing(own as u8, 0, &[0])));
+    }
+}

@@ -2,24 +2,24 @@
 -- check. Assumes nothing.
 use mathlib.Core.Path.{_≡_, refl, sym, ap, _∙_}
 use mathlib.Core.Logic.{⊎-elim}
-use mathlib.Core.Bool.{Bool, true, false, cond, _&&_}
+use mathlib.Core.Bool.{Bool, true, false, _&&_}
 use mathlib.Core.List.{List}
 use Prim.Native.Nat.{ℕ, _*_, _≤_, _<_}
 use native.Mathlib.Omega.{arith}
 use borrow.Author.Tests.{lt-leb, le-leb, leb-true, eq-eqb, ne-eqb, eqb-true}
 use lib.Dec.{leb, eqb}
 use lib.ListN.{length}
-use Rattle.words.specs.Bytes.{splice, elementsOf}
+use Rattle.words.specs.Bytes.{elementsOf}
 use Rattle.records.specs.Outcome.{Outcome, ok, refused, orElse}
 use Rattle.records.proofs.Outcome.{or-none, or-first, or-zero}
 use Rattle.rules.specs.Columns.{Column, entriesIn, readSheet, faultIn, sheetFault, columnsOf, check}
-use Rattle.rules.specs.Values.{legalValues, encoding}
+use Rattle.rules.specs.Values.{legalValues}
 use Rattle.rules.specs.Making.{valuesFault}
 use Rattle.rules.proofs.Refusals.{sheet-refusals, sheet-read, sheet-fault}
 use Rattle.sheet.specs.declared.Counts.{Counts}
 use Rattle.sheet.specs.declared.Reading.the-variants as answer
 use Rattle.sheet.specs.Reading.{countsOf, reading, readingOf}
-use Rattle.sheet.specs.Encode.{encodeRefusal, encodeOut, Encodable}
+use Rattle.sheet.specs.Encode.{encodeRefusal, encodedInto, encodeOut, Encodable}
 
 -- ---- the reader's answer
 module _ (s : List ℕ) where
@@ -84,8 +84,7 @@ module _ (s values out : List ℕ) where
   unfolding encodeOut
   out-kept h = rw (ne-eqb (encodeRefusal s values (length out)) 0 h)
 
-  pub out-put : encodeRefusal s values (length out) ≡ 0
-      → encodeOut s values out ≡ splice out 0 (encoding (columnsOf s) (elementsOf 4 values))
+  pub out-put : encodeRefusal s values (length out) ≡ 0 → encodeOut s values out ≡ encodedInto s values out
   unfolding encodeOut
   out-put h = rw (eq-eqb (encodeRefusal s values (length out)) 0 h)
 
@@ -94,11 +93,12 @@ module _ (s values out : List ℕ) where
   encodable h =
       let a = or-zero (sheetFault s) _ h in
       let b = or-zero (valuesFault (columnsOf s) values) _ (a .1) in
-      let each =
-      both _ (legalValues (columnsOf s) (elementsOf 4 values))
+      let each : eqb (length values) (4 * length (columnsOf s)) ≡ true
+      = both _ (legalValues (columnsOf s) (elementsOf 4 values))
       (check-zero (eqb (length values) (4 * length (columnsOf s)) && legalValues (columnsOf s) (elementsOf 4 values)) 5 (b .0)
       (λ z. omega arith)) in
-      let fits = check-zero (leb (entriesIn (columnsOf s)) (length out)) 14 (b .1) (λ z. omega arith) in
+      let fits : leb (entriesIn (columnsOf s)) (length out) ≡ true
+      = check-zero (leb (entriesIn (columnsOf s)) (length out)) 14 (b .1) (λ z. omega arith) in
       record {
         is-read = sheet-read s (a .0);
         a-value-each = eqb-true (length values) (4 * length (columnsOf s)) each;

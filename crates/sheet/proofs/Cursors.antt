@@ -15,7 +15,6 @@ use Rattle.rules.specs.Columns.{readSheet, columnsOf}
 use Rattle.rules.specs.Circuit.{gatesOf, gatesIn}
 use Rattle.rules.proofs.Limits.{InLimits, limits, within-is}
 use Rattle.sheet.specs.declared.columns.Cursor.{Cursor}
-use Rattle.sheet.specs.declared.columns.Column as code
 use Rattle.sheet.specs.Reading.{countsOf, bytesOfKind, alone}
 use Rattle.sheet.specs.Cursor.{columnBytes, sheetBytes, cursorAt, begin, Stands, seen, back, columnFrom}
 use Rattle.sheet.proofs.SheetBytes.{sheet-bytes, bytes, bytes-from}

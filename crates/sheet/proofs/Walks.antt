@@ -3,8 +3,8 @@
 use mathlib.Core.Path.{_≡_, refl, ap, _∙_}
 use mathlib.Core.Logic.{⊎-elim}
 use mathlib.Core.Bool.{Bool, true, _&&_}
-use mathlib.Core.List.{List, []}
-use Prim.Native.Nat.{ℕ, suc, _+_, _^_, _≤_, _<_}
+use mathlib.Core.List.{List}
+use Prim.Native.Nat.{ℕ, _+_, _^_, _≤_, _<_}
 use native.Mathlib.Nat.{eq-or-lt-of-le, pow-le-pow-right}
 use native.Mathlib.Numerals.{add-one}
 use native.Mathlib.Omega.{arith}
@@ -12,7 +12,8 @@ use lib.ListN.{length, getD, drop, drop-of-length-le}
 use lib.Seq.{drop-cons}
 use Rattle.algebra.specs.Lists.{every}
 use Rattle.records.specs.Outcome.{ok}
-use Rattle.rules.specs.Columns.{Column, yesNo, choice, number, largestOf, readSheet, columnsOf}
+use Rattle.rules.specs.Columns.{Column, yesNo, choice, number, largestOf, entriesIn, publishedIn, readSheet, columnsOf}
+use Rattle.rules.specs.Circuit.{gatesIn}
 use Rattle.rules.proofs.Limits.{InLimits}
 use Rattle.sheet.specs.declared.columns.Cursor.{Cursor}
 use Rattle.sheet.specs.declared.columns.Step.{Step}
@@ -46,6 +47,18 @@ module _ (s : List ℕ) (c : Cursor) (is-read : readSheet s ≡ ok (columnsOf s)
     where
       more : c .index < length (columnsOf s) → c .index ≡ length (columnsOf s)
       more l = let p = place (stands-by-index l) in absurd (omega arith)
+
+  -- there the cursor has passed all that the sheet has
+  pub walk-done : length (columnsOf s) ≤ c .index
+      → c
+      ≡ record {
+        index = c .index;
+        at = length s;
+        entry = entriesIn (columnsOf s);
+        published = publishedIn (columnsOf s);
+        gates = gatesIn (columnsOf s);
+      }
+  walk-done h = w .here ∙ cursor-end s is-read (c .index) h
 
 module _ {s : List ℕ} {c : Cursor} (h : Stands s c) (r : Step) (e : r ≡ stepAt s (c .index)) where
   pub walk-next : Walks s (r .next)

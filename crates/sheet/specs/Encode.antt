@@ -17,10 +17,13 @@ unfoldable pub encodeRefusal : List ℕ → List ℕ → ℕ → ℕ
 encodeRefusal s values room =
     orElse (sheetFault s) (orElse (valuesFault (columnsOf s) values) (check (leb (entriesIn (columnsOf s)) room) 14))
 
--- the buffer: the entries from its front, and what it held where the call is refused
+-- the entries that encode the values, from the front of the buffer
+abbrev pub encodedInto : List ℕ → List ℕ → List ℕ → List ℕ
+encodedInto s values out = splice out 0 (encoding (columnsOf s) (elementsOf 4 values))
+
+-- what the buffer holds then: what it held, where the call is refused
 unfoldable pub encodeOut : List ℕ → List ℕ → List ℕ → List ℕ
-encodeOut s values out =
-    cond (eqb (encodeRefusal s values (length out)) 0) (splice out 0 (encoding (columnsOf s) (elementsOf 4 values))) out
+encodeOut s values out = cond (eqb (encodeRefusal s values (length out)) 0) (encodedInto s values out) out
 
 pub record Encoded (s values before : List ℕ) (r : ℕ) (after : List ℕ) : Type 0 where
   pub answer-is : r ≡ encodeRefusal s values (length before)

@@ -5,12 +5,12 @@ ghost use Prim.Native.Nat.{_+_, _/_, _%_, _^_, _≤_};
 ghost use lib.Dec.{eqb};
 ghost use lib.ListN.{length};
 ghost use Rattle.algebra.specs.Lists.{tabulate};
-ghost use Rattle.words.specs.Bytes.{splice, elementsOf};
+ghost use Rattle.words.specs.Bytes.{splice};
 ghost use Rattle.rules.specs.Columns.{choice, entriesOf, valuesOf, columnsOf};
-ghost use Rattle.rules.specs.Values.{encoded, encoding};
+ghost use Rattle.rules.specs.Values.{encoded};
 ghost use Rattle.rules.specs.Making.{valuesFault};
 ghost use Rattle.sheet.specs.Cursor.{back, Bounded};
-ghost use Rattle.sheet.specs.Encode.{encodeRefusal, Encoded, HasColumns, Encodable};
+ghost use Rattle.sheet.specs.Encode.{encodeRefusal, encodedInto, Encoded, HasColumns, Encodable};
 use crate::Reading;
 use crate::columns::Column;
 use crate::columns::next;
@@ -107,7 +107,7 @@ fn encode_column(column: Column, v: u32, out: &mut [u32], at: usize)
 // The entries of all columns, from the front of `out`.
 pub fn encode_columns(s: &[u8], values: &[u8], out: &mut [u32])
     requires { ⌜ Encodable (now s) (now values) (now out) ⌝ }
-    ensures { λ _. ⌜ now (out .exit) ≡ splice (now (out .entry)) 0 (encoding (columnsOf (now (s .entry))) (elementsOf 4 (now (values .entry)))) ⌝ }
+    ensures { λ _. ⌜ now (out .exit) ≡ encodedInto (now (s .entry)) (now (values .entry)) (now (out .entry)) ⌝ }
 {
     let mut c = start();
     while c.at < s.len() {

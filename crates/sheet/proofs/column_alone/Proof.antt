@@ -1,5 +1,4 @@
 -- `sheet::column_alone` meets its contract: each kind is one case of the definition. Assumes nothing.
-use mathlib.Core.Path.{refl, _∙_}
 use borrow.Author.Needs.{needs}
 use borrow.Author.Tests.{eq-eqb, ne-eqb}
 use Rattle.rules.specs.Columns.{columnOf, entriesOf, publishedOf, entriesIn, publishedIn}

@@ -14,7 +14,7 @@ use Rattle.records.proofs.Records.{at-end, unknown-kind, cut-body, judged-refus
 use Rattle.rules.specs.Columns.{Column, columnFormat, columnOf}
 use Rattle.sheet.specs.declared.Reading.{Reading}
 use Rattle.sheet.specs.declared.Reading.the-variants as answer
-use Rattle.sheet.specs.Reading.{bytesOfKind, alone, Small, more, limited, readingOf}
+use Rattle.sheet.specs.Reading.{bytesOfKind, alone, Small, limited, readingOf}
 use Rattle.sheet.proofs.Reader.{kind-unknown, kind-known, judged-last, judged, none-outside, Taken, some-taken}
 use Rattle.sheet.proofs.Reader.{none-small, Tracks, tracks-none, tracks-next, answer-refused, answer-limited}
 use Rattle.sheet.proofs.read.Statement.{statement}

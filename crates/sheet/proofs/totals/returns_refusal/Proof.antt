@@ -1,6 +1,6 @@
 -- `sheet::totals::returns_refusal` meets its contract: 2 where N is outside its limits, else what the totals say.
 -- Assumes nothing.
-use mathlib.Core.Path.{_≡_, _∙_}
+use mathlib.Core.Path.{_∙_}
 use borrow.Author.Needs.{needs}
 use borrow.Author.Tests.{lt-leb, le-leb}
 use Rattle.records.specs.Outcome.{orElse}

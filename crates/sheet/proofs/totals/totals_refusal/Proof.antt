@@ -1,9 +1,9 @@
 -- `sheet::totals::totals_refusal` meets its contract. The loop's invariant: the answer is that of the columns from the
 -- cursor on (`every-next`); the measure is what is left of the columns. Assumes nothing.
-use mathlib.Core.Path.{_≡_, refl, sym, ap, _∙_}
+use mathlib.Core.Path.{_≡_, ap, _∙_}
 use mathlib.Core.Bool.{Bool, true, false}
 use mathlib.Core.List.{List}
-use Prim.Native.Nat.{ℕ, _+_, _*_, _-_, _≤_, _<_}
+use Prim.Native.Nat.{ℕ, _*_, _-_, _≤_, _<_}
 use native.Mathlib.Nat.{mul-le-mul-left}
 use native.Mathlib.Omega.{arith}
 use borrow.Author.Needs.{needs}
@@ -11,7 +11,7 @@ use borrow.Author.Tests.{lt-ltb, le-ltb}
 use lib.Dec.{ltb}
 use lib.ListN.{length, getD, drop}
 use Rattle.rules.specs.Settings.{document01}
-use Rattle.rules.specs.Columns.{Column, yesNo, largestOf, columnsOf, check, totalsFit}
+use Rattle.rules.specs.Columns.{Column, yesNo, largestOf, columnsOf, totalsFit}
 use Rattle.sheet.specs.declared.columns.Cursor.{Cursor}
 use Rattle.sheet.specs.declared.columns.Step.{Step}
 use Rattle.sheet.specs.Cursor.{Stands, stepAt, back}

@@ -1,6 +1,6 @@
 -- `sheet::values::encode` meets its contract: a refusal leaves the buffer, and without one all that writing asks holds.
 -- Assumes nothing.
-use mathlib.Core.Path.{_≡_, sym, _∙_}
+use mathlib.Core.Path.{sym, _∙_}
 use borrow.Author.Needs.{needs}
 use Rattle.sheet.proofs.Answers.{out-kept, out-put, encodable}
 use Rattle.sheet.proofs.values.encode.Statement.{statement}

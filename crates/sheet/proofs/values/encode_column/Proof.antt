@@ -1,8 +1,8 @@
 -- `sheet::values::encode_column` meets its contract: each kind's entries are a table, which is put from `at`; the bits of a
 -- number stand behind its value. Assumes nothing.
-use mathlib.Core.Path.{_≡_, refl, sym, ap, _∙_}
-use mathlib.Core.List.{List, [], _∷_, _++_}
-use Prim.Native.Nat.{ℕ, suc, _+_, _/_, _%_, _^_, _≤_, _<_}
+use mathlib.Core.Path.{_≡_, refl, ap, _∙_}
+use mathlib.Core.List.{List, [], _∷_}
+use Prim.Native.Nat.{ℕ, _+_, _/_, _%_, _^_, _≤_, _<_}
 use native.Mathlib.Omega.{arith}
 use borrow.Author.Needs.{needs}
 use lib.ListN.{length, set, length-set}
@@ -27,16 +27,17 @@ module _ (v : ℕ) (d : List ℕ) (a : ℕ) where
   unfolding encoded entriesOf tabulate
   put-yes-no x e h = rw e (sets-splice d a (v ∷ []) (omega arith))
 
-  put-choice : (x : code.Column) (n : ℕ) → x ≡ kind.Choice n → splice d a (tabulate (encoded (choice n) v) n) ≡ put x v d a
+  put-choice : (x : code.Column) (n : ℕ) (l : List ℕ) → x ≡ kind.Choice n
+      → l ≡ splice d a (tabulate (encoded (choice n) v) n) → l ≡ put x v d a
   unfolding entriesOf
-  put-choice x n e = rw e
+  put-choice x n l e q = rw e q
 
-  put-number : (x : code.Column) (n : ℕ) → x ≡ kind.Number n → a < length d
-      → splice (set d a v) (a + 1) (tabulate (λ j. v / 2 ^ j % 2) n) ≡ put x v d a
+  put-number : (x : code.Column) (n : ℕ) (l : List ℕ) → x ≡ kind.Number n → a < length d
+      → l ≡ splice (set d a v) (a + 1) (tabulate (λ j. v / 2 ^ j % 2) n) → l ≡ put x v d a
   unfolding encoded entriesOf
-  put-number x n e h =
+  put-number x n l e h q =
       rw (e, tabulate-front (encoded (number n) v) n)
-      (ap (λ (l : List ℕ). splice l (a + 1) (tabulate (λ j. v / 2 ^ j % 2) n)) (sets-splice d a (v ∷ []) (omega arith))
+      (q ∙ ap (λ (l : List ℕ). splice l (a + 1) (tabulate (λ j. v / 2 ^ j % 2) n)) (sets-splice d a (v ∷ []) (omega arith))
       ∙ grow d a (v ∷ []) (tabulate (λ j. v / 2 ^ j % 2) n) 1 refl (omega arith))
 
 room : (x : code.Column) (c : Column) (a : ℕ) (d : List ℕ) → back x ≡ c → a + entriesOf (back x) ≤ length d
@@ -103,8 +104,8 @@ returns-2 : tie.Need-returns-2
 returns-2 c =
     let k = c .before .before .before .before .before in
     let z = k .before .before .before in
-    c .before .before .write-choice .ensures
-    ∙ put-choice (z .args .v) (z .args .out .now) (z .args .at) (z .args .column) _ (k .column .given .1)
+    put-choice (z .args .v) (z .args .out .now) (z .args .at) (z .args .column) _ _ (k .column .given .1)
+    (c .before .before .write-choice .ensures)
 
 same-length-3 : tie.Need-same-length-3
 same-length-3 c =
@@ -117,8 +118,8 @@ returns-3 c =
     let k = c .before .before .before .before .before in
     let z = k .before .before .before in
     let r = room (z .args .column) _ (z .args .at) (z .args .out .now) (ap back (k .column2 .given .1)) (z .pre) in
-    c .before .before .write-bits .ensures
-    ∙ put-number (z .args .v) (z .args .out .now) (z .args .at) (z .args .column) _ (k .column2 .given .1) (omega (arith, r))
+    put-number (z .args .v) (z .args .out .now) (z .args .at) (z .args .column) _ _ (k .column2 .given .1) (omega (arith, r))
+    (c .before .before .write-bits .ensures)
 
 pub encode-column-spec : {M : Type 1} → statement M
 encode-column-spec =

@@ -1,8 +1,8 @@
 -- `sheet::values::encode_columns` meets its contract. The loop's invariant: the columns before the cursor stand encoded at the
 -- front of `out`, up to the cursor's entry (`encoding-next`); the measure is what is left of the columns. Assumes nothing.
 use mathlib.Core.Path.{_≡_, refl, sym, ap, ap₂, _∙_}
-use mathlib.Core.List.{List, _++_}
-use Prim.Native.Nat.{ℕ, suc, _+_, _*_, _-_, _≤_, _<_}
+use mathlib.Core.List.{List}
+use Prim.Native.Nat.{ℕ, _+_, _-_, _≤_, _<_}
 use native.Mathlib.Nat.{zero-add}
 use native.Mathlib.Numerals.{add-one}
 use native.Mathlib.Omega.{arith}
@@ -13,7 +13,7 @@ use Rattle.algebra.specs.Lists.{tabulate}
 use Rattle.words.specs.Bytes.{splice, elementsOf}
 use Rattle.words.proofs.Splice.{splice-none}
 use Rattle.words.proofs.Loops.{grow}
-use Rattle.rules.specs.Columns.{Column, yesNo, entriesOf, entriesIn, columnsOf}
+use Rattle.rules.specs.Columns.{Column, yesNo, entriesOf, columnsOf}
 use Rattle.rules.specs.Values.{encoded, encoding}
 use Rattle.sheet.specs.declared.columns.Cursor.{Cursor}
 use Rattle.sheet.specs.declared.columns.Step.{Step}
@@ -42,10 +42,10 @@ module _
     within = rw (column-seen h r e) (omega (arith, place h .entries-fit, p .room))
 
     -- one column more
-    one-more : (out : List ℕ) (v : ℕ) → out ≡ upTo s values d (c .index) → v ≡ getD (elementsOf 4 values) (c .index) 0
-        → splice out (c .entry) (tabulate (encoded (back (r .column)) v) (entriesOf (back (r .column))))
-        ≡ upTo s values d (r .next .index)
-    one-more out v inv q =
+    one-more : (out l : List ℕ) (v : ℕ) → out ≡ upTo s values d (c .index) → v ≡ getD (elementsOf 4 values) (c .index) 0
+        → l ≡ splice out (c .entry) (tabulate (encoded (back (r .column)) v) (entriesOf (back (r .column))))
+        → l ≡ upTo s values d (r .next .index)
+    one-more out l v inv q f =
         let cs = columnsOf s in
         let vs = elementsOf 4 values in
         let k = c .index in
@@ -55,7 +55,8 @@ module _
         = encoding-long cs vs k (omega (arith, h .within)) (omega (arith, h .within))
         ∙ sym (ap (λ (x : Cursor). x .entry) (h .here)) in
         let zs : ℕ → List ℕ = λ x. tabulate (encoded a x) (entriesOf a) in
-        ap₂ (λ (o : List ℕ) (x : Column). splice o (c .entry) (tabulate (encoded x v) (entriesOf x))) inv (column-seen h r e)
+        f
+        ∙ ap₂ (λ (o : List ℕ) (x : Column). splice o (c .entry) (tabulate (encoded x v) (entriesOf x))) inv (column-seen h r e)
         ∙ ap (λ (x : ℕ). splice (upTo s values d k) (c .entry) (zs x)) q
         ∙ ap (λ (x : ℕ). splice (upTo s values d k) x (zs (getD vs k 0))) (sym (zero-add (c .entry)))
         ∙ grow d 0 (encoding (take k cs) (take k vs)) (zs (getD vs k 0)) (c .entry) long
@@ -115,8 +116,8 @@ loop-again c =
     let h = stands l (n .before .if1 .taken) in
     let e = n .next .ensures in (
       walk-next h _ e,
-      c .before .before .before .encode-column .ensures
-          ∙ one-more _ _ (z .pre) h _ e _ _ (l .loop .inv .1) (c .before .before .before .before .before .element .ensures),
+      one-more _ _ (z .pre) h _ e _ _ _ (l .loop .inv .1) (c .before .before .before .before .before .element .ensures)
+          (c .before .before .before .encode-column .ensures),
       search needs,
     )
 

@@ -1,10 +1,9 @@
 -- `sheet::values::encode_refusal` meets its contract: each answer is that of the first check that fails (`Answers`).
 -- Assumes nothing.
 use mathlib.Core.Path.{_≡_, sym, ap, _∙_}
-use Prim.Native.Nat.{ℕ, _≤_, _<_}
 use borrow.Author.Needs.{needs}
 use Rattle.records.specs.Outcome.{ok}
-use Rattle.rules.specs.Columns.{entriesIn, readSheet, columnsOf}
+use Rattle.rules.specs.Columns.{readSheet, columnsOf}
 use Rattle.sheet.specs.declared.Counts.{Counts}
 use Rattle.sheet.specs.Reading.{countsOf}
 use Rattle.sheet.proofs.Answers.{reading-refused, reading-counts, refused-sheet, refused-values, refused-room, not-refused}

@@ -1,18 +1,16 @@
 -- `sheet::values::values_refusal` meets its contract. The loop's invariant: the answer is that of the columns and values from
 -- the cursor on (`legal-next`); the measure is what is left of the columns. Assumes nothing.
-use mathlib.Core.Path.{_≡_, refl, sym, ap, _∙_}
+use mathlib.Core.Path.{_≡_, sym, ap, _∙_}
 use mathlib.Core.Bool.{true, false, _&&_}
 use mathlib.Core.List.{List}
-use Prim.Native.Nat.{ℕ, _+_, _*_, _-_, _/_, _≤_, _<_}
-use native.Mathlib.Nat.{mul-div-right}
+use Prim.Native.Nat.{ℕ, _+_, _*_, _-_, _≤_, _<_}
 use native.Mathlib.Omega.{arith}
 use borrow.Author.Needs.{needs}
 use borrow.Author.Tests.{lt-ltb, le-ltb}
-use lib.Dec.{ltb, lit<}
+use lib.Dec.{ltb}
 use lib.ListN.{length, getD, drop}
 use Rattle.words.specs.Bytes.{elementsOf}
-use Rattle.words.proofs.Elements.{length-elements}
-use Rattle.rules.specs.Columns.{yesNo, valuesOf, columnsOf, check}
+use Rattle.rules.specs.Columns.{yesNo, valuesOf, columnsOf}
 use Rattle.rules.specs.Values.{legalValues}
 use Rattle.rules.proofs.Limits.{limits}
 use Rattle.sheet.specs.declared.columns.Cursor.{Cursor}

@@ -1,7 +1,7 @@
 -- `sheet::values::write_choice` meets its contract. The loop's invariant: the first i options stand in `out` from `at`
 -- (`put-next`); the measure is what is left of the options. Assumes nothing.
 use mathlib.Core.Path.{_≡_, refl}
-use Prim.Native.Nat.{_+_, _-_, _≤_}
+use Prim.Native.Nat.{_-_, _≤_}
 use native.Mathlib.Omega.{arith}
 use borrow.Author.Needs.{needs}
 use lib.ListN.{length, length-set}

@@ -2,3 +2,4 @@
 pub mod Tests
 pub mod TwoServers
 pub mod ThreeServers
+pub mod SecondProgram

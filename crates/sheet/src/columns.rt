@@ -1,6 +1,6 @@
 // A cursor over the columns of a sheet that is read, for every walk: the column under it, and the cursor behind that.
 // A loop `while c.index < columns` or `while c.at < s.len()` keeps `c ≡ cursorAt s (c .index)`; the laws that it needs are
-// in proofs/Cursors.antt.
+// in proofs/Walks.antt.
 ghost use mathlib.Core.Path.{_≡_};
 ghost use Rattle.sheet.specs.Cursor.{begin, Stands, stepAt, columnFrom, seen};
 use crate::bytes_of;

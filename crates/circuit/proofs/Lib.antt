@@ -1,0 +1,5 @@
+-- Laws that the functions' proofs cite.
+-- The reader
+
+pub mod BodyTable
+pub mod Steps

@@ -3,3 +3,6 @@
 
 pub mod BodyTable
 pub mod Steps
+-- The writer
+pub mod Puts
+pub mod Runs

@@ -1,0 +1,144 @@
+-- Laws of the cursor over the columns of a sheet that is read: where it starts, goes on and ends, the bytes that stand under
+-- it, and that no count passes the sheet's. A loop keeps `c ≡ cursorAt s (c .index)` by them.
+-- Assumes that the sheet is read, where it is said.
+use mathlib.Core.Path.{_≡_, refl, sym, ap, _∙_, subst}
+use mathlib.Core.List.{List, [], _∷_, _++_}
+use Prim.Native.Nat.{ℕ, suc, _+_, _-_, _≤_, _<_}
+use native.Mathlib.Nat.{add-zero}
+use native.Mathlib.Omega.{arith}
+use lib.ListN.{length, getD, take, drop}
+use lib.Seq.{getD-drop, take-all}
+use Rattle.algebra.proofs.Members.{all-getD}
+use Rattle.records.specs.Outcome.{ok}
+use Rattle.rules.specs.Columns.{Column, yesNo, choice, number, counted, columnOf, entriesOf, publishedOf, entriesIn, publishedIn}
+use Rattle.rules.specs.Columns.{readSheet, columnsOf}
+use Rattle.rules.specs.Circuit.{gatesOf, gatesIn}
+use Rattle.rules.proofs.Limits.{InLimits, limits, within-is}
+use Rattle.sheet.specs.declared.columns.Cursor.{Cursor}
+use Rattle.sheet.specs.declared.columns.Column as code
+use Rattle.sheet.specs.Reading.{countsOf, bytesOfKind, alone}
+use Rattle.sheet.specs.Cursor.{columnBytes, sheetBytes, cursorAt, begin, Stands, seen, back, columnFrom}
+use Rattle.sheet.proofs.SheetBytes.{sheet-bytes, bytes, bytes-from}
+use Rattle.sheet.proofs.Totals.{entries, published, gates, total-next, total-most}
+
+-- ---- a column in code
+pub back-seen : (c : Column) → back (seen c) ≡ c
+back-seen yesNo = refl
+back-seen (choice n) = refl
+back-seen (number n) = refl
+
+-- ---- one column and its bytes
+record Told (a : Column) (first : ℕ) (byte : ℕ → ℕ) : Type 0 where
+  size-is : bytesOfKind first ≡ length (columnBytes a)
+  size-some : 1 ≤ length (columnBytes a)
+  column-is : columnFrom first (byte (bytesOfKind first - 1)) ≡ a
+  alone-is : alone (columnOf first (byte (bytesOfKind first - 1) ∷ [])) ≡ countsOf (a ∷ [])
+
+told : (a : Column) → InLimits a → (first : ℕ) (byte : ℕ → ℕ) (t : List ℕ) → first ≡ byte 0
+    → ((j : ℕ) → byte j ≡ getD (columnBytes a ++ t) j 0) → Told a first byte
+unfolding columnBytes bytesOfKind columnFrom columnOf counted alone
+told yesNo w first byte t e q =
+    let f : first ≡ 17 = e ∙ q 0 in
+    record { size-is = rw f; size-some = omega arith; column-is = rw f; alone-is = rw f }
+told (choice n) w first byte t e q =
+    let f : first ≡ 18 = e ∙ q 0 in
+    let l : byte 1 ≡ n = q 1 in
+    record {
+      size-is = rw f;
+      size-some = omega arith;
+      column-is = rw (f, l);
+      alone-is = rw (f, l, within-is 2 64 n (w .0) (w .1));
+    }
+told (number n) w first byte t e q =
+    let f : first ≡ 19 = e ∙ q 0 in
+    let l : byte 1 ≡ n = q 1 in
+    record {
+      size-is = rw f;
+      size-some = omega arith;
+      column-is = rw (f, l);
+      alone-is = rw (f, l, within-is 1 24 n (w .0) (w .1));
+    }
+
+-- ---- what stands under a cursor
+pub record Place (s : List ℕ) (c : Cursor) : Type 0 where
+  pub in-limits : InLimits (getD (columnsOf s) (c .index) yesNo)
+  pub size-some : 1 ≤ bytesOfKind (getD s (c .at) 0)
+  pub size-fits : c .at + bytesOfKind (getD s (c .at) 0) ≤ length s
+  pub index-fits : c .index + 1 ≤ 256
+  pub entries-fit : c .entry + entriesOf (getD (columnsOf s) (c .index) yesNo) ≤ entriesIn (columnsOf s)
+  pub published-fit : c .published + publishedOf (getD (columnsOf s) (c .index) yesNo) ≤ publishedIn (columnsOf s)
+  pub gates-fit : c .gates + gatesOf (getD (columnsOf s) (c .index) yesNo) ≤ gatesIn (columnsOf s)
+  pub entries-most : entriesIn (columnsOf s) ≤ 256
+  pub published-most : publishedIn (columnsOf s) ≤ 256
+  pub gates-most : gatesIn (columnsOf s) ≤ 256
+  pub column-is : columnFrom (getD s (c .at) 0) (getD s (c .at + (bytesOfKind (getD s (c .at) 0) - 1)) 0)
+      ≡ getD (columnsOf s) (c .index) yesNo
+  pub alone-is : alone (columnOf (getD s (c .at) 0) (getD s (c .at + (bytesOfKind (getD s (c .at) 0) - 1)) 0 ∷ []))
+      ≡ countsOf (getD (columnsOf s) (c .index) yesNo ∷ [])
+  pub next-is : cursorAt s (c .index + 1)
+      ≡ record {
+        index = c .index + 1;
+        at = c .at + bytesOfKind (getD s (c .at) 0);
+        entry = c .entry + entriesOf (getD (columnsOf s) (c .index) yesNo);
+        published = c .published + publishedOf (getD (columnsOf s) (c .index) yesNo);
+        gates = c .gates + gatesOf (getD (columnsOf s) (c .index) yesNo);
+      }
+
+module _ (s : List ℕ) (is-read : readSheet s ≡ ok (columnsOf s)) where
+  cs : List Column
+  cs = columnsOf s
+
+  place-at : (k : ℕ) → k < length (columnsOf s) → Place s (cursorAt s k)
+  unfolding cs
+  place-at k h =
+      let m = limits s cs is-read in
+      let a = getD cs k yesNo in
+      let at = length (sheetBytes (take k cs)) in
+      let w : InLimits a = all-getD yesNo (m .in-limits) k h in
+      let b = sheet-bytes s cs is-read in
+      let u : drop at s ≡ columnBytes a ++ sheetBytes (drop (suc k) cs) = ap (drop at) b ∙ bytes-from cs k h in
+      let t =
+      told a w (getD s at 0) (λ j. getD s (at + j) 0) (sheetBytes (drop (suc k) cs))
+      (ap (λ n. getD s n 0) (sym (add-zero at)))
+      (λ j. sym (getD-drop at s j 0) ∙ ap (λ (l : List ℕ). getD l j 0) u) in
+      let long : length s ≡ length (sheetBytes cs) = ap length b in
+      record {
+        in-limits = w;
+        size-some = omega (arith, t .size-is, t .size-some);
+        size-fits = omega (arith, t .size-is, total-most bytes cs k h);
+        index-fits = omega (arith, m .columns-most, m .entries-most);
+        entries-fit = total-most entries cs k h;
+        published-fit = total-most published cs k h;
+        gates-fit = total-most gates cs k h;
+        entries-most = m .entries-most;
+        published-most = omega (arith, m .published-most, m .entries-most);
+        gates-most = omega (arith, m .gates-most, m .entries-most);
+        column-is = t .column-is;
+        alone-is = t .alone-is;
+        next-is =
+            rw (
+              total-next bytes cs k h,
+              total-next entries cs k h,
+              total-next published cs k h,
+              total-next gates cs k h,
+              t .size-is,
+            );
+      }
+
+  -- ---- for a loop over the columns
+  pub cursor-start : begin ≡ cursorAt s 0
+  cursor-start = refl
+
+  pub cursor-end : (k : ℕ) → length (columnsOf s) ≤ k
+      → cursorAt s k
+      ≡ record {
+        index = k;
+        at = length s;
+        entry = entriesIn (columnsOf s);
+        published = publishedIn (columnsOf s);
+        gates = gatesIn (columnsOf s);
+      }
+  cursor-end k h = rw (take-all k (columnsOf s) h, ← sheet-bytes s (columnsOf s) is-read)
+
+pub place : {s : List ℕ} {c : Cursor} → Stands s c → Place s c
+place {s} {c} t = subst (Place s) (sym (t .here)) (place-at s (t .is-read) (c .index) (t .within))

@@ -1,0 +1,4 @@
+pub mod Totals
+pub mod Reader
+pub mod SheetBytes
+pub mod Cursors

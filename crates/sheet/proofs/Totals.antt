@@ -1,0 +1,53 @@
+-- Counts that a sheet's columns add up to: entries, published entries, multiplications, tests. Each is a sum over the
+-- columns, so each law of such sums is said once, for any of them. Assumes nothing.
+use mathlib.Core.Path.{_≡_, refl, sym, ap, _∙_}
+use mathlib.Core.List.{List, [], _∷_, _++_}
+use Prim.Native.Nat.{ℕ, suc, _+_, _≤_, _<_}
+use native.Mathlib.Numerals.{add-one}
+use native.Mathlib.Omega.{arith}
+use lib.ListN.{length, getD, take, drop, take-append-drop}
+use lib.Seq.{take-suc}
+use Rattle.rules.specs.Columns.{Column, yesNo, entriesOf, publishedOf, entriesIn, publishedIn}
+use Rattle.rules.specs.Circuit.{gatesOf, testsOf, gatesIn, testsIn}
+
+-- `In` adds up `of` over the columns
+pub record Total (of : Column → ℕ) (In : List Column → ℕ) : Type 0 where
+  pub nothing : In [] ≡ 0
+  pub next : (c : Column) (cs : List Column) → In (c ∷ cs) ≡ of c + In cs
+
+pub entries : Total entriesOf entriesIn
+unfolding entriesIn
+entries = record { nothing = refl; next = λ c cs. refl }
+
+pub published : Total publishedOf publishedIn
+unfolding publishedIn
+published = record { nothing = refl; next = λ c cs. refl }
+
+pub gates : Total gatesOf gatesIn
+unfolding gatesIn
+gates = record { nothing = refl; next = λ c cs. refl }
+
+pub tests : Total testsOf testsIn
+unfolding testsIn
+tests = record { nothing = refl; next = λ c cs. refl }
+
+module _ {of : Column → ℕ} {In : List Column → ℕ} (t : Total of In) where
+  pub total-append : (a b : List Column) → In (a ++ b) ≡ In a + In b
+  total-append [] b = omega (arith, t .nothing)
+  total-append (c ∷ a) b = omega (arith, t .next c (a ++ b), t .next c a, total-append a b)
+
+  pub total-one : (c : Column) → In (c ∷ []) ≡ of c
+  total-one c = omega (arith, t .next c [], t .nothing)
+
+  -- one column more
+  pub total-next : (cs : List Column) (k : ℕ) → k < length cs → In (take (k + 1) cs) ≡ In (take k cs) + of (getD cs k yesNo)
+  total-next cs k h =
+      rw (add-one, take-suc cs k yesNo h)
+      (omega (arith, total-append (take k cs) (getD cs k yesNo ∷ []), total-one (getD cs k yesNo)))
+
+  -- a column and those before it come to no more than all
+  pub total-most : (cs : List Column) (k : ℕ) → k < length cs → In (take k cs) + of (getD cs k yesNo) ≤ In cs
+  total-most cs k h =
+      let e : In cs ≡ In (take (k + 1) cs) + In (drop (k + 1) cs)
+      = ap In (sym (take-append-drop (k + 1) cs)) ∙ total-append (take (k + 1) cs) (drop (k + 1) cs) in
+      omega (arith, e, total-next cs k h)

@@ -1,0 +1,35 @@
+-- `sheet::choice_alone` meets its contract: each answer is that of the two tests that led there. Assumes nothing.
+use mathlib.Core.Path.{sym, _∙_}
+use borrow.Author.Needs.{needs}
+use borrow.Author.Tests.{lt-leb, le-leb}
+use Rattle.rules.specs.Columns.{counted}
+use Rattle.sheet.specs.Reading.{alone}
+use Rattle.sheet.proofs.Reader.{counts-choice}
+use Rattle.sheet.proofs.choice_alone.Statement.{statement}
+use Rattle.sheet.proofs.choice_alone.Tie as tie
+
+none-requires : tie.Need-none-requires
+none-requires c κs = search needs
+
+returns : tie.Need-returns
+unfolding alone counted
+returns c = c .none .ensures ∙ simp (lt-leb 2 _ (c .before .if1 .taken))
+
+none-requires-2 : tie.Need-none-requires-2
+none-requires-2 c κs = search needs
+
+returns-2 : tie.Need-returns-2
+unfolding alone counted
+returns-2 c = c .none2 .ensures ∙ simp (le-leb 2 _ (c .before .before .if1 .left), lt-leb _ 64 (c .before .if2 .taken))
+
+add-t3 : tie.Need-add-t3
+add-t3 c = search needs
+
+returns-3 : tie.Need-returns-3
+unfolding alone counted
+returns-3 c =
+    simp (le-leb 2 _ (c .before .if1 .left), le-leb _ 64 (c .if2 .left))
+    (sym (counts-choice (c .before .before .args .n)))
+
+pub choice-alone-spec : {M : Type 1} → statement M
+choice-alone-spec = tie.close (tie.spec none-requires returns none-requires-2 returns-2 add-t3 returns-3)

@@ -1,0 +1,14 @@
+-- `sheet::columns::start` meets its contract: no columns come to nothing. Assumes nothing.
+use mathlib.Core.Path.{refl}
+use Rattle.rules.specs.Columns.{entriesIn, publishedIn}
+use Rattle.rules.specs.Circuit.{gatesIn}
+use Rattle.sheet.specs.Cursor.{sheetBytes}
+use Rattle.sheet.proofs.columns.start.Statement.{statement}
+use Rattle.sheet.proofs.columns.start.Tie as tie
+
+returns : tie.Need-returns
+unfolding sheetBytes entriesIn publishedIn gatesIn
+returns c = refl
+
+pub start-spec : {M : Type 1} → statement M
+start-spec = tie.close (tie.spec returns)

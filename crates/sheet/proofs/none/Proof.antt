@@ -1,0 +1,13 @@
+-- `sheet::none` meets its contract: no columns have no counts. Assumes nothing.
+use mathlib.Core.Path.{refl}
+use Rattle.rules.specs.Columns.{entriesIn, publishedIn}
+use Rattle.rules.specs.Circuit.{gatesIn, testsIn}
+use Rattle.sheet.proofs.none.Statement.{statement}
+use Rattle.sheet.proofs.none.Tie as tie
+
+returns : tie.Need-returns
+unfolding entriesIn publishedIn gatesIn testsIn
+returns c = refl
+
+pub none-spec : {M : Type 1} → statement M
+none-spec = tie.close (tie.spec returns)

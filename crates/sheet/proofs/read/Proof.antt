@@ -1,0 +1,190 @@
+-- `sheet::read` meets its contract. The loop's invariant: some columns are read, reading goes on from `at` behind them,
+-- and the counts are theirs or both are past the limit; each way out is one law of reading. Assumes nothing.
+use mathlib.Core.Path.{_≡_, refl, sym, ap, _∙_}
+use mathlib.Core.Logic.{_⊎_, ⊎-elim, inl, inr}
+use mathlib.Core.List.{List, [], _∷_, _++_}
+use Prim.Native.Nat.{ℕ, _≤_, _<_, _+_, _-_}
+use native.Mathlib.Omega.{arith}
+use borrow.Author.Needs.{needs}
+use lib.ListN.{length, getD, drop}
+use Rattle.words.specs.Bytes.{part}
+use Rattle.records.specs.Outcome.{refused}
+use Rattle.records.specs.Records.{readFrom, read}
+use Rattle.records.proofs.Records.{at-end, unknown-kind, cut-body, judged-refused, judged-ok}
+use Rattle.rules.specs.Columns.{Column, columnFormat, columnOf}
+use Rattle.sheet.specs.declared.Reading.{Reading}
+use Rattle.sheet.specs.declared.Reading.the-variants as answer
+use Rattle.sheet.specs.Reading.{bytesOfKind, alone, Small, more, limited, readingOf}
+use Rattle.sheet.proofs.Reader.{kind-unknown, kind-known, judged-last, judged, none-outside, Taken, some-taken}
+use Rattle.sheet.proofs.Reader.{none-small, Tracks, tracks-none, tracks-next, answer-refused, answer-limited}
+use Rattle.sheet.proofs.read.Statement.{statement}
+use Rattle.sheet.proofs.read.Tie as tie
+
+abbrev Inv-columns : tie.InvT-columns
+Inv-columns s counts₀ at₀ counts at =
+    (at ≤ length s) × Small 320 counts
+    × ((done : List Column) × Tracks counts done × (read columnFormat s ≡ readFrom columnFormat (drop at s) 0 done))
+
+abbrev μ-columns : tie.MeasureT-columns
+μ-columns s counts₀ at₀ counts at = length s - at
+
+-- what is known where the loop is left: no fault and the limits to go, or the first fault
+abbrev Left : Reading → Reading → ℕ → Type 0
+Left all end fault = ((fault ≡ 0) × (all ≡ end)) ⊎ ((fault ≡ 0 → ⊥) × (all ≡ answer.Refused fault))
+
+faulty : (all end : Reading) (f n : ℕ) → f ≡ n → (n ≡ 0 → ⊥) → all ≡ answer.Refused n → Left all end f
+faulty all end f n e z q = rw e (inr (z, q))
+
+-- a column at place i: its size m, its kind byte and its last byte
+module _ (s : List ℕ) (i : ℕ) (done : List Column) (h : i < length s) (m : ℕ) (size-is : m ≡ bytesOfKind (getD s i 0)) where
+  abbrev here : ℕ → Type 0
+  here n = readFrom columnFormat (drop i s) 0 done ≡ refused n
+
+  size-zero : m ≡ 0 → here 1
+  size-zero z = unknown-kind columnFormat s i done h (kind-unknown (getD s i 0) (sym size-is ∙ z))
+
+  module _ (some : m ≡ 0 → ⊥) where
+    not-zero : bytesOfKind (getD s i 0) ≡ 0 → ⊥
+    not-zero z = some (size-is ∙ z)
+
+    cut : length s - i < m → here 1
+    cut l =
+        cut-body columnFormat s i done (bytesOfKind (getD s i 0) - 1) h (kind-known (getD s i 0) not-zero) (omega arith)
+
+    module _ (whole : m ≤ length s - i) where
+      last : columnOf (getD s i 0) (part (i + 1) (bytesOfKind (getD s i 0) - 1) s)
+          ≡ columnOf (getD s i 0) (getD s (i + (m - 1)) 0 ∷ [])
+      last = rw size-is (judged-last (getD s i 0) s i not-zero)
+
+      refuse : alone (columnOf (getD s i 0) (getD s (i + (m - 1)) 0 ∷ [])) .entries ≡ 0 → here 2
+      refuse z =
+          judged-refused columnFormat s i done (bytesOfKind (getD s i 0) - 1) h (kind-known (getD s i 0) not-zero) 2
+          (omega arith) (last ∙ none-outside _ (judged (getD s i 0) (getD s (i + (m - 1)) 0)) z)
+
+      goes-on : (t : Taken (columnOf (getD s i 0) (getD s (i + (m - 1)) 0 ∷ [])))
+          → readFrom columnFormat (drop i s) 0 done ≡ readFrom columnFormat (drop (i + m) s) 0 (done ++ (t .column ∷ []))
+      goes-on t =
+          let e : i + 1 + (bytesOfKind (getD s i 0) - 1) ≡ i + m = omega arith in
+          judged-ok columnFormat s i done (bytesOfKind (getD s i 0) - 1) h (kind-known (getD s i 0) not-zero) (t .column)
+          (omega arith) (last ∙ t .is-ok)
+          ∙ ap (λ (n : ℕ). readFrom columnFormat (drop n s) 0 (done ++ (t .column ∷ []))) e
+
+outcome : (c : tie.Joined1 Inv-columns μ-columns)
+    → Left (readingOf (c .before .before .before .before .args .s .now)) (limited (c .before .columns .counts)) (c .if1 .fault)
+outcome c =
+    let l = c .before in
+    let s = l .before .before .before .args .s .now in
+    let i = l .columns .at in
+    let k = l .columns .counts in
+    let d = l .columns .inv .2 .0 in
+    let v = l .columns .inv .2 .2 in
+    let a = readingOf s in
+    let z = limited k in
+    ⊎-elim
+    (λ w. inl (w .1, answer-limited s k d (l .columns .inv .2 .1) (v ∙ at-end columnFormat s i d (omega arith))))
+    (⊎-elim
+    (λ w.
+    faulty a z _ 1 (w .4) (λ x. omega arith)
+    (answer-refused s 1 (v ∙ size-zero s i d (omega arith) _ (w .2 .ensures) (w .3 .taken))))
+    (⊎-elim
+    (λ w.
+    faulty a z _ 1 (w .5) (λ x. omega arith)
+    (answer-refused s 1 (v ∙ cut s i d (omega arith) _ (w .2 .ensures) (w .3 .left) (w .4 .taken))))
+    (λ w.
+    faulty a z _ 2 (w .9) (λ x. omega arith)
+    (answer-refused s 2
+    (v ∙ refuse s i d (omega arith) _ (w .2 .ensures) (w .3 .left) (w .4 .left) (rw (w .6 .ensures) at (w .8 .taken)))))))
+    (c .if1 .came)
+
+none-requires : tie.Need-none-requires Inv-columns μ-columns
+none-requires c κs = search needs
+
+columns-holds : tie.Need-columns-holds Inv-columns μ-columns
+columns-holds c =
+    (search needs, rw (c .none .ensures) none-small, ([], rw (c .none .ensures) tracks-none, refl))
+
+shared-slice-read-kind : tie.Need-shared-slice-read-kind Inv-columns μ-columns
+shared-slice-read-kind c = search needs
+
+bytes-of-requires : tie.Need-bytes-of-requires Inv-columns μ-columns
+bytes-of-requires c κs = search needs
+
+sub-if3 : tie.Need-sub-if3 Inv-columns μ-columns
+sub-if3 c = search needs
+
+sub-column-alone : tie.Need-sub-column-alone Inv-columns μ-columns
+sub-column-alone c = search needs
+
+add-column-alone : tie.Need-add-column-alone Inv-columns μ-columns
+add-column-alone c = search needs
+
+shared-slice-read-column-alone : tie.Need-shared-slice-read-column-alone Inv-columns μ-columns
+shared-slice-read-column-alone c = search needs
+
+column-alone-requires : tie.Need-column-alone-requires Inv-columns μ-columns
+column-alone-requires c κs = search needs
+
+with-requires : tie.Need-with-requires Inv-columns μ-columns
+with-requires c κs =
+    let l = c .before .before .before .before .before .before .before .before .before in
+    let e = c .before .before .column-alone .ensures in
+    (l .columns .inv .1, rw e (some-taken _ (judged _ _) (rw e at (c .if4 .left)) .small))
+
+add-at : tie.Need-add-at Inv-columns μ-columns
+add-at c = search needs
+
+columns-less : tie.Need-columns-less Inv-columns μ-columns
+columns-less c = search needs
+
+columns-again : tie.Need-columns-again Inv-columns μ-columns
+columns-again c =
+    let o = c .before .before .before .before .before .before .before in
+    let l = o .before .before .before in
+    let s = l .before .before .before .args .s .now in
+    let i = l .columns .at in
+    let d = l .columns .inv .2 .0 in
+    let e = c .before .before .before .column-alone .ensures in
+    let t = some-taken _ (judged _ _) (rw e at (c .before .if4 .left)) in (
+      search needs,
+      c .with .ensures .1,
+      (
+        d ++ (t .column ∷ []),
+        rw (c .with .ensures .0, e, t .counts) (tracks-next (l .columns .counts) d (t .column) (l .columns .inv .2 .1)),
+        l .columns .inv .2 .2
+            ∙ goes-on s i d (omega arith) _ (o .bytes-of .ensures) (c .before .before .before .before .before .before .if2 .left)
+            (c .before .before .before .before .before .if3 .left) t,
+      ),
+    )
+
+returns : tie.Need-returns Inv-columns μ-columns
+returns c = ⊎-elim (λ w. absurd (c .if5 .taken (w .0))) (λ w. sym (w .1)) (outcome (c .before))
+
+limit-requires : tie.Need-limit-requires Inv-columns μ-columns
+limit-requires c κs = search needs
+
+returns-2 : tie.Need-returns-2 Inv-columns μ-columns
+returns-2 c =
+    ⊎-elim (λ w. c .limit .ensures ∙ sym (w .1)) (λ w. absurd (w .0 (c .before .if5 .left))) (outcome (c .before .before))
+
+pub read-spec : {M : Type 1} → statement M
+read-spec =
+    tie.close
+    (tie.spec
+    Inv-columns
+    μ-columns
+    none-requires
+    columns-holds
+    shared-slice-read-kind
+    bytes-of-requires
+    sub-if3
+    sub-column-alone
+    add-column-alone
+    shared-slice-read-column-alone
+    column-alone-requires
+    with-requires
+    add-at
+    columns-less
+    columns-again
+    returns
+    limit-requires
+    returns-2)

@@ -1,0 +1,3 @@
+-- What the crate's code answers, in the numbers of code: the reader, the cursor over columns.
+pub mod Reading
+pub mod Cursor

@@ -6,3 +6,6 @@ pub mod Steps
 -- The writer
 pub mod Puts
 pub mod Runs
+pub mod Columns
+pub mod Walk
+pub mod Answers

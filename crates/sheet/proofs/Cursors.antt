@@ -19,7 +19,7 @@ use Rattle.sheet.specs.declared.columns.Column as code
 use Rattle.sheet.specs.Reading.{countsOf, bytesOfKind, alone}
 use Rattle.sheet.specs.Cursor.{columnBytes, sheetBytes, cursorAt, begin, Stands, seen, back, columnFrom}
 use Rattle.sheet.proofs.SheetBytes.{sheet-bytes, bytes, bytes-from}
-use Rattle.sheet.proofs.Totals.{entries, published, gates, total-next, total-most}
+use Rattle.sheet.proofs.Sums.{entries, published, gates, total-next, total-most}
 
 -- ---- a column in code
 pub back-seen : (c : Column) → back (seen c) ≡ c

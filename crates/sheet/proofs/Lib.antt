@@ -1,4 +1,7 @@
-pub mod Totals
+pub mod Sums
 pub mod Reader
 pub mod SheetBytes
 pub mod Cursors
+pub mod Walks
+pub mod Encodings
+pub mod Answers

@@ -23,7 +23,7 @@ use Rattle.rules.proofs.Limits.{within-both}
 use Rattle.sheet.specs.declared.Counts.{Counts}
 use Rattle.sheet.specs.declared.Reading.the-variants as answer
 use Rattle.sheet.specs.Reading.{countsOf, reading, readingOf, bytesOfKind, alone, Small, plus, more, limited}
-use Rattle.sheet.proofs.Totals.{entries, published, gates, tests, total-append, total-one}
+use Rattle.sheet.proofs.Sums.{entries, published, gates, tests, total-append, total-one}
 
 -- ---- a kind and its bytes
 abbrev size : Bool → Bool → Bool → ℕ

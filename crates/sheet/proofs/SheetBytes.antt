@@ -17,7 +17,7 @@ use Rattle.rules.specs.Columns.{Column, yesNo, choice, number, within, counted,
 use Rattle.rules.specs.Columns.{entriesIn, sheetLimits, limitedSheet, readSheet}
 use Rattle.sheet.specs.Cursor.{columnBytes, sheetBytes}
 use Rattle.sheet.proofs.Reader.{body}
-use Rattle.sheet.proofs.Totals.{Total}
+use Rattle.sheet.proofs.Sums.{Total}
 
 counted-is : (b : Bool) (a c : Column) → counted b a ≡ ok c → a ≡ c
 unfolding counted

@@ -3,7 +3,7 @@
 use mathlib.Core.Path.{_≡_}
 use mathlib.Core.Bool.{cond}
 use mathlib.Core.List.{List, [], _∷_, _++_}
-use Prim.Native.Nat.{ℕ, _+_, _<_}
+use Prim.Native.Nat.{ℕ, _+_, _≤_, _<_}
 use lib.Dec.{eqb}
 use lib.ListN.{length, getD, take}
 use Rattle.records.specs.Outcome.{ok}
@@ -57,6 +57,12 @@ abbrev pub back : code.Column → Column
 back kind.YesNo = yesNo
 back (kind.Choice n) = choice n
 back (kind.Number n) = number n
+
+-- what code asks of a column: a power of 2 and a count that fit
+abbrev pub Bounded : Column → Type 0
+Bounded yesNo = Unit {0}
+Bounded (choice n) = n ≤ 64
+Bounded (number n) = n ≤ 24
 
 -- the column of a kind byte and a last byte
 unfoldable pub columnFrom : ℕ → ℕ → Column

@@ -3,8 +3,9 @@
 // in proofs/Cursors.antt.
 ghost use mathlib.Core.Path.{_≡_};
 ghost use Rattle.sheet.specs.Cursor.{begin, Stands, stepAt, columnFrom, seen};
-
-use crate::{bytes_of, column_alone, wide};
+use crate::bytes_of;
+use crate::column_alone;
+use crate::wide;
 
 // Before a column: its index and its byte place, the entries, the published entries and the multiplications before it.
 pub struct Cursor {

@@ -2,11 +2,13 @@
 // the contracts cite are those of the crate rules and of specs/.
 ghost use mathlib.Core.Path.{_≡_};
 ghost use mathlib.Core.List.{[], _∷_};
-ghost use Prim.Native.Nat.{_≤_};
+ghost use Prim.Native.Nat.{_^_, _≤_};
 ghost use Rattle.rules.specs.Columns.{choice, number, within, counted, columnOf};
 ghost use Rattle.sheet.specs.Reading.{bytesOfKind, countsOf, alone, Small, more, limited, readingOf};
 
 pub mod columns;
+pub mod totals;
+pub mod values;
 
 // What the columns of a sheet come to: entries, published entries, multiplications and tests.
 pub struct Counts {
@@ -92,6 +94,14 @@ fn wide(n: u8) -> usize
     ensures { λ r. ⌜ r ≡ n ⌝ }
 {
     n as usize
+}
+
+// 2 to the n.
+fn power(n: usize) -> u32
+    requires { ⌜ n ≤ 24 ⌝ }
+    ensures { λ r. ⌜ r ≡ 2 ^ n ⌝ }
+{
+    1u32 << n
 }
 
 // One column by itself, of its kind byte and its last byte; nothing where its count is outside its limits.

@@ -13,7 +13,7 @@ use Rattle.sheet.specs.declared.columns.Step.{Step}
 use Rattle.sheet.specs.declared.columns.Column as code
 use Rattle.sheet.specs.Reading.{countsOf, bytesOfKind, alone}
 use Rattle.sheet.specs.Cursor.{seen, columnFrom, stepAt}
-use Rattle.sheet.proofs.Totals.{entries, published, gates, total-one}
+use Rattle.sheet.proofs.Sums.{entries, published, gates, total-one}
 use Rattle.sheet.proofs.Cursors.{Place, place}
 use Rattle.sheet.proofs.columns.next.Statement.{statement}
 use Rattle.sheet.proofs.columns.next.Tie as tie

@@ -5,21 +5,21 @@ use mathlib.Core.Logic.{⊎-elim}
 use mathlib.Core.List.{List}
 use Prim.Native.Nat.{ℕ, _≤_, _<_}
 use native.Mathlib.Omega.{arith}
-use borrow.Author.Tests.{eq-eqb, ne-eqb, le-leb, lt-leb}
+use borrow.Author.Tests.{ne-eqb, le-leb, lt-leb}
 use lib.ListN.{length}
 use Rattle.words.specs.Bytes.{splice}
 use Rattle.records.specs.Outcome.{Outcome, ok, refused}
 use Rattle.records.proofs.Outcome.{or-none, or-first}
 use Rattle.rules.specs.Settings.{document01}
-use Rattle.rules.specs.Columns.{Column, readSheet, sheetFault, columnsOf, faultIn, listIn}
+use Rattle.rules.specs.Columns.{Column, readSheet, columnsOf, faultIn, listIn}
 use Rattle.rules.specs.CircuitReader.{sheetCircuit, sheetCircuitRefusal}
 use Rattle.rules.proofs.Refusals.{sheet-refusals, sheet-fault}
 use Rattle.sheet.specs.declared.Counts.{Counts}
-use Rattle.sheet.specs.declared.Reading.the-variants as sheet
 use Rattle.sheet.specs.Reading.{countsOf, reading, readingOf}
+use Rattle.sheet.specs.declared.Reading.the-variants as sheet
 use Rattle.circuit.specs.declared.writer.Written.{Written}
-use Rattle.circuit.specs.declared.writer.Written.the-variants as answer
 use Rattle.circuit.specs.Writing.{writtenOf, circuitIn}
+use Rattle.circuit.specs.declared.writer.Written.the-variants as answer
 
 -- what `write` promises of its answer and of the buffer
 abbrev Answers : List ℕ → List ℕ → Written → List ℕ → Type 0

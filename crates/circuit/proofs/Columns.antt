@@ -1,30 +1,24 @@
 -- The bytes of a column's steps, run by run as they are written, and of a sheet's circuit, column by column; and how many
 -- there are. Assumes that the sheet is read, where it is said.
-use mathlib.Core.Path.{_≡_, refl, sym, ap, ap₂, _∙_}
+use mathlib.Core.Path.{_≡_, refl, ap, ap₂, _∙_}
 use mathlib.Core.List.{List, [], _∷_, _++_, append-assoc, append-nil}
-use Prim.Native.Nat.{ℕ, zero, suc, _+_, _*_, _≤_, _<_}
+use Prim.Native.Nat.{ℕ, suc, _+_, _*_, _<_}
 use native.Mathlib.Nat.{add-assoc, add-zero, zero-add}
 use native.Mathlib.Numerals.{add-one}
 use native.Mathlib.Omega.{arith}
 use lib.ListN.{length, getD, take, length-append}
-use lib.Seq.{take-suc, take-all}
-use Rattle.algebra.proofs.Members.{all-getD}
+use lib.Seq.{take-suc}
 use Rattle.words.specs.Bytes.{bytesOf}
 use Rattle.words.proofs.Numbers.{length-bytes}
-use Rattle.records.specs.Outcome.{ok}
 use Rattle.rules.specs.Settings.{document01}
-use Rattle.rules.specs.Columns.{Column, yesNo, choice, number, entriesOf, entriesIn, readSheet, columnsOf}
-use Rattle.rules.specs.Circuit.{Step, constant, entry, scale, test, stepBytes, circuitBytes, bitChecks, optionAdds, optionSum, bitAdds}
+use Rattle.rules.specs.Columns.{Column, yesNo, choice, number, entriesOf, entriesIn, columnsOf}
+use Rattle.rules.specs.Circuit.{Step, entry, scale, test, stepBytes, circuitBytes, bitChecks, optionAdds, optionSum, bitAdds}
 use Rattle.rules.specs.Circuit.{columnSteps, wiresOf, circuitFrom, circuitOf, wiresIn}
 use Rattle.rules.specs.CircuitReader.{sheetCircuit}
-use Rattle.rules.proofs.Limits.{InLimits, limits}
-use Rattle.rules.proofs.Size.{circuit-most}
-use Rattle.sheet.specs.declared.columns.Column as code
-use Rattle.sheet.specs.Cursor.{seen}
-use Rattle.sheet.proofs.Totals.{Total, entries, total-next, total-most}
-use Rattle.circuit.specs.Writing.{Put, Small, columnSize, back}
-use Rattle.circuit.proofs.Puts.{put-on, put-as}
-use Rattle.circuit.proofs.Runs.{bytes, bytes-none, bytes-append, bytes-one, bytes-more, checks-long, options-long, weights-long}
+use Rattle.sheet.proofs.Sums.{Total}
+use Rattle.circuit.specs.Writing.{columnSize}
+use Rattle.circuit.proofs.Runs.{bytes, bytes-none, bytes-append, bytes-one, bytes-more, checks-long, options-long}
+use Rattle.circuit.proofs.Runs.{weights-long}
 
 -- ---- a column
 pub choice-is : (n e w : ℕ)
@@ -66,17 +60,6 @@ column-long (number n) e w =
     rw (number-is, bytes-more)
     (simp (length-append, entry-long, scale-long, test-long, checks-long, weights-long) (omega arith))
 
--- a column in the code, and back
-pub back-seen : (c : Column) → back (seen c) ≡ c
-back-seen yesNo = refl
-back-seen (choice n) = refl
-back-seen (number n) = refl
-
-pub small : (c : Column) → InLimits c → Small c
-small yesNo h = tt
-small (choice n) h = h .1
-small (number n) h = h .1
-
 -- ---- sums over columns
 unfoldable pub sizesIn : List Column → ℕ
 sizesIn [] = 0
@@ -95,9 +78,9 @@ from-append : (a b : List Column) (e w : ℕ)
     → circuitFrom document01 e w (a ++ b)
     ≡ circuitFrom document01 e w a ++ circuitFrom document01 (e + entriesIn a) (w + wiresIn a) b
 unfolding circuitFrom entriesIn wiresIn
-from-append [] b e w = rw (add-zero, add-zero)
+from-append [] b e w = rw (add-zero e, add-zero w)
 from-append (c ∷ a) b e w =
-    rw (from-append a b (e + entriesOf c) (w + wiresOf c), add-assoc, add-assoc, append-assoc)
+    rw (from-append a b (e + entriesOf c) (w + wiresOf c), add-assoc e, add-assoc w, append-assoc)
 
 last-column : (e w : ℕ) (c : Column) → circuitFrom document01 e w (c ∷ []) ≡ columnSteps document01 e w c
 unfolding circuitFrom

@@ -84,7 +84,8 @@ kind-counts (suc (suc (suc (suc (suc (suc zero)))))) lo hi b = search arith
 kind-counts (suc (suc (suc (suc (suc (suc (suc k))))))) lo hi b = absurd (omega arith)
 
 -- the total limits, of the steps and of their counts
-limits-are : (ks : List Step) → readingIn (circuitLimits ks) ≡ limitedCounts (countsOf ks)
+limits-are : (ks : List Step) → readingIn (circuitLimits ks)
+    ≡ limitedCounts (sumOver stepWires ks) (sumOver stepGates ks) (sumOver stepTests ks)
 unfolding readingIn circuitLimits
 limits-are ks =
     by-test
@@ -128,7 +129,7 @@ module _ (entries : ℕ) (s : List ℕ) where
     unfolding readingIn limitedCircuit
     refuse n e = rw (r .rest ∙ e)
 
-    pub read-end : length s ≤ at → whole ≡ limitedCounts (record { wires = w; multiplications = m; tests = t })
+    pub read-end : length s ≤ at → whole ≡ limitedCounts w m t
     unfolding limitedCircuit
     read-end h =
         rw (r .rest ∙ at-end (stepFormat document01 entries) s at (r .done) h, r .wires-are, r .multiplications-are, r .tests-are)

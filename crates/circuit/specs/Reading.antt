@@ -32,7 +32,7 @@ unfoldable pub readingOf : ℕ → List ℕ → reading.Reading
 readingOf entries s = readingIn (readCircuit document01 entries s)
 
 -- "wires at most 2,048, multiplications M 1 to 256, tests K 1 to 512", of counts
-abbrev pub limitedCounts : counts.Counts → reading.Reading
-limitedCounts c =
-    cond (leb (c .wires) 2048 && (within 1 256 (c .multiplications) && within 1 512 (c .tests)))
-    (answer.Counts c) (answer.Refused 2)
+abbrev pub limitedCounts : ℕ → ℕ → ℕ → reading.Reading
+limitedCounts w m k =
+    cond (leb w 2048 && (within 1 256 m && within 1 512 k))
+    (answer.Counts (record { wires = w; multiplications = m; tests = k })) (answer.Refused 2)

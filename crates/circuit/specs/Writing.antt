@@ -9,8 +9,6 @@ use Rattle.words.specs.Bytes.{splice}
 use Rattle.rules.specs.Settings.{document01}
 use Rattle.rules.specs.Columns.{Column, yesNo, choice, number}
 use Rattle.rules.specs.CircuitReader.{sheetCircuit, sheetCircuitRefusal}
-use Rattle.sheet.specs.declared.columns.Column as code
-use Rattle.sheet.specs.declared.columns.Column.the-variants as kind
 use Rattle.circuit.specs.declared.writer.Written as written
 use Rattle.circuit.specs.declared.writer.Written.the-variants as answer
 
@@ -21,18 +19,6 @@ pub record Put (s : List ℕ) (at n : ℕ) (ys t : List ℕ) (next : ℕ) : Type
   pub behind : next ≡ at + n
   pub room : at + n ≤ length s
   pub same : length t ≡ length s
-
--- the column that the code has
-abbrev pub back : code.Column → Column
-back kind.YesNo = yesNo
-back (kind.Choice n) = choice n
-back (kind.Number n) = number n
-
--- a column whose numbers fit
-abbrev pub Small : Column → Type 0
-Small yesNo = Unit {0}
-Small (choice n) = n ≤ 64
-Small (number n) = n ≤ 24
 
 -- the bytes of a column's steps, at document 01's setting
 unfoldable pub columnSize : Column → ℕ

@@ -45,12 +45,20 @@ fn below(x: u32, limit: u32, refusal: u32) -> u32
 // The fault of a body of two wires.
 fn pair_fault(body: &[u8], wires: u32) -> u32
     requires { ⌜ 4 ≤ length (now body) ⌝ }
-    ensures { λ r. ⌜ r ≡ check (ltb (valueOf (part 0 2 (now (body .entry)))) wires && ltb (valueOf (part 2 2 (now (body .entry)))) wires) 3 ⌝ }
+    ensures { λ r. ⌜ r ≡ check (ltb (valueOf (part 0 2 (now (body .entry)))) wires
+        && ltb (valueOf (part 2 2 (now (body .entry)))) wires) 3 ⌝ }
 {
     if words::read_u16(body, 0) < wires {
         return below(words::read_u16(body, 2), wires, 3);
     }
     3
+}
+
+// The first of two faults; 0 is none.
+fn or_else(a: u32, b: u32) -> u32
+    ensures { λ r. ⌜ r ≡ orElse a b ⌝ }
+{
+    if a == 0 { b } else { a }
 }
 
 // The fault of a body of a wire and a constant: the constant comes first.
@@ -59,10 +67,9 @@ fn scale_fault(body: &[u8], wires: u32) -> u32
     ensures { λ r. ⌜ r ≡ orElse (check (ltb (valueOf (part 2 4 (now (body .entry)))) 2147483647) 2)
         (check (ltb (valueOf (part 0 2 (now (body .entry)))) wires) 3) ⌝ }
 {
-    if words::read_u32(body, 2) < 2147483647 {
-        return below(words::read_u16(body, 0), wires, 3);
-    }
-    2
+    let constant = below(words::read_u32(body, 2), 2147483647, 2);
+    let wire = below(words::read_u16(body, 0), wires, 3);
+    or_else(constant, wire)
 }
 
 // The fault of a step of a known kind with a whole body, where the circuit has so many entries and so many wires are made.
@@ -86,25 +93,29 @@ fn step_fault(kind: u8, body: &[u8], entries: u32, wires: u32) -> u32
 }
 
 // The total limits.
-fn limited(c: Counts) -> Reading
-    ensures { λ r. ⌜ r ≡ limitedCounts c ⌝ }
+fn limited(wires: u32, multiplications: u32, tests: u32) -> Reading
+    ensures { λ r. ⌜ r ≡ limitedCounts wires multiplications tests ⌝ }
 {
-    if 2048 < c.wires {
+    if 2048 < wires {
         return Reading::Refused(2);
     }
-    if c.multiplications < 1 {
+    if multiplications < 1 {
         return Reading::Refused(2);
     }
-    if 256 < c.multiplications {
+    if 256 < multiplications {
         return Reading::Refused(2);
     }
-    if c.tests < 1 {
+    if tests < 1 {
         return Reading::Refused(2);
     }
-    if 512 < c.tests {
+    if 512 < tests {
         return Reading::Refused(2);
     }
-    Reading::Counts(c)
+    Reading::Counts(Counts {
+        wires,
+        multiplications,
+        tests,
+    })
 }
 
 // The steps, one after another: the first refusal, or the counts within their limits.
@@ -144,11 +155,7 @@ fn steps(lengths: &[usize; 6], entries: u32, s: &[u8]) -> Reading
     if fault != 0 {
         return Reading::Refused(fault);
     }
-    limited(Counts {
-        wires,
-        multiplications,
-        tests,
-    })
+    limited(wires, multiplications, tests)
 }
 
 // Reads a circuit of so many entries: its entries and its bytes first, then step by step, the total limits last.

@@ -11,8 +11,8 @@ ghost use Rattle.rules.specs.Columns.{choice, number, readSheet, columnsOf};
 ghost use Rattle.rules.specs.Circuit.{circuitBytes, bitCheck, bitChecks, optionAdds, optionSum, bitAdds, test};
 ghost use Rattle.rules.specs.Circuit.{columnSteps, wiresOf};
 ghost use Rattle.rules.specs.CircuitReader.{sheetCircuit};
-ghost use Rattle.circuit.specs.Writing.{Put, Small, columnSize, back, writtenOf, circuitIn};
-
+ghost use Rattle.sheet.specs.Cursor.{back, Bounded};
+ghost use Rattle.circuit.specs.Writing.{Put, columnSize, writtenOf, circuitIn};
 use sheet::Reading;
 use sheet::columns::Column;
 
@@ -125,10 +125,8 @@ fn bit_sum(out: &mut [u8], at: usize, n: u32, w: u32, q: u32) -> usize
 // A choice of `n` options, whose first entry is `e`.
 fn put_choice(out: &mut [u8], at: usize, n: u32, e: u32, w: u32) -> usize
     requires { ⌜ (at + (21 * n + 3) ≤ length (now out)) × (n ≤ 64) × (e < 16384) × (w < 16384) ⌝ }
-    ensures {
-        λ r. ⌜ Put (now (out .entry)) at (21 * n + 3)
-            (circuitBytes document01 (columnSteps document01 e w (choice n))) (now (out .exit)) r ⌝
-    }
+    ensures { λ r. ⌜ Put (now (out .entry)) at (21 * n + 3)
+        (circuitBytes document01 (columnSteps document01 e w (choice n))) (now (out .exit)) r ⌝ }
 {
     let sum = bit_checks(out, at, n, e, w);
     option_sum(out, sum, n, w, w + 3 * n)
@@ -137,10 +135,8 @@ fn put_choice(out: &mut [u8], at: usize, n: u32, e: u32, w: u32) -> usize
 // A number of `n` bits, whose first entry is `e`.
 fn put_number(out: &mut [u8], at: usize, n: u32, e: u32, w: u32) -> usize
     requires { ⌜ (at + (28 * n + 13) ≤ length (now out)) × (n ≤ 24) × (e < 16384) × (w < 16384) ⌝ }
-    ensures {
-        λ r. ⌜ Put (now (out .entry)) at (28 * n + 13)
-            (circuitBytes document01 (columnSteps document01 e w (number n))) (now (out .exit)) r ⌝
-    }
+    ensures { λ r. ⌜ Put (now (out .entry)) at (28 * n + 13)
+        (circuitBytes document01 (columnSteps document01 e w (number n))) (now (out .exit)) r ⌝ }
 {
     let bits = put_one(out, at, 2, e);
     let minus = bit_checks(out, bits, n, e + 1, w + 1);
@@ -150,11 +146,9 @@ fn put_number(out: &mut [u8], at: usize, n: u32, e: u32, w: u32) -> usize
 
 // The steps of a column, whose first entry is `e`.
 fn put_column(out: &mut [u8], at: usize, column: Column, e: u32, w: u32) -> usize
-    requires { ⌜ (at + columnSize (back column) ≤ length (now out)) × Small (back column) × (e < 16384) × (w < 16384) ⌝ }
-    ensures {
-        λ r. ⌜ Put (now (out .entry)) at (columnSize (back column))
-            (circuitBytes document01 (columnSteps document01 e w (back column))) (now (out .exit)) r ⌝
-    }
+    requires { ⌜ (at + columnSize (back column) ≤ length (now out)) × Bounded (back column) × (e < 16384) × (w < 16384) ⌝ }
+    ensures { λ r. ⌜ Put (now (out .entry)) at (columnSize (back column))
+        (circuitBytes document01 (columnSteps document01 e w (back column))) (now (out .exit)) r ⌝ }
 {
     match column {
         Column::YesNo => bit_checks(out, at, 1, e, w),
@@ -165,7 +159,7 @@ fn put_column(out: &mut [u8], at: usize, column: Column, e: u32, w: u32) -> usiz
 
 // The bytes of a column's steps.
 fn size_of(column: Column) -> usize
-    requires { ⌜ Small (back column) ⌝ }
+    requires { ⌜ Bounded (back column) ⌝ }
     ensures { λ r. ⌜ r ≡ columnSize (back column) ⌝ }
 {
     match column {
@@ -177,7 +171,7 @@ fn size_of(column: Column) -> usize
 
 // The wires of a column's steps.
 fn wires_of(column: Column) -> u32
-    requires { ⌜ Small (back column) ⌝ }
+    requires { ⌜ Bounded (back column) ⌝ }
     ensures { λ r. ⌜ r ≡ wiresOf (back column) ⌝ }
 {
     match column {
@@ -205,14 +199,10 @@ fn circuit_length(sheet: &[u8], columns: usize) -> usize
 
 // Writes the circuit of a sheet that is read, which has so many columns, where there is room for it.
 fn put_circuit(sheet: &[u8], columns: usize, out: &mut [u8]) -> usize
-    requires {
-        ⌜ (readSheet (now sheet) ≡ ok (columnsOf (now sheet))) × (columns ≡ length (columnsOf (now sheet)))
-            × (length (sheetCircuit document01 (now sheet)) ≤ length (now out)) ⌝
-    }
-    ensures {
-        λ r. ⌜ Put (now (out .entry)) 0 (length (sheetCircuit document01 (now (sheet .entry))))
-            (sheetCircuit document01 (now (sheet .entry))) (now (out .exit)) r ⌝
-    }
+    requires { ⌜ (readSheet (now sheet) ≡ ok (columnsOf (now sheet))) × (columns ≡ length (columnsOf (now sheet)))
+        × (length (sheetCircuit document01 (now sheet)) ≤ length (now out)) ⌝ }
+    ensures { λ r. ⌜ Put (now (out .entry)) 0 (length (sheetCircuit document01 (now (sheet .entry))))
+        (sheetCircuit document01 (now (sheet .entry))) (now (out .exit)) r ⌝ }
 {
     let mut at = put_constant(out, 0, 2147483646);
     let mut wire: u32 = 1;
@@ -230,10 +220,8 @@ fn put_circuit(sheet: &[u8], columns: usize, out: &mut [u8]) -> usize
 // Writes the circuit of a sheet that is read, or refuses where the buffer is too short for it.
 fn write_read(sheet: &[u8], columns: usize, out: &mut [u8]) -> Written
     requires { ⌜ (readSheet (now sheet) ≡ ok (columnsOf (now sheet))) × (columns ≡ length (columnsOf (now sheet))) ⌝ }
-    ensures {
-        λ r. ⌜ (r ≡ writtenOf (now (sheet .entry)) (length (now (out .entry))))
-            × (now (out .exit) ≡ circuitIn (now (sheet .entry)) (now (out .entry))) ⌝
-    }
+    ensures { λ r. ⌜ (r ≡ writtenOf (now (sheet .entry)) (length (now (out .entry))))
+        × (now (out .exit) ≡ circuitIn (now (sheet .entry)) (now (out .entry))) ⌝ }
 {
     let n = circuit_length(sheet, columns);
     if out.len() < n {
@@ -245,10 +233,8 @@ fn write_read(sheet: &[u8], columns: usize, out: &mut [u8]) -> Written
 
 // Writes a sheet's circuit: how long it is, or the refusal, with the buffer as it was.
 pub fn write(sheet: &[u8], out: &mut [u8]) -> Written
-    ensures {
-        λ r. ⌜ (r ≡ writtenOf (now (sheet .entry)) (length (now (out .entry))))
-            × (now (out .exit) ≡ circuitIn (now (sheet .entry)) (now (out .entry))) ⌝
-    }
+    ensures { λ r. ⌜ (r ≡ writtenOf (now (sheet .entry)) (length (now (out .entry))))
+        × (now (out .exit) ≡ circuitIn (now (sheet .entry)) (now (out .entry))) ⌝ }
 {
     let reading = sheet::read(sheet);
     match reading {

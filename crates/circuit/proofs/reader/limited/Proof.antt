@@ -8,28 +8,28 @@ returns c = simp (lt-leb _ _ (c .if1 .taken))
 
 returns-2 : tie.Need-returns-2
 returns-2 c =
-    let a = c .before .before in
+    let a = c .before in
     simp (le-leb _ _ (a .if1 .left), lt-leb _ _ (c .if2 .taken))
 
 returns-3 : tie.Need-returns-3
 returns-3 c =
-    let b = c .before .before in
-    let a = b .before .before in
+    let b = c .before in
+    let a = b .before in
     simp (le-leb _ _ (a .if1 .left), le-leb _ _ (b .if2 .left), lt-leb _ _ (c .if3 .taken))
 
 returns-4 : tie.Need-returns-4
 returns-4 c =
-    let e = c .before .before in
-    let b = e .before .before in
-    let a = b .before .before in
+    let e = c .before in
+    let b = e .before in
+    let a = b .before in
     simp (le-leb _ _ (a .if1 .left), le-leb _ _ (b .if2 .left), le-leb _ _ (e .if3 .left), lt-leb _ _ (c .if4 .taken))
 
 returns-5 : tie.Need-returns-5
 returns-5 c =
-    let d = c .before .before in
-    let e = d .before .before in
-    let b = e .before .before in
-    let a = b .before .before in
+    let d = c .before in
+    let e = d .before in
+    let b = e .before in
+    let a = b .before in
     simp (
       le-leb _ _ (a .if1 .left),
       le-leb _ _ (b .if2 .left),
@@ -40,10 +40,10 @@ returns-5 c =
 
 returns-6 : tie.Need-returns-6
 returns-6 c =
-    let d = c .before .before in
-    let e = d .before .before in
-    let b = e .before .before in
-    let a = b .before .before in
+    let d = c .before in
+    let e = d .before in
+    let b = e .before in
+    let a = b .before in
     simp (
       le-leb _ _ (a .if1 .left),
       le-leb _ _ (b .if2 .left),

@@ -47,7 +47,7 @@ outcome : (c : tie.Joined1 Inv-steps μ-steps)
     → let l = c .before in
     let a = l .before .before .args in
     Left (whole (a .entries) (a .s .now))
-    (limitedCounts (record { wires = l .steps .wires; multiplications = l .steps .multiplications; tests = l .steps .tests }))
+    (limitedCounts (l .steps .wires) (l .steps .multiplications) (l .steps .tests))
     (c .if1 .fault)
 outcome c =
     let l = c .before in
@@ -57,7 +57,7 @@ outcome c =
     let r = l .steps .inv in
     let k = getD s (l .steps .at) 0 in
     let all = whole e s in
-    let end = limitedCounts (record { wires = l .steps .wires; multiplications = l .steps .multiplications; tests = l .steps .tests }) in
+    let end = limitedCounts (l .steps .wires) (l .steps .multiplications) (l .steps .tests) in
     let table = a .pre .0 .rule k in
     ⊎-elim (λ w. inl (w .1, Steps.read-end e s r (w .0 .taken)))
     (⊎-elim (λ w. refused all end _ 1 (w .3) (λ x. omega arith) (Steps.refuse-kind e s r (w .0 .left) (inl (w .2 .taken))))

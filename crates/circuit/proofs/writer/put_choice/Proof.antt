@@ -1,37 +1,27 @@
 -- `circuit::writer::put_choice` meets its contract: the bit checks, then the sum. Assumes nothing.
 use mathlib.Core.Path.{refl}
 use native.Mathlib.Omega.{arith}
+use borrow.Author.Needs.{needs}
 use Rattle.circuit.proofs.Puts.{put-on, put-as}
 use Rattle.circuit.proofs.Columns.{choice-is}
-use borrow.Author.Needs.{needs}
 use Rattle.circuit.proofs.writer.put_choice.Statement.{statement}
 use Rattle.circuit.proofs.writer.put_choice.Tie as tie
-use Rattle.circuit.proofs.writer.put_choice.Reads as reads
-use Rattle.circuit.proofs.writer.put_choice.Lts as lts
-use Rattle.circuit.proofs.writer.bit_checks.Reads as bit-checks-reads
-use Rattle.circuit.proofs.writer.option_sum.Reads as option-sum-reads
 
--- src/writer.rt:133:9
 bit-checks-requires : tie.Need-bit-checks-requires
 bit-checks-requires c κs = search needs
 
--- src/writer.rt:134:36
 mul-option-sum : tie.Need-mul-option-sum
 mul-option-sum c = search needs
 
--- src/writer.rt:134:32
 add-option-sum : tie.Need-add-option-sum
 add-option-sum c = search needs
 
--- src/writer.rt:134:5
 option-sum-requires : tie.Need-option-sum-requires
 option-sum-requires c κs = search needs
 
--- src/writer.rt:126:1
 same-length : tie.Need-same-length
 same-length c = search needs
 
--- src/writer.rt:126:1
 returns : tie.Need-returns
 returns c =
     let p2 = c .before .before in

@@ -1,25 +1,15 @@
 -- `circuit::writer::put_column` meets its contract: each arm is one case of the definition. Assumes nothing.
-use mathlib.Core.Path.{_≡_, refl, sym, ap, _∙_}
-use Prim.Native.Nat.{ℕ, _+_, _*_, _-_, _≤_, _<_}
-use Rattle.sheet.specs.declared.columns.Column.the-variants.{YesNo}
+use Prim.Native.Nat.{_-_, _≤_}
 use native.Mathlib.Omega.{arith}
 use borrow.Author.Needs.{needs}
 use Rattle.rules.specs.Circuit.{columnSteps}
 use Rattle.circuit.specs.Writing.{columnSize}
-use borrow.Author.Needs.{needs}
 use Rattle.circuit.proofs.writer.put_column.Statement.{statement}
 use Rattle.circuit.proofs.writer.put_column.Tie as tie
-use Rattle.circuit.proofs.writer.put_column.Reads as reads
-use Rattle.circuit.proofs.writer.put_column.Lts as lts
-use Rattle.circuit.proofs.writer.bit_checks.Reads as bit-checks-reads
-use Rattle.circuit.proofs.writer.put_choice.Reads as put-choice-reads
-use Rattle.circuit.proofs.writer.put_number.Reads as put-number-reads
 
--- src/writer.rt:160:37
 enum-told : tie.Need-enum-told
 enum-told c = search needs
 
--- src/writer.rt:160:26
 bit-checks-requires : tie.Need-bit-checks-requires
 unfolding columnSize
 bit-checks-requires c κs =
@@ -27,17 +17,15 @@ bit-checks-requires c κs =
     let room = rw (c .before .enum-told .given .1) at (a .pre .0) in
     (room, omega arith, omega arith, omega arith)
 
--- src/writer.rt:161:24
 enum-known-column : tie.Need-enum-known-column
 enum-known-column c = search needs
 
--- src/writer.rt:161:50
 cast-put-choice : tie.Need-cast-put-choice
 cast-put-choice c =
-    let few : c .before .before .column .given .0 .0 ≤ 64 = rw (c .before .before .column .given .1) at (c .before .before .before .before .before .pre .1) in
+    let g = c .before .before in
+    let few : g .column .given .0 .0 ≤ 64 = rw (g .column .given .1) at (g .before .before .before .pre .1) in
     omega arith
 
--- src/writer.rt:161:30
 put-choice-requires : tie.Need-put-choice-requires
 unfolding columnSize
 put-choice-requires c κs =
@@ -46,17 +34,15 @@ put-choice-requires c κs =
     let room = rw (c .before .before .column .given .1) at (a .pre .0) in
     (room, few, a .pre .2, a .pre .3)
 
--- src/writer.rt:162:24
 enum-known-column-2 : tie.Need-enum-known-column-2
 enum-known-column-2 c = search needs
 
--- src/writer.rt:162:50
 cast-put-number : tie.Need-cast-put-number
 cast-put-number c =
-    let few : c .before .before .column2 .given .0 .0 ≤ 24 = rw (c .before .before .column2 .given .1) at (c .before .before .before .before .before .pre .1) in
+    let g = c .before .before in
+    let few : g .column2 .given .0 .0 ≤ 24 = rw (g .column2 .given .1) at (g .before .before .before .pre .1) in
     omega arith
 
--- src/writer.rt:162:30
 put-number-requires : tie.Need-put-number-requires
 unfolding columnSize
 put-number-requires c κs =
@@ -65,31 +51,25 @@ put-number-requires c κs =
     let room = rw (c .before .before .column2 .given .1) at (a .pre .0) in
     (room, few, a .pre .2, a .pre .3)
 
--- src/writer.rt:152:1
 same-length : tie.Need-same-length
 same-length c = search needs
 
--- src/writer.rt:152:1
 returns : tie.Need-returns
 unfolding columnSize columnSteps
 returns c =
     let b = c .before .before .before .before in
     rw (b .enum-told .given .1) (c .before .before .bit-checks .ensures)
 
--- src/writer.rt:152:1
 same-length-2 : tie.Need-same-length-2
 same-length-2 c = search needs
 
--- src/writer.rt:152:1
 returns-2 : tie.Need-returns-2
 unfolding columnSize
 returns-2 c = rw (c .before .before .before .before .before .column .given .1) (c .before .before .put-choice .ensures)
 
--- src/writer.rt:152:1
 same-length-3 : tie.Need-same-length-3
 same-length-3 c = search needs
 
--- src/writer.rt:152:1
 returns-3 : tie.Need-returns-3
 unfolding columnSize
 returns-3 c = rw (c .before .before .before .before .before .column2 .given .1) (c .before .before .put-number .ensures)

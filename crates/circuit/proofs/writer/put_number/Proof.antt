@@ -2,64 +2,46 @@
 -- Assumes nothing.
 use mathlib.Core.Path.{refl}
 use native.Mathlib.Omega.{arith}
+use borrow.Author.Needs.{needs}
 use Rattle.rules.specs.Circuit.{stepBytes}
 use Rattle.circuit.proofs.Puts.{put-on, put-as}
 use Rattle.circuit.proofs.Columns.{number-is}
-use borrow.Author.Needs.{needs}
 use Rattle.circuit.proofs.writer.put_number.Statement.{statement}
 use Rattle.circuit.proofs.writer.put_number.Tie as tie
-use Rattle.circuit.proofs.writer.put_number.Reads as reads
-use Rattle.circuit.proofs.writer.put_number.Lts as lts
-use Rattle.circuit.proofs.writer.bit_checks.Reads as bit-checks-reads
-use Rattle.circuit.proofs.writer.bit_sum.Reads as bit-sum-reads
-use Rattle.circuit.proofs.writer.put_one.Reads as put-one-reads
-use Rattle.circuit.proofs.writer.put_scale.Reads as put-scale-reads
 
--- src/writer.rt:145:9
 put-one-requires : tie.Need-put-one-requires
 put-one-requires c κs = search needs
 
--- src/writer.rt:146:42
 add-bit-checks : tie.Need-add-bit-checks
 add-bit-checks c = search needs
 
--- src/writer.rt:146:49
 add-bit-checks-2 : tie.Need-add-bit-checks-2
 add-bit-checks-2 c = search needs
 
--- src/writer.rt:146:9
 bit-checks-requires : tie.Need-bit-checks-requires
 bit-checks-requires c κs = search needs
 
--- src/writer.rt:147:9
 put-scale-requires : tie.Need-put-scale-requires
 put-scale-requires c κs = search needs
 
--- src/writer.rt:148:26
 add-bit-sum : tie.Need-add-bit-sum
 add-bit-sum c = search needs
 
--- src/writer.rt:148:33
 add-bit-sum-2 : tie.Need-add-bit-sum-2
 add-bit-sum-2 c = search needs
 
--- src/writer.rt:148:41
 mul-bit-sum : tie.Need-mul-bit-sum
 mul-bit-sum c = search needs
 
--- src/writer.rt:148:33
 add-bit-sum-3 : tie.Need-add-bit-sum-3
 add-bit-sum-3 c = search needs
 
--- src/writer.rt:148:5
 bit-sum-requires : tie.Need-bit-sum-requires
 bit-sum-requires c κs = search needs
 
--- src/writer.rt:138:1
 same-length : tie.Need-same-length
 same-length c = search needs
 
--- src/writer.rt:138:1
 returns : tie.Need-returns
 unfolding stepBytes
 returns c =

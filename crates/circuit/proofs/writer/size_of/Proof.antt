@@ -1,63 +1,48 @@
 -- `circuit::writer::size_of` meets its contract: each arm is one case of the definition. Assumes nothing.
-use mathlib.Core.Path.{_≡_, refl, sym, ap, _∙_}
-use Prim.Native.Nat.{ℕ, _+_, _*_, _-_, _≤_, _<_}
-use Rattle.sheet.specs.declared.columns.Column.the-variants.{YesNo}
-use Rattle.circuit.specs.Writing.{columnSize}
+use Prim.Native.Nat.{_-_, _≤_}
 use native.Mathlib.Omega.{arith}
 use borrow.Author.Needs.{needs}
-use borrow.Author.Needs.{needs}
+use Rattle.circuit.specs.Writing.{columnSize}
 use Rattle.circuit.proofs.writer.size_of.Statement.{statement}
 use Rattle.circuit.proofs.writer.size_of.Tie as tie
-use Rattle.circuit.proofs.writer.size_of.Reads as reads
-use Rattle.circuit.proofs.writer.size_of.Lts as lts
 
--- src/writer.rt:172:26
 enum-told : tie.Need-enum-told
 enum-told c = search needs
 
--- src/writer.rt:173:24
 enum-known-column : tie.Need-enum-known-column
 enum-known-column c = search needs
 
--- src/writer.rt:173:30
 mul-result : tie.Need-mul-result
 mul-result c =
     let few : c .before .column .given .0 .0 ≤ 64 = rw (c .before .column .given .1) at (c .before .before .before .pre) in
     omega arith
 
--- src/writer.rt:173:30
 add-result : tie.Need-add-result
 add-result c =
     let few : c .before .column .given .0 .0 ≤ 64 = rw (c .before .column .given .1) at (c .before .before .before .pre) in
     omega arith
 
--- src/writer.rt:174:24
 enum-known-column-2 : tie.Need-enum-known-column-2
 enum-known-column-2 c = search needs
 
--- src/writer.rt:174:30
 mul-result-2 : tie.Need-mul-result-2
 mul-result-2 c =
     let few : c .before .column2 .given .0 .0 ≤ 24 = rw (c .before .column2 .given .1) at (c .before .before .before .pre) in
     omega arith
 
--- src/writer.rt:174:30
 add-result-2 : tie.Need-add-result-2
 add-result-2 c =
     let few : c .before .column2 .given .0 .0 ≤ 24 = rw (c .before .column2 .given .1) at (c .before .before .before .pre) in
     omega arith
 
--- src/writer.rt:167:1
 returns : tie.Need-returns
 unfolding columnSize
 returns c = rw (c .enum-told .given .1)
 
--- src/writer.rt:167:1
 returns-2 : tie.Need-returns-2
 unfolding columnSize
 returns-2 c = rw (c .before .column .given .1)
 
--- src/writer.rt:167:1
 returns-3 : tie.Need-returns-3
 unfolding columnSize
 returns-3 c = rw (c .before .column2 .given .1)

@@ -1,24 +1,17 @@
 -- `circuit::writer::write` meets its contract: the sheet's refusal comes first (`refuse-sheet`); a sheet that is read has as
 -- many columns as its counts say (`read-counts`). Assumes nothing.
 use mathlib.Core.Path.{sym, _∙_}
-use Rattle.circuit.proofs.Answers.{refuse-sheet, read-counts}
 use borrow.Author.Needs.{needs}
+use Rattle.circuit.proofs.Answers.{refuse-sheet, read-counts}
 use Rattle.circuit.proofs.writer.write.Statement.{statement}
 use Rattle.circuit.proofs.writer.write.Tie as tie
-use Rattle.circuit.proofs.writer.write.Reads as reads
-use Rattle.circuit.proofs.writer.write.Lts as lts
-use Rattle.circuit.proofs.writer.write_read.Reads as write-read-reads
-use Rattle.sheet.proofs.read.Reads as read-reads
 
--- src/writer.rt:253:9
 read-requires : tie.Need-read-requires
 read-requires c κs = search needs
 
--- src/writer.rt:255:25
 enum-known-reading : tie.Need-enum-known-reading
 enum-known-reading c = search needs
 
--- src/writer.rt:255:36
 write-read-requires : tie.Need-write-read-requires
 write-read-requires c κs =
     let r = c .before .before in
@@ -26,19 +19,15 @@ write-read-requires c κs =
     let a = q .before .before .before in
     read-counts (a .args .sheet .now) _ (sym (q .read .ensures) ∙ r .reading .given .1)
 
--- src/writer.rt:256:26
 enum-known-reading-2 : tie.Need-enum-known-reading-2
 enum-known-reading-2 c = search needs
 
--- src/writer.rt:247:1
 same-length : tie.Need-same-length
 same-length c = search needs
 
--- src/writer.rt:247:1
 returns : tie.Need-returns
 returns c = search needs
 
--- src/writer.rt:247:1
 returns-2 : tie.Need-returns-2
 returns-2 c =
     let r = c .before in

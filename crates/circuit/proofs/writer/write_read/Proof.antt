@@ -1,34 +1,25 @@
 -- `circuit::writer::write_read` meets its contract: the length decides whether there is room (`refuse-short`, `done`).
 -- Assumes nothing.
-use Rattle.circuit.proofs.Answers.{refuse-short, done}
 use borrow.Author.Needs.{needs}
+use Rattle.circuit.proofs.Answers.{refuse-short, done}
 use Rattle.circuit.proofs.writer.write_read.Statement.{statement}
 use Rattle.circuit.proofs.writer.write_read.Tie as tie
-use Rattle.circuit.proofs.writer.write_read.Reads as reads
-use Rattle.circuit.proofs.writer.write_read.Lts as lts
-use Rattle.circuit.proofs.writer.circuit_length.Reads as circuit-length-reads
-use Rattle.circuit.proofs.writer.put_circuit.Reads as put-circuit-reads
 
--- src/writer.rt:238:9
 circuit-length-requires : tie.Need-circuit-length-requires
 circuit-length-requires c κs = search needs
 
--- src/writer.rt:240:9
 returns : tie.Need-returns
 returns c =
     let l = c .before in
     let a = l .before .before .before in
     refuse-short (a .args .sheet .now) (a .args .out .now) (a .pre .0) (rw (l .circuit-length .ensures) at (c .if1 .taken))
 
--- src/writer.rt:242:5
 put-circuit-requires : tie.Need-put-circuit-requires
 put-circuit-requires c κs = search needs
 
--- src/writer.rt:231:1
 same-length : tie.Need-same-length
 same-length c = search needs
 
--- src/writer.rt:231:1
 returns-2 : tie.Need-returns-2
 returns-2 c =
     let p = c .before .before in

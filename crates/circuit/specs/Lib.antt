@@ -1,0 +1,3 @@
+-- What the contracts of this crate cite beside rules' definitions.
+pub mod Reading
+pub mod Writing

@@ -1,0 +1,3 @@
+// The circuit reader and the circuit writer, at document 01's setting.
+pub mod reader;
+pub mod writer;

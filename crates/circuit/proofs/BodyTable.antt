@@ -1,8 +1,8 @@
--- The table of body lengths keeps its rule: one test over its six entries, which antt computes, says so at each kind.
--- Assumes nothing.
-use mathlib.Core.Path.{_≡_, refl}
+-- A table of body lengths keeps its rule where it passes one test over its six entries, which is computed for the table of
+-- the code. Assumes nothing.
+use mathlib.Core.Path.{_≡_}
 use mathlib.Core.Bool.{Bool, true}
-use mathlib.Core.List.{List, [], _∷_}
+use mathlib.Core.List.{List}
 use Prim.Native.Nat.{ℕ, _-_}
 use native.Mathlib.Omega.{arith}
 use borrow.Author.Tests.{eqb-true}
@@ -14,16 +14,14 @@ use Rattle.rules.specs.Settings.{document01}
 use Rattle.rules.specs.CircuitReader.{bodyLengths}
 use Rattle.circuit.specs.Reading.{BodyTable}
 
-abbrev right : List ℕ → ℕ → Bool
+abbrev pub right : List ℕ → ℕ → Bool
 right t k = eqb (getD t (k - 1) 0) (getD (bodyLengths document01) (k - 1) 0)
 
 -- a table that passes the test at kinds 1 to 6 keeps the rule
-tested : (t : List ℕ) → every (right t) (countFrom 1 6) ≡ true → BodyTable t
+pub tested : (t : List ℕ) → every (right t) (countFrom 1 6) ≡ true → BodyTable t
 tested t h =
     record {
-      rule = λ k lo hi. eqb-true _ _ (all-in k (countFrom 1 6) (every-all (right t) (countFrom 1 6) h) (count-in 1 6 k lo (omega arith)));
+      rule =
+          λ k lo hi.
+          eqb-true _ _ (all-in k (countFrom 1 6) (every-all (right t) (countFrom 1 6) h) (count-in 1 6 k lo (omega arith)));
     }
-
-pub table : BodyTable (4 ∷ 2 ∷ 4 ∷ 6 ∷ 4 ∷ 2 ∷ [])
-unfolding every countFrom
-table = tested (4 ∷ 2 ∷ 4 ∷ 6 ∷ 4 ∷ 2 ∷ []) refl

@@ -2,7 +2,7 @@
 // with rules' `readCircuit`, and asks nothing of the caller.
 ghost use mathlib.Core.Path.{_≡_};
 ghost use mathlib.Core.Bool.{cond, _&&_};
-ghost use Prim.Native.Nat.{_+_, _-_, _≤_};
+ghost use Prim.Native.Nat.{_-_, _≤_};
 ghost use lib.Dec.{ltb, eqb};
 ghost use lib.ListN.{length, getD};
 ghost use Rattle.words.specs.Bytes.{valueOf, part};
@@ -20,12 +20,13 @@ pub struct Counts {
     pub tests: u32,
 }
 
+// The counts of a circuit that is read, or the number of the refusal.
 pub enum Reading {
     Counts(Counts),
     Refused(u32),
 }
 
-// The body lengths of step kinds 1 to 6.
+// The body lengths of step kinds 1 to 6; `read` passes the table down.
 pub const BODY_LENGTHS: [usize; 6] = [4, 2, 4, 6, 4, 2];
 
 // 1 for the one kind, 0 for every other.

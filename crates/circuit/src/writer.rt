@@ -1,12 +1,13 @@
 // The circuit writer: the steps of a sheet's circuit, written column by column. Each function writes a run of steps at a
-// place and returns the place behind it; its contract names the run and says that nothing else changes (`Put`).
+// place and returns the place behind it; its contract names the run and says that nothing else changes (`Put`). The contract
+// of `write` is an equality with rules' `sheetCircuit` and `sheetCircuitRefusal`, and asks nothing of the caller.
 ghost use mathlib.Core.Path.{_≡_};
 ghost use mathlib.Core.List.{[], _∷_, _++_};
 ghost use Prim.Native.Nat.{_+_, _*_, _≤_, _<_};
 ghost use lib.ListN.{length};
 ghost use Rattle.words.specs.Bytes.{bytesOf};
-ghost use Rattle.rules.specs.Settings.{document01};
 ghost use Rattle.records.specs.Outcome.{ok};
+ghost use Rattle.rules.specs.Settings.{document01};
 ghost use Rattle.rules.specs.Columns.{choice, number, readSheet, columnsOf};
 ghost use Rattle.rules.specs.Circuit.{circuitBytes, bitCheck, bitChecks, optionAdds, optionSum, bitAdds, test};
 ghost use Rattle.rules.specs.Circuit.{columnSteps, wiresOf};

@@ -1,10 +1,12 @@
 -- `circuit::reader::read` meets its contract: the entries and the bytes are tested first; the table of body lengths keeps
--- its rule (`table`). Assumes nothing.
+-- its rule, by the test of its six entries (`tested`). Assumes nothing.
+use mathlib.Core.Path.{refl}
 use borrow.Author.Needs.{needs}
 use borrow.Author.Tests.{le-leb, lt-leb}
+use Rattle.algebra.specs.Lists.{every, countFrom}
 use Rattle.rules.specs.CircuitReader.{readCircuit}
 use Rattle.circuit.specs.Reading.{readingIn, readingOf}
-use Rattle.circuit.proofs.BodyTable.{table}
+use Rattle.circuit.proofs.BodyTable.{tested}
 use Rattle.circuit.proofs.reader.read.Statement.{statement}
 use Rattle.circuit.proofs.reader.read.Tie as tie
 
@@ -22,7 +24,8 @@ returns-3 c =
     simp (le-leb _ _ (c .before .before .if1 .left), le-leb _ _ (c .before .if2 .left), lt-leb _ _ (c .if3 .taken))
 
 steps-requires : tie.Need-steps-requires
-steps-requires c κs = (table, search needs)
+unfolding every countFrom
+steps-requires c κs = (tested _ refl, search needs)
 
 returns-4 : tie.Need-returns-4
 unfolding readingOf readCircuit

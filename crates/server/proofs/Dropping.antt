@@ -1,0 +1,85 @@
+-- A drop: refused where the table is unsound or no return waits, else the return is decided. Assumes nothing.
+use mathlib.Core.Path.{_≡_, refl, sym, _∙_}
+use mathlib.Core.Bool.{true, false, cond}
+use mathlib.Core.List.{List}
+use Prim.Native.Nat.{ℕ, zero, suc, _≤_}
+use native.Mathlib.Omega.{arith}
+use borrow.Author.Tests.{ne-eqb}
+use lib.Dec.{eqb}
+use Rattle.words.specs.Bytes.{valueOf, part}
+use Rattle.records.specs.Outcome.{orElse}
+use Rattle.rules.specs.Settings.{document01}
+use Rattle.rules.specs.Columns.{within}
+use Rattle.rules.specs.Server.{Waiting, Stage, idle, awaitsOne, awaitsTwo, closed, whileWaiting, dropRefusal}
+use Rattle.rules.specs.Table.{stageByte, waitingIn, stageIn, known, tableFault, decidedTable, dropRefused, dropTable, idsPlace, waitPlace}
+use Rattle.rules.proofs.Limits.{within-both}
+use Rattle.server.specs.Places.{waitAt}
+use Rattle.server.specs.Reading.{tableOf, foundIn, Sound}
+use Rattle.server.specs.Writing.{decidedAs, Decidable}
+use Rattle.server.specs.Calls.{onlyIf, Drops}
+use Rattle.server.specs.declared.table.Table.{Table}
+use Rattle.server.specs.declared.table.Found.the-variants as answer
+use Rattle.server.proofs.Found.{unsound}
+
+abbrev stageOf : ℕ → Waiting → Stage
+stageOf b w = cond (eqb b 0) idle (cond (eqb b 1) (awaitsOne w) (cond (eqb b 2) (awaitsTwo w) closed))
+
+none-waits : (b : ℕ) (w : Waiting) → within 1 2 b ≡ false → whileWaiting (stageOf b w) ≡ 11
+unfolding whileWaiting
+none-waits zero w e = refl
+none-waits (suc zero) w e = let z : _≡_ {A = ℕ} 0 1 = cc in absurd (omega arith)
+none-waits (suc (suc zero)) w e = let z : _≡_ {A = ℕ} 0 1 = cc in absurd (omega arith)
+none-waits (suc (suc (suc b))) w e =
+    rw (
+      ne-eqb (suc (suc (suc b))) 0 (λ z. omega arith),
+      ne-eqb (suc (suc (suc b))) 1 (λ z. omega arith),
+      ne-eqb (suc (suc (suc b))) 2 (λ z. omega arith),
+    )
+
+one-waits : (b : ℕ) (w : Waiting) → (1 ≤ b) × (b ≤ 2) → whileWaiting (stageOf b w) ≡ 0
+unfolding whileWaiting
+one-waits zero w h = absurd (omega (arith, h .0))
+one-waits (suc zero) w h = refl
+one-waits (suc (suc zero)) w h = refl
+one-waits (suc (suc (suc b))) w h = absurd (omega (arith, h .1))
+
+module _ (T : List ℕ) where
+  refused : dropRefused document01 T ≡ 11 → Drops T 11 T
+  unfolding onlyIf
+  refused r = record { answer-is = sym r; table-is = rw r }
+
+  pub drop-unsound : foundIn T ≡ answer.Unsound → Drops T 11 T
+  unfolding dropRefused orElse
+  drop-unsound e = refused (rw (unsound T e))
+
+  quiet-at : tableFault document01 T ≡ 0 → within 1 2 (tableOf T .stage) ≡ false → Drops T 11 T
+  unfolding dropRefused orElse dropRefusal known stageIn tableOf
+  quiet-at f w = refused (rw f (none-waits (stageByte document01 T) (waitingIn document01 T) w))
+
+  done-at : tableFault document01 T ≡ 0 → within 1 2 (tableOf T .stage) ≡ true
+      → Drops T 0 (decidedAs (tableOf T) 0 (valueOf (part (waitAt (tableOf T .sheet) (tableOf T .published) (tableOf T .returns)) 4 T)) T)
+  unfolding dropRefused orElse dropRefusal known stageIn tableOf onlyIf dropTable decidedTable decidedAs idsPlace waitPlace
+  done-at f w =
+      let r : dropRefused document01 T ≡ 0 = rw f (one-waits (stageByte document01 T) (waitingIn document01 T) (within-both 1 2 (stageByte document01 T) w)) in
+      record { answer-is = sym r; table-is = rw r }
+
+module _ (T : List ℕ) (k : Table) (s : Sound T k) where
+  fault-none : tableFault document01 T ≡ 0
+  unfolding tableFault
+  fault-none = rw (s .is-sound)
+
+  pub drop-quiet : within 1 2 (k .stage) ≡ false → Drops T 11 T
+  drop-quiet = rw (s .says) (quiet-at T fault-none)
+
+  pub drop-done : within 1 2 (k .stage) ≡ true
+      → Drops T 0 (decidedAs k 0 (valueOf (part (waitAt (k .sheet) (k .published) (k .returns)) 4 T)) T)
+  drop-done = rw (s .says) (done-at T fault-none)
+
+  pub drop-decides : within 1 2 (k .stage) ≡ true → Decidable T k
+  drop-decides w =
+      let d : _≡_ {A = ℕ} (cond (within 1 2 (k .stage)) 1 0) 1 = rw w in
+      record {
+        whole = record { limited = s .limited; long = s .long };
+        some-room = omega (arith, s .decided-few, d);
+        accepted-few = s .accepted-few;
+      }

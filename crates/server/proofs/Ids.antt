@@ -1,0 +1,29 @@
+-- A search in a run of ids, from place i: the id is the one there, or one of those behind it. Assumes nothing.
+use mathlib.Core.Path.{_≡_, refl, ap, _∙_}
+use mathlib.Core.Bool.{true, false}
+use mathlib.Core.List.{List, _∷_}
+use Prim.Native.Nat.{ℕ, _+_, _-_, _≤_, _<_}
+use borrow.Author.Tests.{eq-eqb, ne-eqb}
+use lib.Dec.{lit<}
+use lib.ListN.{length, drop, length-drop}
+use lib.Seq.{drop-drop}
+use Rattle.words.specs.Bytes.{valueOf, part, elementsOf}
+use Rattle.words.proofs.Elements.{elements-next, elements-end}
+use Rattle.rules.specs.Server.{has}
+
+module _ (x : ℕ) (s : List ℕ) (i : ℕ) where
+  front : 4 ≤ length s - i → elementsOf 4 (drop i s) ≡ valueOf (part i 4 s) ∷ elementsOf 4 (drop (i + 4) s)
+  front h = elements-next 4 (lit< tt) (drop i s) (rw length-drop h) ∙ rw (drop-drop 4 i s)
+
+  pub id-next : 4 ≤ length s - i → (valueOf (part i 4 s) ≡ x → ⊥)
+      → has x (elementsOf 4 (drop i s)) ≡ has x (elementsOf 4 (drop (i + 4) s))
+  unfolding has
+  id-next h n = ap (has x) (front h) ∙ rw (ne-eqb (valueOf (part i 4 s)) x n)
+
+  pub id-found : 4 ≤ length s - i → valueOf (part i 4 s) ≡ x → has x (elementsOf 4 (drop i s)) ≡ true
+  unfolding has
+  id-found h e = ap (has x) (front h) ∙ rw (eq-eqb (valueOf (part i 4 s)) x e)
+
+  pub id-end : length s - i < 4 → has x (elementsOf 4 (drop i s)) ≡ false
+  unfolding has
+  id-end h = ap (has x) (elements-end 4 (lit< tt) (drop i s) (rw length-drop h))

@@ -1,0 +1,5 @@
+-- What the contracts of this crate cite besides rules. Read Places, then Reading, then Writing, then Calls.
+pub mod Places
+pub mod Reading
+pub mod Writing
+pub mod Calls

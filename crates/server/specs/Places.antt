@@ -1,0 +1,29 @@
+-- The places of a table by plain numbers: the length n of the sheet, the published entries, N and the elements of a share.
+-- They are rules' places at document 01's setting (proofs/Positions).
+-- Assumes nothing.
+use Prim.Native.Nat.{ℕ, _+_, _*_, _≤_}
+
+abbrev pub totalsAt : ℕ → ℕ
+totalsAt n = 12 + n
+
+abbrev pub idsAt : ℕ → ℕ → ℕ
+idsAt n published = 12 + n + 4 * published
+
+abbrev pub waitAt : ℕ → ℕ → ℕ → ℕ
+waitAt n published returns = 12 + n + 4 * published + 4 * returns
+
+abbrev pub shareAt : ℕ → ℕ → ℕ → ℕ
+shareAt n published returns = 12 + n + 4 * published + 4 * returns + 4 + 24
+
+abbrev pub lengthAt : ℕ → ℕ → ℕ → ℕ → ℕ
+lengthAt n published returns size = 12 + n + 4 * published + 4 * returns + 4 + 24 + 4 * size
+
+-- the elements of a share, from the entries and the multiplications
+abbrev pub sizeOf : ℕ → ℕ → ℕ
+sizeOf entries gates = entries + (gates + gates) + 6
+
+-- the numbers of a sheet that is read, and of N
+pub record Small (n published returns : ℕ) : Type 0 where
+  pub sheet-most : n ≤ 256
+  pub published-most : published ≤ 256
+  pub returns-most : returns ≤ 1024

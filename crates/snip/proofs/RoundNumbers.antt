@@ -1,0 +1,135 @@
+-- The numbers of the two rounds from the walk over the columns: the run of the circuit is the walk, and the constant p - 1
+-- at a server is the server's factor times it. Assumes nothing.
+use mathlib.Core.Path.{_≡_, refl, sym, ap, ap₂, _∙_}
+use mathlib.Core.List.{List}
+use Prim.Native.Nat.{ℕ, suc, _+_, _-_, _≤_, _<_}
+use native.Mathlib.Omega.{arith}
+use lib.ListN.{length, getD, take, drop}
+use lib.Seq.{getD-take, getD-drop}
+use Rattle.algebra.specs.Ops.{minus}
+use Rattle.algebra.specs.Interpolation.{basis, interpolate}
+use Rattle.algebra.proofs.Sums.{sum-ext}
+use Rattle.field.specs.Residues.{residues}
+use Rattle.rules.specs.Settings.{document01}
+use Rattle.rules.specs.Columns.{Column, entriesIn}
+use Rattle.rules.specs.Circuit.{gatesIn}
+use Rattle.rules.specs.Run.{atServer}
+use Rattle.rules.specs.Judging.{through, folded, hOf, aOf, bOf, shareRun, fAt, gAt, hAt, dOf, eOf, tauOf}
+use Rattle.rules.specs.Server.{Opened, Waiting, waitingOf}
+use Rattle.rules.specs.Walk.{walkLefts, walkRights, walkTests}
+use Rattle.rules.proofs.Walk.{walk-is-run}
+use Rattle.snip.specs.declared.judging.Judged.{Judged}
+use Rattle.snip.specs.Judged.{judgedOf}
+use Rattle.snip.specs.Walks.{held, plain, members, outputs}
+use Rattle.snip.proofs.Meanings.{server-lefts, server-rights, server-tests}
+
+module _ (cs : List Column) (k : ℕ) (xs : List ℕ) where
+  abbrev x : ℕ → ℕ
+  x = members xs
+
+  abbrev constant : ℕ
+  constant = residues ._⊗_ k 2147483646
+
+  pub f-is : (r : ℕ)
+      → interpolate residues (gatesIn cs) (through residues (x (entriesIn cs)) (walkLefts document01 (plain 0 x) 0 cs)) r
+      ≡ fAt residues document01 cs k x r
+  unfolding fAt shareRun
+  f-is r =
+      ap (λ (l : List ℕ). interpolate residues (gatesIn cs) (through residues (x (entriesIn cs)) l) r)
+      (sym
+      (walk-is-run document01 (atServer residues k x (hOf residues document01 cs x)) cs .lefts-are
+      ∙ server-lefts k x (hOf residues document01 cs x) cs))
+
+  pub g-is : (r : ℕ)
+      → interpolate residues (gatesIn cs)
+      (through residues (x (entriesIn cs + 1)) (walkRights document01 (plain constant x) 0 cs)) r
+      ≡ gAt residues document01 cs k x r
+  unfolding gAt shareRun
+  g-is r =
+      ap (λ (l : List ℕ). interpolate residues (gatesIn cs) (through residues (x (entriesIn cs + 1)) l) r)
+      (sym
+      (walk-is-run document01 (atServer residues k x (hOf residues document01 cs x)) cs .rights-are
+      ∙ server-rights k x (hOf residues document01 cs x) cs))
+
+  pub tau-is : (s : ℕ)
+      → folded residues (walkTests document01 (held constant x (outputs (entriesIn cs) xs)) 0 0 cs) s
+      ≡ tauOf residues document01 cs k x s
+  unfolding tauOf shareRun hOf
+  tau-is s =
+      ap (λ (l : List ℕ). folded residues l s)
+      (sym
+      (walk-is-run document01 (atServer residues k x (hOf residues document01 cs x)) cs .tests-are
+      ∙ server-tests k x (hOf residues document01 cs x) cs 0 0))
+
+  -- h at r, from the members behind the entries and two more
+  pub h-is : (ys : List ℕ) (r : ℕ) → ys ≡ take (suc (gatesIn cs + gatesIn cs)) (drop (entriesIn cs + 2) xs)
+      → length ys ≡ suc (gatesIn cs + gatesIn cs)
+      → interpolate residues (length ys - 1) (members ys) r ≡ hAt residues document01 cs x r
+  unfolding hAt hOf interpolate
+  h-is ys r e q =
+      let n = gatesIn cs + gatesIn cs in
+      let t : length ys - 1 ≡ n = omega arith in
+      ap (λ k. interpolate residues k (members ys) r) t
+      ∙ sum-ext residues (suc n) _ _
+      (λ j l. ap (λ v. residues ._⊗_ v (basis residues n j r))
+      (ap (λ (l : List ℕ). members l j) e
+      ∙ getD-take (suc n) (drop (entriesIn cs + 2) xs) j 0 l
+      ∙ getD-drop (entriesIn cs + 2) xs j 0))
+
+  -- as code has them: l and m are the counts, c is the constant
+  module _ (l m c : ℕ) (el : l ≡ entriesIn cs) (em : m ≡ gatesIn cs) (ec : c ≡ residues ._⊗_ k 2147483646) where
+    pub d-from : (r f v : ℕ)
+        → f ≡ interpolate residues (gatesIn cs) (through residues (x l) (walkLefts document01 (plain 0 x) 0 cs)) r
+        → v ≡ minus residues f (x (l + 3 + (m + m))) → v ≡ dOf residues document01 cs k x r
+    unfolding dOf aOf
+    d-from r f v p q =
+        q
+        ∙ ap₂ (minus residues)
+        (p
+        ∙ ap (λ i. interpolate residues (gatesIn cs) (through residues (x i) (walkLefts document01 (plain 0 x) 0 cs)) r) el
+        ∙ f-is r)
+        (ap₂ (λ i j. x (i + 3 + (j + j))) el em)
+
+    pub e-from : (r g w v : ℕ)
+        → g ≡ interpolate residues (gatesIn cs) (through residues (x (l + 1)) (walkRights document01 (plain c x) 0 cs)) r
+        → w ≡ residues ._⊗_ r g → v ≡ minus residues w (x (l + 3 + (m + m) + 1)) → v ≡ eOf residues document01 cs k x r
+    unfolding eOf bOf
+    e-from r g w v p q u =
+        u
+        ∙ ap₂ (minus residues)
+        (q
+        ∙ ap (residues ._⊗_ r)
+        (p
+        ∙ ap₂
+        (λ i n. interpolate residues (gatesIn cs) (through residues (x (i + 1)) (walkRights document01 (plain n x) 0 cs)) r)
+        el ec
+        ∙ g-is r))
+        (ap x (let a : l + 3 + (m + m) + 1 ≡ entriesIn cs + 4 + (gatesIn cs + gatesIn cs) = omega arith in a))
+
+    pub h-from : (r h v : ℕ) (ys : List ℕ) → ys ≡ take (l + 3 + (m + m) - (l + 2)) (drop (l + 2) xs)
+        → length ys ≡ suc (m + m) → h ≡ interpolate residues (length ys - 1) (members ys) r → v ≡ residues ._⊗_ r h
+        → v ≡ residues ._⊗_ r (hAt residues document01 cs x r)
+    h-from r h v ys p n q u =
+        let w : l + 3 + (m + m) - (l + 2) ≡ suc (gatesIn cs + gatesIn cs) = omega arith in
+        u
+        ∙ ap (residues ._⊗_ r)
+        (q ∙ h-is ys r (p ∙ ap₂ (λ i j. take i (drop (j + 2) xs)) w el) (n ∙ ap (λ j. suc (j + j)) em))
+
+    pub tau-from : (s v : ℕ) → v ≡ folded residues (walkTests document01 (held c x (outputs l xs)) 0 0 cs) s
+        → v ≡ tauOf residues document01 cs k x s
+    tau-from s v p =
+        p
+        ∙ ap₂ (λ n i. folded residues (walkTests document01 (held n x (outputs i xs)) 0 0 cs) s) ec el
+        ∙ tau-is s
+
+-- these are the fields of the return that waits, in the rules of a server
+pub record Fields (w : Waiting) (j : Judged) : Type 0 where
+  pub d-field : w .d ≡ j .d
+  pub e-field : w .e ≡ j .e
+  pub rh-field : w .rh ≡ j .rh
+  pub tau-field : w .tau ≡ j .tau
+
+pub waiting-fields : (o : Opened) (id : ℕ) (xs : List ℕ) (r s : ℕ)
+    → Fields (waitingOf document01 o id xs r s) (judgedOf (o .columns) (o .own) xs r s)
+unfolding waitingOf
+waiting-fields o id xs r s = record { d-field = refl; e-field = refl; rh-field = refl; tau-field = refl }

@@ -1,0 +1,54 @@
+-- `snip::judging::fill_f` meets its contract: one store, and the inputs behind it. Assumes nothing.
+use native.Mathlib.Omega.{arith}
+use lib.ListN.{length-set}
+use Rattle.snip.proofs.Parts.{behind-first, length-behind, first-kept}
+use borrow.Author.Needs.{needs}
+use Rattle.snip.proofs.judging.fill_f.Statement.{statement}
+use Rattle.snip.proofs.judging.fill_f.Tie as tie
+
+mul-out : tie.Need-mul-out
+mul-out c = search needs
+
+shared-slice-read-out : tie.Need-shared-slice-read-out
+shared-slice-read-out c = search needs
+
+slice-write-out : tie.Need-slice-write-out
+slice-write-out c = search needs
+
+sub-fill-lefts : tie.Need-sub-fill-lefts
+sub-fill-lefts c = simp length-set (omega (arith, c .before .before .before .before .pre .2))
+
+part-fill-lefts-start : tie.Need-part-fill-lefts-start
+part-fill-lefts-start c = simp length-set (omega (arith, c .before .before .before .before .pre .2))
+
+part-fill-lefts-end : tie.Need-part-fill-lefts-end
+part-fill-lefts-end c = search needs
+
+fill-lefts-requires : tie.Need-fill-lefts-requires
+fill-lefts-requires c κs =
+    let s = c .before .before .before .before .before in
+    (s .pre .0, length-behind (s .args .out .now) _ (s .pre .2))
+
+same-length : tie.Need-same-length
+same-length c =
+    let s = c .before .before .before .before .before .before .before .before in
+    first-kept (s .args .out .now) _ (s .pre .2) (c .before .before .fill-lefts .last .1 .1 .0) (c .before .before .fill-lefts .kept .1 .1 .0)
+
+returns : tie.Need-returns
+returns c =
+    let s = c .before .before .before .before .before .before .before .before in
+    behind-first (s .args .out .now) _ (s .pre .2) (c .before .before .fill-lefts .last .1 .1 .0) (c .before .before .fill-lefts .kept .1 .1 .0) (c .before .before .fill-lefts .ensures)
+
+pub fill-f-spec : {M : Type 1} → statement M
+fill-f-spec =
+    tie.close
+    (tie.spec
+    mul-out
+    shared-slice-read-out
+    slice-write-out
+    sub-fill-lefts
+    part-fill-lefts-start
+    part-fill-lefts-end
+    fill-lefts-requires
+    same-length
+    returns)

@@ -1,0 +1,48 @@
+-- What a server works out from a share that it takes, and what the function that does it is lent.
+-- Assumes nothing.
+use mathlib.Core.Path.{_≡_}
+use mathlib.Core.List.{List}
+use Prim.Native.Nat.{ℕ, suc, _+_, _<_}
+use lib.ListN.{length}
+use Rattle.records.specs.Outcome.{ok}
+use Rattle.algebra.specs.Interpolation.{interpolate}
+use Rattle.field.specs.Residues.{prime, residues, Elements}
+use Rattle.rules.specs.Settings.{document01}
+use Rattle.rules.specs.Columns.{Column, readSheet, columnsOf}
+use Rattle.rules.specs.Circuit.{gatesIn}
+use Rattle.rules.specs.Judging.{shareSize, firstOnly, through, hAt, dOf, eOf, tauOf}
+use Rattle.rules.specs.Walk.{walkLefts, walkRights}
+use Rattle.sheet.specs.declared.Counts.{Counts}
+use Rattle.sheet.specs.Reading.{countsOf}
+use Rattle.snip.specs.declared.judging.Judged.{Judged}
+use Rattle.snip.specs.declared.judging.Inputs.{Inputs}
+use Rattle.snip.specs.Walks.{plain, members}
+
+-- "d_i = f_i(r) - a_i, e_i = r × g_i(r) - b_i", r × h_i(r) and tau_i at server `own` with the share xs
+abbrev pub judgedOf : List Column → ℕ → List ℕ → ℕ → ℕ → Judged
+judgedOf cs own xs r s = record {
+  d = dOf residues document01 cs (firstOnly residues own) (members xs) r;
+  e = eOf residues document01 cs (firstOnly residues own) (members xs) r;
+  rh = residues ._⊗_ r (hAt residues document01 cs (members xs) r);
+  tau = tauOf residues document01 cs (firstOnly residues own) (members xs) s;
+}
+
+-- f and g at r, where m is what the constant comes to
+abbrev pub inputsOf : List Column → ℕ → ℕ → List ℕ → ℕ → Inputs
+inputsOf cs l m xs r = record {
+  f =
+      interpolate residues (gatesIn cs)
+      (through residues (members xs l) (walkLefts document01 (plain 0 (members xs)) 0 cs)) r;
+  g =
+      interpolate residues (gatesIn cs)
+      (through residues (members xs (l + 1)) (walkRights document01 (plain m (members xs)) 0 cs)) r;
+}
+
+-- the sheet s is read and comes to these counts, xs has the length of a share, and all are elements
+pub record Share (s : List ℕ) (counts : Counts) (xs : List ℕ) (r t : ℕ) : Type 0 where
+  pub is-read : readSheet s ≡ ok (columnsOf s)
+  pub counts-are : counts ≡ countsOf (columnsOf s)
+  pub size : length xs ≡ shareSize (columnsOf s)
+  pub elements : Elements xs
+  pub r-below : r < prime
+  pub s-below : t < prime

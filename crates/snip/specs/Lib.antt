@@ -1,0 +1,4 @@
+-- What the contracts of this crate cite besides algebra, rules and field.
+pub mod Factorials
+pub mod Walks
+pub mod Judged

@@ -1,0 +1,52 @@
+-- The walk over the columns on numbers modulo the prime, and what the functions that walk are lent.
+-- Assumes nothing.
+use mathlib.Core.Path.{_≡_}
+use mathlib.Core.List.{List}
+use Prim.Native.Nat.{ℕ, _+_, _≤_, _<_}
+use lib.ListN.{length, getD}
+use Rattle.records.specs.Outcome.{ok}
+use Rattle.field.specs.Residues.{prime, residues, Elements}
+use Rattle.rules.specs.Columns.{Column, entriesOf, readSheet, columnsOf, entriesIn}
+use Rattle.rules.specs.Circuit.{gatesOf, gatesIn}
+use Rattle.rules.specs.Run.{Meaning}
+
+-- entries x, multiplications that output h 1, h 2, .., and m for the constant p - 1: the only constant of a sheet's circuit
+abbrev pub held : ℕ → (ℕ → ℕ) → (ℕ → ℕ) → Meaning ℕ
+held m x h = record {
+  none = 0;
+  entryAt = x;
+  constantOf = λ c. m;
+  plus = residues ._⊕_;
+  times = λ a c. residues ._⊗_ a (residues .ι c);
+  gate = λ t u v. h t;
+}
+
+-- for what does not name the multiplications
+abbrev pub plain : ℕ → (ℕ → ℕ) → Meaning ℕ
+plain m x = held m x (λ t. 0)
+
+-- the members of a list by their places
+abbrev pub members : List ℕ → ℕ → ℕ
+members xs e = getD xs e 0
+
+-- "gate outputs are its shares of h(1)..h(M)": in a share whose first l members are the entries
+abbrev pub outputs : ℕ → List ℕ → ℕ → ℕ
+outputs l xs j = getD xs (l + 2 + j) 0
+
+-- s is a sheet that is read, and xs starts with its entries
+pub record Entries (s xs : List ℕ) : Type 0 where
+  pub is-read : readSheet s ≡ ok (columnsOf s)
+  pub elements : Elements xs
+  pub enough : entriesIn (columnsOf s) ≤ length xs
+
+-- xs has l entries, and behind them f(0), g(0), h(0) and the outputs
+pub record Outputs (s xs : List ℕ) (l : ℕ) : Type 0 where
+  pub entries-are : l ≡ entriesIn (columnsOf s)
+  pub room : l + 3 + gatesIn (columnsOf s) ≤ length xs
+
+-- what the tests of the column c are worked out from: its entries from e, its outputs behind t others, and the constant m
+pub record Asked (xs : List ℕ) (l e t m : ℕ) (c : Column) : Type 0 where
+  pub elements : Elements xs
+  pub constant : m < prime
+  pub entries : e + entriesOf c ≤ length xs
+  pub outputs-fit : l + 3 + t + gatesOf c ≤ length xs

@@ -1,63 +1,70 @@
-// The worked figures of document 01, run on the code and printed: a yes with u_0 = 2 and v_0 = 3, and the false entry 2.
-// In both, f and g are lines through their values at 0 and 1, and h is given by its values at 0, 1 and 2.
-ghost use Prim.Native.Nat.{_<_};
-ghost use Rattle.field.specs.Residues.{prime};
-use libc::STDOUT_FILENO;
+// The worked examples of document 01, run on the code and printed.
+mod forms;
+mod judging;
+mod text;
 
-fn line(name: &[u8], value: u32) {
-    io::write_all(STDOUT_FILENO, name);
-    io::print_decimal(STDOUT_FILENO, value as u64);
-    io::write_all(STDOUT_FILENO, b"\n");
+fn sheets() {
+    forms::sheet(b"sheet 17", &[17]);
+    forms::sheet(b"sheet 17, 18 3, 19 2", &[17, 18, 3, 19, 2]);
+    forms::sheet(b"sheet 18 2", &[18, 2]);
+    forms::sheet(b"sheet 18 64", &[18, 64]);
+    forms::sheet(b"sheet 18 1", &[18, 1]);
+    forms::sheet(b"sheet 18 65", &[18, 65]);
+    forms::sheet(b"an empty sheet", &[]);
+    forms::sheet(b"sheet 20", &[20]);
+    forms::sheet(b"sheet 17, 18 cut", &[17, 18]);
+    forms::sheet(b"256 columns of 17", &[17; 256]);
+    forms::sheet(b"257 columns of 17", &[17; 257]);
 }
 
-// The line through y0 at 0 and y1 at 1, at x.
-fn straight(y0: u32, y1: u32, x: u32) -> u32
-    requires { ⌜ (y0 < prime) × (y1 < prime) × (x < prime) ⌝ }
-    ensures { λ v. ⌜ v < prime ⌝ }
-{
-    field::mul_add(field::sub(y1, y0), x, y0)
+// 300 columns of 17 and then byte 99.
+fn late_fault() {
+    let mut long = [17; 301];
+    long[300] = 99;
+    forms::sheet(b"300 columns of 17, then 99", &long);
 }
 
-// The parabola through y0, y1 and y2 at 0, 1 and 2, at x: 1073741824 is the inverse of 2.
-fn curve(y0: u32, y1: u32, y2: u32, x: u32) -> u32
-    requires { ⌜ (y0 < prime) × (y1 < prime) × (y2 < prime) × (x < prime) ⌝ }
-    ensures { λ v. ⌜ v < prime ⌝ }
-{
-    let bend = field::sub(field::add(y0, y2), field::add(y1, y1));
-    let pairs = field::mul(field::mul(x, field::sub(x, 1)), 1073741824);
-    field::mul_add(bend, pairs, straight(y0, y1, x))
-}
-
-// sigma with a = 5, b = 7 and c = 35, of one server that holds everything.
-fn sigma(f: u32, g: u32, h: u32, r: u32) -> u32
-    requires { ⌜ (f < prime) × (g < prime) × (h < prime) × (r < prime) ⌝ }
-{
-    let d = field::sub(f, 5);
-    let e = field::sub(field::mul(r, g), 7);
-    line(b"d ", d);
-    line(b"e ", e);
-    let s = field::add(field::add(field::mul(d, 7), field::mul(e, 5)), 35);
-    field::add(field::sub(s, field::mul(r, h)), field::mul(d, e))
-}
-
-// One return: its inputs at 1, its h(2), and a challenge.
-fn judge(u: u32, v: u32, h2: u32, r: u32)
-    requires { ⌜ (u < prime) × (v < prime) × (h2 < prime) × (r < prime) ⌝ }
-{
-    line(b"r ", r);
-    line(
-        b"sigma ",
-        sigma(straight(2, u, r), straight(3, v, r), curve(6, 0, h2, r), r),
+fn values() {
+    let sheet = [17, 18, 3, 19, 2];
+    forms::values(
+        b"values 1, 2, 2",
+        &sheet,
+        &[1, 0, 0, 0, 2, 0, 0, 0, 2, 0, 0, 0],
     );
+    forms::values(
+        b"values 2, 2, 2",
+        &sheet,
+        &[2, 0, 0, 0, 2, 0, 0, 0, 2, 0, 0, 0],
+    );
+    forms::values(
+        b"values 1, 2, 4",
+        &sheet,
+        &[1, 0, 0, 0, 2, 0, 0, 0, 4, 0, 0, 0],
+    );
+    forms::values(b"a value missing", &sheet, &[1, 0, 0, 0, 2, 0, 0, 0]);
+}
+
+fn circuits() {
+    let mut out = [0; 21];
+    forms::circuit(b"circuit of sheet 17", &[17], &mut out);
+    forms::steps(&out);
+    forms::read_circuit(b"read", 1, &out);
+    forms::circuit(b"with room for 20 bytes", &[17], &mut [0; 20]);
+    forms::read_circuit(b"over 0 entries", 0, &out);
+    forms::read_circuit(b"an empty circuit", 1, &[]);
+    forms::read_circuit(
+        b"a step that names its own wire",
+        1,
+        &[2, 0, 0, 3, 0, 0, 1, 0],
+    );
+    forms::read_circuit(b"the constant p", 1, &[1, 255, 255, 255, 127]);
+    forms::read_circuit(b"entry 1 of 1", 1, &[2, 1, 0]);
 }
 
 fn main() {
-    line(
-        b"yes, h(2) ",
-        field::mul(straight(2, 1, 2), straight(3, 0, 2)),
-    );
-    judge(1, 0, 0, 4);
-    line(b"false entry ", 2);
-    judge(2, 1, 2147483645, 2);
-    judge(2, 1, 2147483645, 3);
+    sheets();
+    late_fault();
+    values();
+    circuits();
+    judging::show();
 }

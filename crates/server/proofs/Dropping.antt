@@ -13,13 +13,13 @@ use Rattle.rules.specs.Columns.{within}
 use Rattle.rules.specs.Server.{Waiting, Stage, idle, awaitsOne, awaitsTwo, closed, whileWaiting, dropRefusal}
 use Rattle.rules.specs.Table.{stageByte, waitingIn, stageIn, known, tableFault, decidedTable, dropRefused, dropTable, idsPlace, waitPlace}
 use Rattle.rules.proofs.Limits.{within-both}
-use Rattle.server.specs.Places.{waitAt}
-use Rattle.server.specs.Reading.{tableOf, foundIn, Sound}
-use Rattle.server.specs.Writing.{decidedAs, Decidable}
+use Rattle.table.specs.Places.{waitAt}
+use Rattle.table.specs.Reading.{tableOf, foundIn, Sound}
+use Rattle.table.specs.Writing.{decidedAs, Decidable}
 use Rattle.server.specs.Calls.{onlyIf, Drops}
-use Rattle.server.specs.declared.table.Table.{Table}
-use Rattle.server.specs.declared.table.Found.the-variants as answer
-use Rattle.server.proofs.Found.{unsound}
+use Rattle.table.specs.declared.Table.{Table}
+use Rattle.table.specs.declared.Found.the-variants as answer
+use Rattle.table.proofs.Answers.{unsound}
 
 abbrev stageOf : ℕ → Waiting → Stage
 stageOf b w = cond (eqb b 0) idle (cond (eqb b 1) (awaitsOne w) (cond (eqb b 2) (awaitsTwo w) closed))

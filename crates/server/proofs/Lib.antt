@@ -1,8 +1,2 @@
--- Laws of the definitions that the code goes by.
-pub mod Positions
-pub mod Ids
-pub mod Pieces
-pub mod Head
-pub mod Judged
-pub mod Found
+-- Laws of the calls.
 pub mod Dropping

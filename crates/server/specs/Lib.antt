@@ -1,5 +1,2 @@
--- What the contracts of this crate cite besides rules. Read Places, then Reading, then Writing, then Calls.
-pub mod Places
-pub mod Reading
-pub mod Writing
+-- What the contracts of this crate cite besides rules.
 pub mod Calls

@@ -1,16 +1,12 @@
-// A server's table in lent bytes, and the calls on it. The definitions that the contracts cite are those of the crate
-// rules, at document 01's setting, and of specs/. A refusal leaves the table as it was.
+// The calls on a server's table. The definitions that the contracts cite are those of the crate rules, at document 01's
+// setting, and of specs/. A refusal leaves the table and every buffer as they were.
 ghost use Rattle.server.specs.Calls.{Drops};
 
-pub mod places;
-pub mod table;
-pub mod writing;
-
-use places::wait_place;
 use table::Found;
+use table::places::wait_place;
 use table::read;
 use table::waits;
-use writing::decide;
+use table::writing::decide;
 
 // Drops the return that waits. Its id stays used.
 pub fn drop(table: &mut [u8]) -> u32

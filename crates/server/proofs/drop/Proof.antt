@@ -3,7 +3,7 @@
 use mathlib.Core.Path.{sym, _∙_}
 use native.Mathlib.Omega.{arith}
 use borrow.Author.Tests.{not-true, not-false}
-use Rattle.server.proofs.Found.{sound}
+use Rattle.table.proofs.Answers.{sound}
 use Rattle.server.proofs.Dropping.{drop-unsound, drop-quiet, drop-done, drop-decides}
 use borrow.Author.Needs.{needs}
 use Rattle.server.proofs.drop.Statement.{statement}

@@ -1,0 +1,186 @@
+-- What the reader of a table finds: where the header is sound, the parts of the judgement decide; and what a sound table
+-- keeps to. Each part of the code is rules' part at what the table says (`counts-is`, `totals-is`, `waiting-is`).
+-- Assumes nothing.
+use mathlib.Core.Path.{_≡_, refl, sym, ap, _∙_}
+use mathlib.Core.Bool.{Bool, true, false, not, cond, _&&_, _||_}
+use mathlib.Core.List.{List}
+use Prim.Native.Nat.{ℕ, _+_, _*_, _≤_, _<_}
+use native.Mathlib.Nat.{add-zero}
+use native.Mathlib.Omega.{arith}
+use borrow.Author.Tests.{leb-true, eqb-true}
+use lib.Dec.{leb, eqb, lit<}
+use lib.ListN.{length}
+use Rattle.algebra.specs.Lists.{tabulate}
+use Rattle.algebra.proofs.Members.{and-left, and-right}
+use Rattle.algebra.proofs.Tables.{tabulate-cong}
+use Rattle.words.specs.Bytes.{valueOf, part, elementsOf, allBelow}
+use Rattle.words.proofs.Splice.{length-part}
+use Rattle.words.proofs.Elements.{elements-whole}
+use Rattle.message.proofs.Parts.{part-of-part}
+use Rattle.rules.specs.Settings.{document01}
+use Rattle.rules.specs.Columns.{within, check, sheetFault, totalsFit, publishedIn, entriesIn}
+use Rattle.rules.specs.Circuit.{gatesIn}
+use Rattle.rules.specs.Judging.{shareSize, allowedPair}
+use Rattle.rules.specs.Table.{sheetSize, sheetIn, columnsIn, returnsIn, decidedIn, acceptedIn, totalsIn, waits, tableLength}
+use Rattle.rules.specs.Table.{totalsPlace, waitPlace, sharePlace, headerSound, countsSound, waitingSound, tableSound, tableFault}
+use Rattle.rules.proofs.Refusals.{sheet-limits}
+use Rattle.table.specs.Places.{waitAt, lengthAt, sizeOf}
+use Rattle.table.specs.Reading.{tableOf, headIn, foundIn, startSound, Started, pairSound}
+use Rattle.table.specs.Reading.{countsSoundAt, totalsSoundAt, waitingSoundAt, Headed, Whole, Sound}
+use Rattle.table.specs.declared.Table.{Table}
+use Rattle.table.specs.declared.Found.the-variants as answer
+use Rattle.table.proofs.Header.{start-facts, header-is}
+
+-- ---- a choice between a table and none
+table-of : (b : Bool) (x k : Table) → cond b (answer.Table x) answer.Unsound ≡ answer.Table k → (b ≡ true) × (k ≡ x)
+table-of true x k e = (refl, cc)
+table-of false x k e = let z : _≡_ {A = ℕ} 0 1 = cc in absurd (omega arith)
+
+none-of : (b : Bool) (x : Table) → cond b (answer.Table x) answer.Unsound ≡ answer.Unsound → b ≡ false
+none-of true x e = let z : _≡_ {A = ℕ} 0 1 = cc in absurd (omega arith)
+none-of false x e = refl
+
+-- ---- the header
+headed-at : (T : List ℕ) → headerSound document01 T ≡ true → Headed T (tableOf T)
+unfolding tableOf
+headed-at T e =
+    let both : startSound T && eqb (sheetFault (sheetIn document01 T)) 0 ≡ true = sym (header-is T) ∙ e in
+    let f = start-facts T (and-left (startSound T) (eqb (sheetFault (sheetIn document01 T)) 0) both) in
+    let none : sheetFault (sheetIn document01 T) ≡ 0
+    = eqb-true (sheetFault (sheetIn document01 T)) 0 (and-right (startSound T) (eqb (sheetFault (sheetIn document01 T)) 0) both) in
+    let l = sheet-limits (sheetIn document01 T) none in
+    let n : length (sheetIn document01 T) ≡ sheetSize document01 T = length-part 12 (sheetSize document01 T) T (f .sheet-long) in
+    record {
+      says = refl;
+      limited =
+          record {
+            stage-most = f .stage-most;
+            servers-some = f .servers-some;
+            servers-few = f .servers-few;
+            own-one = f .own-one;
+            returns-some = f .returns-some;
+            returns-most = f .returns-most;
+            sheet-most = omega (arith, l .bytes-most, l .entries-most);
+            entries-most = l .entries-most;
+            published-most = omega (arith, l .published-most, l .entries-most);
+            gates-most = omega (arith, l .gates-most, l .entries-most);
+          };
+      header = e;
+      sheet-long = f .sheet-long;
+      no-fault = none;
+    }
+
+pub headed : (T : List ℕ) (k : Table) → headIn T ≡ answer.Table k → Headed T k
+unfolding headIn
+headed T k e = let b = table-of (headerSound document01 T) (tableOf T) k e in rw (b .1) (headed-at T (b .0))
+
+-- ---- the parts of the judgement are rules'
+counts-is : (T : List ℕ) → countsSound document01 T ≡ countsSoundAt (tableOf T) T
+unfolding countsSound countsSoundAt tableOf tableLength shareSize
+counts-is T = refl
+
+totals-is : (T : List ℕ) → allBelow 2147483647 (totalsIn document01 T) ≡ totalsSoundAt (tableOf T) T
+unfolding totalsSoundAt tableOf totalsPlace
+totals-is T = refl
+
+six-words : (T : List ℕ) (a : ℕ) → a + 24 ≤ length T
+    → tabulate (λ j. valueOf (part (a + 4 * j) 4 T)) 6 ≡ elementsOf 4 (part a 24 T)
+six-words T a h =
+    sym (elements-whole 4 (lit< tt) (part a 24 T) 6 (length-part a 24 T h)
+    ∙ tabulate-cong (λ j. valueOf (part (4 * j) 4 (part a 24 T))) (λ j. valueOf (part (a + 4 * j) 4 T)) 6
+    (λ i k. ap valueOf (part-of-part (4 * i) 4 a 24 T (omega arith))))
+
+waiting-is : (T : List ℕ) → lengthAt (tableOf T .sheet) (tableOf T .published) (tableOf T .returns) (sizeOf (tableOf T .entries) (tableOf T .gates)) ≤ length T
+    → waitingSound document01 T ≡ waitingSoundAt (tableOf T) T
+unfolding waitingSound waitingSoundAt tableOf waitPlace sharePlace shareSize allowedPair pairSound
+waiting-is T h =
+    let w = waitAt (tableOf T .sheet) (tableOf T .published) (tableOf T .returns) in
+    simp (add-zero, six-words T (w + 4) (omega arith))
+
+-- ---- counts that are sound bound the table
+counts-long : (k : Table) (T : List ℕ) → countsSoundAt k T ≡ true
+    → (lengthAt (k .sheet) (k .published) (k .returns) (sizeOf (k .entries) (k .gates)) ≤ length T)
+    × (k .decided + cond (within 1 2 (k .stage)) 1 0 ≤ k .returns) × (k .accepted ≤ k .decided)
+unfolding countsSoundAt
+counts-long k T e =
+    let fit = totalsFit document01 (k .returns) (columnsIn document01 T) in
+    let long = leb (lengthAt (k .sheet) (k .published) (k .returns) (sizeOf (k .entries) (k .gates))) (length T) in
+    let few = leb (k .decided + cond (within 1 2 (k .stage)) 1 0) (k .returns) in
+    let less = leb (k .accepted) (k .decided) in
+    let e1 = and-right fit (long && (few && less)) e in
+    let e2 = and-right long (few && less) e1 in (
+      leb-true _ _ (and-left long (few && less) e1),
+      leb-true _ _ (and-left few less e2),
+      leb-true _ _ (and-right few less e2),
+    )
+
+pub whole : (T : List ℕ) (k : Table) → Headed T k → countsSoundAt k T ≡ true → Whole T k
+whole T k h e = record { limited = h .limited; long = counts-long k T e .0 }
+
+-- ---- what is found
+module _ (T : List ℕ) where
+  pub found-headless : headIn T ≡ answer.Unsound → answer.Unsound ≡ foundIn T
+  unfolding headIn foundIn tableSound
+  found-headless e = rw (none-of (headerSound document01 T) (tableOf T) e)
+
+  module _ (h : headerSound document01 T ≡ true) where
+    counts-at : countsSoundAt (tableOf T) T ≡ false → answer.Unsound ≡ foundIn T
+    unfolding foundIn tableSound
+    counts-at c = rw (h, counts-is T, c)
+
+    module _ (c : countsSoundAt (tableOf T) T ≡ true) where
+      totals-at : totalsSoundAt (tableOf T) T ≡ false → answer.Unsound ≡ foundIn T
+      unfolding foundIn tableSound
+      totals-at t = rw (h, counts-is T, c, totals-is T, t)
+
+      module _ (t : totalsSoundAt (tableOf T) T ≡ true) where
+        quiet-at : within 1 2 (tableOf T .stage) ≡ false → answer.Table (tableOf T) ≡ foundIn T
+        unfolding foundIn tableSound tableOf
+        quiet-at w = rw (h, counts-is T, c, totals-is T, t, w)
+
+        waits-at : within 1 2 (tableOf T .stage) ≡ true
+            → cond (waitingSoundAt (tableOf T) T) (answer.Table (tableOf T)) answer.Unsound ≡ foundIn T
+        unfolding foundIn tableSound tableOf
+        waits-at w = rw (h, counts-is T, c, totals-is T, t, w, waiting-is T (counts-long (tableOf T) T c .0))
+
+module _ (T : List ℕ) (k : Table) (h : Headed T k) where
+  pub found-counts : countsSoundAt k T ≡ false → answer.Unsound ≡ foundIn T
+  found-counts = rw (h .says) (counts-at T (h .header))
+
+  pub found-totals : countsSoundAt k T ≡ true → totalsSoundAt k T ≡ false → answer.Unsound ≡ foundIn T
+  found-totals = rw (h .says) (totals-at T (h .header))
+
+  pub found-quiet : countsSoundAt k T ≡ true → totalsSoundAt k T ≡ true → within 1 2 (k .stage) ≡ false
+      → answer.Table k ≡ foundIn T
+  found-quiet = rw (h .says) (quiet-at T (h .header))
+
+  pub found-waiting : countsSoundAt k T ≡ true → totalsSoundAt k T ≡ true → within 1 2 (k .stage) ≡ true
+      → cond (waitingSoundAt k T) (answer.Table k) answer.Unsound ≡ foundIn T
+  found-waiting = rw (h .says) (waits-at T (h .header))
+
+-- ---- a sound table
+sound-at : (T : List ℕ) → tableSound document01 T ≡ true → Sound T (tableOf T)
+unfolding tableSound
+sound-at T e =
+    let last = allBelow 2147483647 (totalsIn document01 T) && (not (waits document01 T) || waitingSound document01 T) in
+    let rest = countsSound document01 T && last in
+    let h = headed-at T (and-left (headerSound document01 T) rest e) in
+    let c : countsSoundAt (tableOf T) T ≡ true
+    = sym (counts-is T) ∙ and-left (countsSound document01 T) last (and-right (headerSound document01 T) rest e) in
+    let l = counts-long (tableOf T) T c in
+    record {
+      says = refl;
+      limited = h .limited;
+      is-sound = e;
+      long = l .0;
+      decided-few = l .1;
+      accepted-few = l .2;
+    }
+
+pub sound : (T : List ℕ) (k : Table) → foundIn T ≡ answer.Table k → Sound T k
+unfolding foundIn
+sound T k e = let b = table-of (tableSound document01 T) (tableOf T) k e in rw (b .1) (sound-at T (b .0))
+
+pub unsound : (T : List ℕ) → foundIn T ≡ answer.Unsound → tableFault document01 T ≡ 11
+unfolding foundIn tableFault
+unsound T e = rw (none-of (tableSound document01 T) (tableOf T) e)

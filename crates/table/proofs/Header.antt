@@ -1,0 +1,151 @@
+-- The header of a table: its tests hold exactly where its facts do. Rules' header is the start and the sheet's reading,
+-- whose answer is taken apart. Assumes nothing.
+use mathlib.Core.Path.{_≡_, refl, sym, ap, _∙_}
+use mathlib.Core.Bool.{Bool, true, false, not, cond, _&&_}
+use mathlib.Core.List.{List}
+use mathlib.Core.Logic.{⊎-elim}
+use Prim.Native.Nat.{ℕ, _+_, _-_, _≤_, _<_}
+use native.Mathlib.Omega.{arith}
+use borrow.Author.Tests.{leb-true, ltb-true, eqb-true, le-leb, lt-ltb, eq-eqb, ne-eqb, not-false}
+use lib.Dec.{eqb, ltb, leb}
+use lib.ListN.{length, getD, take, drop}
+use Rattle.algebra.proofs.Members.{and-left, and-right}
+use Rattle.words.specs.Bytes.{valueOf, part}
+use Rattle.records.specs.Outcome.{Outcome, ok, refused}
+use Rattle.rules.specs.Settings.{document01}
+use Rattle.rules.specs.Columns.{Column, within, readSheet, sheetFault, columnsOf, faultIn, listIn}
+use Rattle.rules.specs.Table.{sheetIn, headerSound}
+use Rattle.rules.proofs.Limits.{within-both, within-is}
+use Rattle.rules.proofs.Refusals.{sheet-refusals}
+use Rattle.sheet.specs.Reading.{countsOf, reading, readingOf}
+use Rattle.sheet.specs.declared.Counts.{Counts}
+use Rattle.sheet.specs.declared.Reading.the-variants as sheet
+use Rattle.table.specs.Reading.{tableOf, headIn, startSound, Started}
+use Rattle.table.specs.declared.Found.the-variants as answer
+
+pub is-false : (b : Bool) → (b ≡ true → ⊥) → b ≡ false
+is-false true h = absurd (h refl)
+is-false false h = refl
+
+and-assoc : (a b c : Bool) → (a && b) && c ≡ a && (b && c)
+and-assoc true b c = refl
+and-assoc false b c = refl
+
+module _ (T : List ℕ) where
+  -- the tests from the second, the third, .. on
+  abbrev from6 : Bool
+  from6 = leb (12 + valueOf (part 10 2 T)) (length T)
+
+  abbrev from5 : Bool
+  from5 = within 1 1024 (valueOf (part 4 2 T)) && from6
+
+  abbrev from4 : Bool
+  from4 = ltb (getD T 3 0) (getD T 2 0) && from5
+
+  abbrev from3 : Bool
+  from3 = within 2 8 (getD T 2 0) && from4
+
+  abbrev from2 : Bool
+  from2 = leb (getD T 1 0) 3 && from3
+
+  abbrev from1 : Bool
+  from1 = eqb (getD T 0 0) 1 && from2
+
+  pub start-facts : startSound T ≡ true → Started T
+  unfolding startSound
+  start-facts e =
+      let e1 = and-right (leb 12 (length T)) from1 e in
+      let e2 = and-right (eqb (getD T 0 0) 1) from2 e1 in
+      let e3 = and-right (leb (getD T 1 0) 3) from3 e2 in
+      let e4 = and-right (within 2 8 (getD T 2 0)) from4 e3 in
+      let e5 = and-right (ltb (getD T 3 0) (getD T 2 0)) from5 e4 in
+      let e6 = and-right (within 1 1024 (valueOf (part 4 2 T))) from6 e5 in
+      let servers = within-both 2 8 (getD T 2 0) (and-left (within 2 8 (getD T 2 0)) from4 e3) in
+      let returns = within-both 1 1024 (valueOf (part 4 2 T)) (and-left (within 1 1024 (valueOf (part 4 2 T))) from6 e5) in
+      record {
+        header-long = leb-true 12 (length T) (and-left (leb 12 (length T)) from1 e);
+        byte-is = eqb-true (getD T 0 0) 1 (and-left (eqb (getD T 0 0) 1) from2 e1);
+        stage-most = leb-true (getD T 1 0) 3 (and-left (leb (getD T 1 0) 3) from3 e2);
+        servers-some = servers .0;
+        servers-few = servers .1;
+        own-one = ltb-true (getD T 3 0) (getD T 2 0) (and-left (ltb (getD T 3 0) (getD T 2 0)) from5 e4);
+        returns-some = returns .0;
+        returns-most = returns .1;
+        sheet-long = leb-true (12 + valueOf (part 10 2 T)) (length T) e6;
+      }
+
+  -- all but the last test hold
+  pub start-but : 12 ≤ length T → getD T 0 0 ≡ 1 → getD T 1 0 ≤ 3 → 2 ≤ getD T 2 0 → getD T 2 0 ≤ 8
+      → getD T 3 0 < getD T 2 0 → 1 ≤ valueOf (part 4 2 T) → valueOf (part 4 2 T) ≤ 1024
+      → leb (12 + valueOf (part 10 2 T)) (length T) ≡ startSound T
+  unfolding startSound
+  start-but a b c d e f g h =
+      rw (
+        le-leb 12 (length T) a,
+        eq-eqb (getD T 0 0) 1 b,
+        le-leb (getD T 1 0) 3 c,
+        within-is 2 8 (getD T 2 0) d e,
+        lt-ltb (getD T 3 0) (getD T 2 0) f,
+        within-is 1 1024 (valueOf (part 4 2 T)) g h,
+      )
+
+  pub not-started : (Started T → ⊥) → false ≡ startSound T
+  not-started h = sym (is-false (startSound T) (λ e. h (start-facts e)))
+
+  -- what the code's test of the start tells
+  pub started : (r : Bool) → r ≡ startSound T → not r ≡ false → Started T
+  started r e n = start-facts (sym e ∙ not-false r n)
+
+  pub header-is : headerSound document01 T ≡ startSound T && eqb (sheetFault (sheetIn document01 T)) 0
+  unfolding headerSound startSound
+  header-is = simp and-assoc
+
+-- ---- the sheet's answer
+refused-of : (o : Outcome (List Column)) (n : ℕ) → reading o ≡ sheet.Refused n → o ≡ refused n
+unfolding reading
+refused-of (ok cs) n e = let z : _≡_ {A = ℕ} 0 1 = cc in absurd (omega arith)
+refused-of (refused m) n e = cc
+
+pub counts-of : (o : Outcome (List Column)) (c : Counts) → reading o ≡ sheet.Counts c
+    → (faultIn o ≡ 0) × (c ≡ countsOf (listIn o))
+unfolding reading listIn faultIn
+counts-of (ok cs) c e = (refl, cc)
+counts-of (refused m) c e = let z : _≡_ {A = ℕ} 0 1 = cc in absurd (omega arith)
+
+module _ (T : List ℕ) where
+  pub head-not-started : startSound T ≡ false → answer.Unsound ≡ headIn T
+  unfolding headIn
+  head-not-started e = rw (header-is T, e)
+
+  -- the sheet as the code cuts it out, r bytes long
+  module _ (r : ℕ) (e : r ≡ valueOf (part 10 2 T)) (s : startSound T ≡ true) where
+    the-sheet : take (12 + r - 12) (drop 12 T) ≡ sheetIn document01 T
+    the-sheet = let l : 12 + r - 12 ≡ valueOf (part 10 2 T) = omega arith in rw l
+
+    pub head-refused : (n : ℕ) → readingOf (take (12 + r - 12) (drop 12 T)) ≡ sheet.Refused n → answer.Unsound ≡ headIn T
+    unfolding headIn readingOf faultIn
+    head-refused n h =
+        let o = refused-of (readSheet (sheetIn document01 T)) n (rw the-sheet at h) in
+        let d : n ≡ 0 → ⊥ = λ z. ⊎-elim (λ x. omega arith) (λ x. omega arith) (sheet-refusals (sheetIn document01 T) n o) in
+        rw (header-is T, s, o, ne-eqb n 0 d)
+
+    pub head-counted : (c : Counts) → readingOf (take (12 + r - 12) (drop 12 T)) ≡ sheet.Counts c
+        → answer.Table (
+        record {
+          stage = getD T 1 0;
+          servers = getD T 2 0;
+          own = getD T 3 0;
+          returns = valueOf (part 4 2 T);
+          decided = valueOf (part 6 2 T);
+          accepted = valueOf (part 8 2 T);
+          sheet = valueOf (part 10 2 T);
+          entries = c .entries;
+          published = c .published;
+          gates = c .gates;
+        }
+        )
+        ≡ headIn T
+    unfolding headIn readingOf tableOf
+    head-counted c h =
+        let o = counts-of (readSheet (sheetIn document01 T)) c (rw the-sheet at h) in
+        rw (header-is T, s, o .0, o .1)

@@ -1,0 +1,111 @@
+-- The parts of a table's judgement, test by test: the one that fails, or the last where the others hold. Assumes nothing.
+use mathlib.Core.Path.{_≡_, refl, sym, ap, _∙_}
+use mathlib.Core.Bool.{Bool, true, false, not, cond}
+use mathlib.Core.List.{List}
+use Prim.Native.Nat.{ℕ, _+_, _-_, _*_, _≤_, _<_}
+use native.Mathlib.Omega.{arith}
+use borrow.Author.Tests.{le-leb, lt-leb, not-true, not-false}
+use lib.Dec.{leb}
+use lib.ListN.{length, take, drop}
+use Rattle.words.specs.Bytes.{valueOf, part, elementsOf, allBelow}
+use Rattle.records.specs.Outcome.{ok, orElse}
+use Rattle.records.proofs.Outcome.{or-none}
+use Rattle.rules.specs.Settings.{document01}
+use Rattle.rules.specs.Columns.{within, check, readSheet, columnsOf, returnsFault, totalsFault, totalsFit}
+use Rattle.rules.specs.Table.{sheetIn, columnsIn}
+use Rattle.rules.proofs.Limits.{within-is}
+use Rattle.rules.proofs.Refusals.{sheet-read}
+use Rattle.message.proofs.Parts.{span}
+use Rattle.table.specs.Places.{totalsAt, idsAt, waitAt, lengthAt, sizeOf}
+use Rattle.table.specs.Reading.{tableOf, countsSoundAt, totalsSoundAt, pairSound, waitingSoundAt, Headed}
+use Rattle.table.specs.declared.Table.{Table}
+
+-- ---- the limit on N of a table's sheet, as the code cuts the sheet out
+module _ (T : List ℕ) (k : Table) (h : Headed T k) where
+  sheet-cut : take (12 + k .sheet - 12) (drop 12 T) ≡ sheetIn document01 T
+  unfolding tableOf
+  sheet-cut = let l : 12 + k .sheet - 12 ≡ k .sheet = omega arith in rw (l, h .says)
+
+  pub cut-reads : readSheet (take (12 + k .sheet - 12) (drop 12 T)) ≡ ok (columnsOf (take (12 + k .sheet - 12) (drop 12 T)))
+  cut-reads = rw sheet-cut (sheet-read (sheetIn document01 T) (h .no-fault))
+
+  cut-fault : orElse (returnsFault (k .returns))
+      (totalsFault document01 (k .returns) (columnsOf (take (12 + k .sheet - 12) (drop 12 T))))
+      ≡ check (totalsFit document01 (k .returns) (columnsIn document01 T)) 4
+  cut-fault =
+      rw (sheet-cut, within-is 1 1024 (k .returns) (h .limited .returns-some) (h .limited .returns-most), or-none)
+
+  fit-of : (b : Bool) → check b 4 ≡ 0 → b ≡ true
+  fit-of true e = refl
+  fit-of false e = absurd (omega arith)
+
+  unfit-of : (b : Bool) → (check b 4 ≡ 0 → ⊥) → b ≡ false
+  unfit-of true e = absurd (e refl)
+  unfit-of false e = refl
+
+  -- what the answer x of the code's check tells
+  module _ (x : ℕ)
+      (e : x
+      ≡ orElse (returnsFault (k .returns))
+      (totalsFault document01 (k .returns) (columnsOf (take (12 + k .sheet - 12) (drop 12 T))))) where
+    pub fits : x ≡ 0 → totalsFit document01 (k .returns) (columnsIn document01 T) ≡ true
+    fits z = fit-of _ (sym (e ∙ cut-fault) ∙ z)
+
+    pub fits-not : (x ≡ 0 → ⊥) → totalsFit document01 (k .returns) (columnsIn document01 T) ≡ false
+    fits-not n = unfit-of _ (λ z. n (e ∙ cut-fault ∙ z))
+
+-- ---- counts
+module _ (k : Table) (T : List ℕ) where
+  pub counts-unfit : totalsFit document01 (k .returns) (columnsIn document01 T) ≡ false → false ≡ countsSoundAt k T
+  unfolding countsSoundAt
+  counts-unfit f = rw f
+
+  module _ (f : totalsFit document01 (k .returns) (columnsIn document01 T) ≡ true) where
+    pub counts-short : length T < lengthAt (k .sheet) (k .published) (k .returns) (sizeOf (k .entries) (k .gates))
+        → false ≡ countsSoundAt k T
+    unfolding countsSoundAt
+    counts-short l = rw (f, lt-leb _ _ l)
+
+    module _ (l : lengthAt (k .sheet) (k .published) (k .returns) (sizeOf (k .entries) (k .gates)) ≤ length T) where
+      pub counts-over : k .returns < k .decided + cond (within 1 2 (k .stage)) 1 0 → false ≡ countsSoundAt k T
+      unfolding countsSoundAt
+      counts-over d = rw (f, le-leb _ _ l, lt-leb (k .decided + cond (within 1 2 (k .stage)) 1 0) (k .returns) d)
+
+      pub counts-but : k .decided + cond (within 1 2 (k .stage)) 1 0 ≤ k .returns
+          → leb (k .accepted) (k .decided) ≡ countsSoundAt k T
+      unfolding countsSoundAt
+      counts-but d = rw (f, le-leb _ _ l, le-leb (k .decided + cond (within 1 2 (k .stage)) 1 0) (k .returns) d)
+
+-- ---- totals, and the return that waits, as the code cuts them out
+module _ (k : Table) (T : List ℕ) where
+  pub totals-cut : allBelow 2147483647
+      (elementsOf 4 (take (idsAt (k .sheet) (k .published) - totalsAt (k .sheet)) (drop (totalsAt (k .sheet)) T)))
+      ≡ totalsSoundAt k T
+  unfolding totalsSoundAt
+  totals-cut = let e : idsAt (k .sheet) (k .published) - totalsAt (k .sheet) ≡ 4 * k .published = omega arith in rw e
+
+  module _ (w r s : ℕ) (ew : w ≡ waitAt (k .sheet) (k .published) (k .returns)) (er : r ≡ valueOf (part (w + 4) 4 T))
+      (es : s ≡ valueOf (part (w + 4 + 4) 4 T)) (b : Bool) (eb : b ≡ pairSound (k .gates) r s) where
+    pub pair-fails : not b ≡ true → false ≡ waitingSoundAt k T
+    unfolding waitingSoundAt
+    pair-fails n = let p : pairSound (k .gates) r s ≡ false = sym eb ∙ not-true b n in rw (← ew, ← er, ← es, p)
+
+    module _ (holds : not b ≡ false) (b' : Bool)
+        (eb' : b' ≡ allBelow 2147483647 (elementsOf 4 (take (w + 4 + 24 - (w + 4)) (drop (w + 4) T)))) where
+      pub words-fail : not b' ≡ true → false ≡ waitingSoundAt k T
+      unfolding waitingSoundAt
+      words-fail n =
+          let p : pairSound (k .gates) r s ≡ true = sym eb ∙ not-false b holds in
+          let q : allBelow 2147483647 (elementsOf 4 (part (w + 4) 24 T)) ≡ false
+          = rw (span (w + 4) 24 T) at (sym eb' ∙ not-true b' n) in
+          rw (← ew, ← er, ← es, p, q)
+
+      pub share-decides : not b' ≡ false → (z : ℕ) → z ≡ sizeOf (k .entries) (k .gates)
+          → allBelow 2147483647 (elementsOf 4 (take (w + 4 + 24 + 4 * z - (w + 4 + 24)) (drop (w + 4 + 24) T)))
+          ≡ waitingSoundAt k T
+      unfolding waitingSoundAt
+      share-decides n z ez =
+          let p : pairSound (k .gates) r s ≡ true = sym eb ∙ not-false b holds in
+          let q : allBelow 2147483647 (elementsOf 4 (part (w + 4) 24 T)) ≡ true
+          = rw (span (w + 4) 24 T) at (sym eb' ∙ not-false b' n) in
+          rw (← ew, ← er, ← es, p, q, ← ez, span (w + 4 + 24) (4 * z) T)

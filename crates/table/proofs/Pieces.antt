@@ -1,0 +1,87 @@
+-- What is written piece after piece: the header of a fresh table, cleared bytes, the marks of a decided return, the closing
+-- message. A piece goes where the one before ends (`grow`). Assumes that the pieces lie within the buffer.
+use mathlib.Core.Path.{_≡_, refl, sym, ap, _∙_}
+use mathlib.Core.List.{List, [], _∷_, _++_}
+use Prim.Native.Nat.{ℕ, _+_, _*_, _-_, _≤_, _<_}
+use native.Mathlib.Omega.{arith}
+use lib.ListN.{length, getD, set, take, drop, replicate, length-append, length-replicate, getD-replicate}
+use lib.Seq.{take-all}
+use Rattle.words.specs.Bytes.{bytesOf, part, splice}
+use Rattle.words.proofs.Numbers.{length-bytes}
+use Rattle.words.proofs.Splice.{length-splice}
+use Rattle.words.proofs.Loops.{sets-splice, grow, copy-next}
+use Rattle.message.specs.Totals.{totalsHeader}
+use Rattle.message.proofs.Writing.{length-totals-header}
+use Rattle.table.specs.Places.{totalsAt, idsAt}
+use Rattle.table.specs.Writing.{startBytes, decidedAs, closingBytes}
+use Rattle.table.specs.declared.Table.{Table}
+
+-- ---- cleared bytes
+module _ (s : List ℕ) (a n i : ℕ) where
+  pub clear-next : a + n ≤ length s → i < n
+      → set (splice s a (take i (replicate n 0))) (a + i) 0 ≡ splice s a (take (i + 1) (replicate n 0))
+  clear-next h k =
+      let zeros : List ℕ = replicate n 0 in
+      let l : length zeros ≡ n = length-replicate n 0 in
+      let e : getD zeros i 0 ≡ 0 = getD-replicate n i 0 0 k in
+      ap (λ (v : ℕ). set (splice s a (take i zeros)) (a + i) v) (sym e) ∙ copy-next s a zeros i (omega arith) (omega arith)
+
+  pub clear-all : n ≤ i → splice s a (take i (replicate n 0)) ≡ splice s a (replicate n 0)
+  clear-all h =
+      let zeros : List ℕ = replicate n 0 in
+      let l : length zeros ≡ n = length-replicate n 0 in
+      ap (splice s a) (take-all i zeros (omega arith))
+
+-- ---- the header of a fresh table
+pub start-written : (s : List ℕ) (servers own returns n : ℕ) → 12 ≤ length s
+    → splice
+    (splice
+    (splice
+    (splice (set (set (set (set s 0 1) 1 0) 2 servers) 3 own) 4 (bytesOf 2 returns)) 6 (bytesOf 2 0)) 8 (bytesOf 2 0)) 10 (bytesOf 2 n)
+    ≡ splice s 0 (startBytes servers own returns n)
+unfolding startBytes
+start-written s servers own returns n h =
+    let first : List ℕ = 1 ∷ 0 ∷ servers ∷ own ∷ [] in
+    let six : length (first ++ bytesOf 2 returns) ≡ 6 = simp (length-append, length-bytes) in
+    let eight : length (first ++ bytesOf 2 returns ++ bytesOf 2 0) ≡ 8 = simp (length-append, length-bytes) in
+    let ten : length (first ++ bytesOf 2 returns ++ bytesOf 2 0 ++ bytesOf 2 0) ≡ 10 = simp (length-append, length-bytes) in
+    rw (
+      sets-splice s 0 first (omega arith),
+      grow s 0 first (bytesOf 2 returns) 4 refl (omega arith),
+      grow s 0 (first ++ bytesOf 2 returns) (bytesOf 2 0) 6 six (omega arith),
+      grow s 0 (first ++ bytesOf 2 returns ++ bytesOf 2 0) (bytesOf 2 0) 8 eight (omega arith),
+    )
+    (grow s 0 (first ++ bytesOf 2 returns ++ bytesOf 2 0 ++ bytesOf 2 0) (bytesOf 2 n) 10 ten (omega arith))
+
+-- ---- a decided return
+pub decided-written : (k : Table) (accepted id : ℕ) (t : List ℕ) → 12 ≤ length t
+    → idsAt (k .sheet) (k .published) + 4 * k .decided + 4 ≤ length t
+    → set
+    (splice
+    (splice (splice t 6 (bytesOf 2 (k .decided + 1))) 8 (bytesOf 2 (k .accepted + accepted)))
+    (idsAt (k .sheet) (k .published) + 4 * k .decided) (bytesOf 4 id)) 1 0
+    ≡ decidedAs k accepted id t
+unfolding decidedAs
+decided-written k accepted id t h room =
+    let at = idsAt (k .sheet) (k .published) + 4 * k .decided in
+    let counts : List ℕ = bytesOf 2 (k .decided + 1) ++ bytesOf 2 (k .accepted + accepted) in
+    let two : length (bytesOf 2 (k .decided + 1)) ≡ 2 = length-bytes 2 (k .decided + 1) in
+    let four : length counts ≡ 4 = simp (length-append, length-bytes) in
+    let id-four : length (bytesOf 4 id) ≡ 4 = length-bytes 4 id in
+    let l : length (splice t 6 counts) ≡ length t = length-splice t 6 counts (omega arith) in
+    let noted : List ℕ = splice (splice t 6 counts) at (bytesOf 4 id) in
+    let m : length noted ≡ length (splice t 6 counts) = length-splice (splice t 6 counts) at (bytesOf 4 id) (omega arith) in
+    rw (grow t 6 (bytesOf 2 (k .decided + 1)) (bytesOf 2 (k .accepted + accepted)) 2 two (omega arith))
+    (sets-splice noted 1 (0 ∷ []) (omega arith))
+
+-- ---- the closing message
+pub closing-written : (k : Table) (t out : List ℕ) → 6 ≤ length out
+    → splice (splice out 0 (totalsHeader (k .own) (k .accepted))) 6
+    (take (idsAt (k .sheet) (k .published) - totalsAt (k .sheet)) (drop (totalsAt (k .sheet)) t))
+    ≡ splice out 0 (closingBytes k t)
+unfolding closingBytes
+closing-written k t out h =
+    let e : idsAt (k .sheet) (k .published) - totalsAt (k .sheet) ≡ 4 * k .published = omega arith in
+    rw e
+    (grow out 0 (totalsHeader (k .own) (k .accepted)) (part (totalsAt (k .sheet)) (4 * k .published) t) 6
+    (length-totals-header (k .own) (k .accepted)) (omega arith))

@@ -1,0 +1,147 @@
+-- `table::head` meets its contract. A start that is sound gives the reads their room; the answer of the sheet's
+-- reader decides the rest (`head-refused`, `head-counted`). Assumes nothing.
+use mathlib.Core.Path.{_≡_, sym, _∙_}
+use native.Mathlib.Omega.{arith}
+use borrow.Author.Tests.{not-true, not-false}
+use Rattle.table.proofs.Header.{started, head-not-started, head-refused, head-counted}
+use borrow.Author.Needs.{needs}
+use Rattle.table.proofs.head.Statement.{statement}
+use Rattle.table.proofs.head.Tie as tie
+
+start-sound-requires : tie.Need-start-sound-requires
+start-sound-requires c κs = search needs
+
+returns : tie.Need-returns
+returns c = head-not-started (c .before .before .before .args .t .now) (sym (c .before .start-sound .ensures) ∙ not-true _ (c .if1 .taken))
+
+read-u16-requires : tie.Need-read-u16-requires
+read-u16-requires c κs =
+    let g = c .before in
+    let f = started (g .before .before .args .t .now) (g .start-sound .result) (g .start-sound .ensures) (c .if1 .left) in
+    omega (arith, f)
+
+cast-n : tie.Need-cast-n
+cast-n c = search needs
+
+add-end : tie.Need-add-end
+add-end c = search needs
+
+sub-read : tie.Need-sub-read
+sub-read c = search needs
+
+part-read-start : tie.Need-part-read-start
+part-read-start c = search needs
+
+part-read-end : tie.Need-part-read-end
+part-read-end c =
+    let g = c .before .before in
+    let f = started (g .before .before .args .t .now) (g .start-sound .result) (g .start-sound .ensures) (c .before .if1 .left) in
+    omega (arith, f)
+
+read-requires : tie.Need-read-requires
+read-requires c κs = search needs
+
+enum-told : tie.Need-enum-told
+enum-told c = search needs
+
+enum-known-counts : tie.Need-enum-known-counts
+enum-known-counts c = search needs
+
+shared-slice-read-wide : tie.Need-shared-slice-read-wide
+shared-slice-read-wide c =
+    let g = c .before .before .before .before .before .before .before .before in
+    let f = started (g .before .before .args .t .now) (g .start-sound .result) (g .start-sound .ensures) (c .before .before .before .before .before .before .before .if1 .left) in
+    omega (arith, f)
+
+wide-requires : tie.Need-wide-requires
+wide-requires c κs = search needs
+
+shared-slice-read-wide-2 : tie.Need-shared-slice-read-wide-2
+shared-slice-read-wide-2 c =
+    let g = c .before .before .before .before .before .before .before .before .before .before in
+    let f = started (g .before .before .args .t .now) (g .start-sound .result) (g .start-sound .ensures) (c .before .before .before .before .before .before .before .before .before .if1 .left) in
+    omega (arith, f)
+
+wide-requires-2 : tie.Need-wide-requires-2
+wide-requires-2 c κs = search needs
+
+shared-slice-read-wide-3 : tie.Need-shared-slice-read-wide-3
+shared-slice-read-wide-3 c =
+    let g = c .before .before .before .before .before .before .before .before .before .before .before .before in
+    let f = started (g .before .before .args .t .now) (g .start-sound .result) (g .start-sound .ensures) (c .before .before .before .before .before .before .before .before .before .before .before .if1 .left) in
+    omega (arith, f)
+
+wide-requires-3 : tie.Need-wide-requires-3
+wide-requires-3 c κs = search needs
+
+read-u16-requires-2 : tie.Need-read-u16-requires-2
+read-u16-requires-2 c κs =
+    let g = c .before .before .before .before .before .before .before .before .before .before .before .before .before in
+    let f = started (g .before .before .args .t .now) (g .start-sound .result) (g .start-sound .ensures) (c .before .before .before .before .before .before .before .before .before .before .before .before .if1 .left) in
+    omega (arith, f)
+
+read-u16-requires-3 : tie.Need-read-u16-requires-3
+read-u16-requires-3 c κs =
+    let g = c .before .before .before .before .before .before .before .before .before .before .before .before .before .before in
+    let f = started (g .before .before .args .t .now) (g .start-sound .result) (g .start-sound .ensures) (c .before .before .before .before .before .before .before .before .before .before .before .before .before .if1 .left) in
+    omega (arith, f)
+
+read-u16-requires-4 : tie.Need-read-u16-requires-4
+read-u16-requires-4 c κs =
+    let g = c .before .before .before .before .before .before .before .before .before .before .before .before .before .before .before in
+    let f = started (g .before .before .args .t .now) (g .start-sound .result) (g .start-sound .ensures) (c .before .before .before .before .before .before .before .before .before .before .before .before .before .before .if1 .left) in
+    omega (arith, f)
+
+returns-2 : tie.Need-returns-2
+returns-2 c =
+    let u = c .before .before in
+    let n = u .before .before in
+    let g = n .before .before in
+    head-refused (g .before .before .args .t .now) (n .read-u16 .result) (n .read-u16 .ensures)
+    (sym (g .start-sound .ensures) ∙ not-false _ (n .before .if1 .left)) _ (sym (u .read .ensures) ∙ c .enum-told .given .1)
+
+returns-3 : tie.Need-returns-3
+returns-3 c =
+    let w = c .before .before .before .before .before .before .before in
+    let k = w .before .before .before in
+    let u = k .before .before in
+    let n = u .before .before in
+    let g = n .before .before in
+    rw (
+      w .wide .ensures,
+      c .before .before .before .before .before .wide2 .ensures,
+      c .before .before .before .wide3 .ensures,
+      c .before .before .read-u162 .ensures,
+      c .before .read-u163 .ensures,
+      c .read-u164 .ensures,
+      n .read-u16 .ensures,
+    )
+    (head-counted (g .before .before .args .t .now) (n .read-u16 .result) (n .read-u16 .ensures)
+    (sym (g .start-sound .ensures) ∙ not-false _ (n .before .if1 .left)) _ (sym (u .read .ensures) ∙ k .counts .given .1))
+
+pub head-spec : {M : Type 1} → statement M
+head-spec =
+    tie.close
+    (tie.spec
+    start-sound-requires
+    returns
+    read-u16-requires
+    cast-n
+    add-end
+    sub-read
+    part-read-start
+    part-read-end
+    read-requires
+    enum-told
+    enum-known-counts
+    shared-slice-read-wide
+    wide-requires
+    shared-slice-read-wide-2
+    wide-requires-2
+    shared-slice-read-wide-3
+    wide-requires-3
+    read-u16-requires-2
+    read-u16-requires-3
+    read-u16-requires-4
+    returns-2
+    returns-3)

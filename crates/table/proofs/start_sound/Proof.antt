@@ -1,0 +1,92 @@
+-- `table::start_sound` meets its contract: a test that fails breaks a fact of the start (`not-started`), and where
+-- all but the last hold the last decides (`start-but`). Assumes nothing.
+use native.Mathlib.Omega.{arith}
+use Rattle.table.proofs.Header.{not-started, start-but}
+use borrow.Author.Needs.{needs}
+use Rattle.table.proofs.start_sound.Statement.{statement}
+use Rattle.table.proofs.start_sound.Tie as tie
+
+returns : tie.Need-returns
+returns c = not-started (c .before .before .args .t .now) (λ f. omega arith)
+
+shared-slice-read-if2 : tie.Need-shared-slice-read-if2
+shared-slice-read-if2 c = search needs
+
+returns-2 : tie.Need-returns-2
+returns-2 c = not-started (c .before .before .before .before .args .t .now) (λ f. c .if2 .taken (f .byte-is))
+
+shared-slice-read-if3 : tie.Need-shared-slice-read-if3
+shared-slice-read-if3 c = search needs
+
+returns-3 : tie.Need-returns-3
+returns-3 c = not-started (c .before .before .before .before .before .before .args .t .now) (λ f. omega arith)
+
+shared-slice-read-if4 : tie.Need-shared-slice-read-if4
+shared-slice-read-if4 c = search needs
+
+returns-4 : tie.Need-returns-4
+returns-4 c = not-started (c .before .before .before .before .before .before .before .before .args .t .now) (λ f. omega arith)
+
+shared-slice-read-if5 : tie.Need-shared-slice-read-if5
+shared-slice-read-if5 c = search needs
+
+returns-5 : tie.Need-returns-5
+returns-5 c = not-started (c .before .before .before .before .before .before .before .before .before .before .args .t .now) (λ f. omega arith)
+
+shared-slice-read-if6 : tie.Need-shared-slice-read-if6
+shared-slice-read-if6 c = search needs
+
+shared-slice-read-if6-2 : tie.Need-shared-slice-read-if6-2
+shared-slice-read-if6-2 c = search needs
+
+returns-6 : tie.Need-returns-6
+returns-6 c = not-started (c .before .before .before .before .before .before .before .before .before .before .before .before .before .args .t .now) (λ f. omega arith)
+
+read-u16-requires : tie.Need-read-u16-requires
+read-u16-requires c κs = search needs
+
+returns-7 : tie.Need-returns-7
+returns-7 c = not-started (c .before .before .before .before .before .before .before .before .before .before .before .before .before .before .before .args .t .now) (λ f. omega arith)
+
+returns-8 : tie.Need-returns-8
+returns-8 c = not-started (c .before .before .before .before .before .before .before .before .before .before .before .before .before .before .before .before .args .t .now) (λ f. omega arith)
+
+read-u16-requires-2 : tie.Need-read-u16-requires-2
+read-u16-requires-2 c κs = search needs
+
+cast-result : tie.Need-cast-result
+cast-result c = search needs
+
+add-result : tie.Need-add-result
+add-result c = search needs
+
+returns-9 : tie.Need-returns-9
+returns-9 c =
+    let t = c .before .before .before .before .before .before .before .before .before .before .before .before .before .before .before in
+    rw (c .read-u162 .ensures)
+    (start-but (t .before .before .args .t .now) (t .if1 .left) (c .before .before .before .before .before .before .before .before .before .before .before .before .before .if2 .left) (c .before .before .before .before .before .before .before .before .before .before .before .if3 .left) (c .before .before .before .before .before .before .before .before .before .if4 .left) (c .before .before .before .before .before .before .before .if5 .left)
+    (c .before .before .before .before .if6 .left) (omega arith) (omega arith))
+
+pub start-sound-spec : {M : Type 1} → statement M
+start-sound-spec =
+    tie.close
+    (tie.spec
+    returns
+    shared-slice-read-if2
+    returns-2
+    shared-slice-read-if3
+    returns-3
+    shared-slice-read-if4
+    returns-4
+    shared-slice-read-if5
+    returns-5
+    shared-slice-read-if6
+    shared-slice-read-if6-2
+    returns-6
+    read-u16-requires
+    returns-7
+    returns-8
+    read-u16-requires-2
+    cast-result
+    add-result
+    returns-9)

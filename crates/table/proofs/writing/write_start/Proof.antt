@@ -1,0 +1,75 @@
+-- `table::writing::write_start` meets its contract: the pieces are put there one after another (`start-written`).
+-- Assumes nothing.
+use native.Mathlib.Omega.{arith}
+use lib.ListN.{length-set}
+use Rattle.table.proofs.Pieces.{start-written}
+use borrow.Author.Needs.{needs}
+use Rattle.table.proofs.writing.write_start.Statement.{statement}
+use Rattle.table.proofs.writing.write_start.Tie as tie
+
+slice-write-t : tie.Need-slice-write-t
+slice-write-t c = search needs
+
+slice-write-t-2 : tie.Need-slice-write-t-2
+slice-write-t-2 c = simp length-set (omega arith)
+
+slice-write-t-3 : tie.Need-slice-write-t-3
+slice-write-t-3 c = simp length-set (omega arith)
+
+slice-write-t-4 : tie.Need-slice-write-t-4
+slice-write-t-4 c = simp length-set (omega arith)
+
+write-u16-requires : tie.Need-write-u16-requires
+write-u16-requires c κs = simp length-set (omega arith)
+
+write-u16-requires-2 : tie.Need-write-u16-requires-2
+write-u16-requires-2 c κs = omega (arith, simp length-set at (c .before .before .before .write-u16 .kept .0))
+
+write-u16-requires-3 : tie.Need-write-u16-requires-3
+write-u16-requires-3 c κs = omega (arith, simp length-set at (c .before .before .before .before .before .before .before .write-u16 .kept .0), c .before .before .before .write-u162 .kept .0)
+
+write-u16-requires-4 : tie.Need-write-u16-requires-4
+write-u16-requires-4 c κs =
+    omega (
+      arith,
+      simp length-set at (c .before .before .before .before .before .before .before .before .before .before .before .write-u16 .kept .0),
+      c .before .before .before .before .before .before .before .write-u162 .kept .0,
+      c .before .before .before .write-u163 .kept .0,
+      c .before .before .before .before .before .before .before .before .before .before .before .before .before .before .pre,
+    )
+
+same-length : tie.Need-same-length
+same-length c =
+    omega (
+      arith,
+      simp length-set at (c .before .before .before .before .before .before .before .before .before .before .before .before .before .before .write-u16 .kept .0),
+      c .before .before .before .before .before .before .before .before .before .before .write-u162 .kept .0,
+      c .before .before .before .before .before .before .write-u163 .kept .0,
+      c .before .before .write-u164 .kept .0,
+    )
+
+returns : tie.Need-returns
+returns c =
+    let a = c .before .before .before .before .before .before .before .before .before .before .before .before .before .before .before .before .before in
+    cc (
+      start-written (a .args .t .now) (a .args .servers) (a .args .own) (a .args .returns) (a .args .n) (a .pre),
+      c .before .before .write-u164 .ensures,
+      c .before .before .before .before .before .before .write-u163 .ensures,
+      c .before .before .before .before .before .before .before .before .before .before .write-u162 .ensures,
+      c .before .before .before .before .before .before .before .before .before .before .before .before .before .before .write-u16 .ensures,
+    )
+
+pub write-start-spec : {M : Type 1} → statement M
+write-start-spec =
+    tie.close
+    (tie.spec
+    slice-write-t
+    slice-write-t-2
+    slice-write-t-3
+    slice-write-t-4
+    write-u16-requires
+    write-u16-requires-2
+    write-u16-requires-3
+    write-u16-requires-4
+    same-length
+    returns)

@@ -1,0 +1,119 @@
+-- The reading of a table: what a sound table says, in the numbers of code, and the parts of the judgement.
+-- Assumes nothing.
+use mathlib.Core.Path.{_≡_}
+use mathlib.Core.Bool.{Bool, true, false, cond, _&&_}
+use mathlib.Core.List.{List}
+use Prim.Native.Nat.{ℕ, _+_, _*_, _≤_, _<_}
+use lib.Dec.{eqb, ltb, leb}
+use lib.ListN.{length, getD}
+use Rattle.words.specs.Bytes.{valueOf, part, elementsOf, allBelow}
+use Rattle.rules.specs.Settings.{document01}
+use Rattle.rules.specs.Columns.{within, entriesIn, publishedIn, sheetFault, totalsFit}
+use Rattle.rules.specs.Circuit.{gatesIn}
+use Rattle.rules.specs.Table.{stageByte, serversIn, ownIn, returnsIn, decidedIn, acceptedIn, sheetSize, sheetIn, columnsIn}
+use Rattle.rules.specs.Table.{headerSound, tableSound}
+use Rattle.table.specs.Places.{totalsAt, waitAt, lengthAt, sizeOf}
+use Rattle.table.specs.declared.Table.{Table}
+use Rattle.table.specs.declared.Found.{Found}
+use Rattle.table.specs.declared.Found.the-variants as answer
+
+-- ---- what a table says
+unfoldable pub tableOf : List ℕ → Table
+tableOf T =
+    record {
+      stage = stageByte document01 T;
+      servers = serversIn document01 T;
+      own = ownIn document01 T;
+      returns = returnsIn document01 T;
+      decided = decidedIn document01 T;
+      accepted = acceptedIn document01 T;
+      sheet = sheetSize document01 T;
+      entries = entriesIn (columnsIn document01 T);
+      published = publishedIn (columnsIn document01 T);
+      gates = gatesIn (columnsIn document01 T);
+    }
+
+-- what the reader answers, and what it has once the header and the sheet are sound
+unfoldable pub foundIn : List ℕ → Found
+foundIn T = cond (tableSound document01 T) (answer.Table (tableOf T)) answer.Unsound
+
+unfoldable pub headIn : List ℕ → Found
+headIn T = cond (headerSound document01 T) (answer.Table (tableOf T)) answer.Unsound
+
+-- ---- the parts of the judgement: the header before the sheet is read
+unfoldable pub startSound : List ℕ → Bool
+startSound T =
+    leb 12 (length T)
+    && (eqb (getD T 0 0) 1
+    && (leb (getD T 1 0) 3
+    && (within 2 8 (getD T 2 0)
+    && (ltb (getD T 3 0) (getD T 2 0)
+    && (within 1 1024 (valueOf (part 4 2 T)) && leb (12 + valueOf (part 10 2 T)) (length T))))))
+
+pub record Started (T : List ℕ) : Type 0 where
+  pub header-long : 12 ≤ length T
+  pub byte-is : getD T 0 0 ≡ 1
+  pub stage-most : getD T 1 0 ≤ 3
+  pub servers-some : 2 ≤ getD T 2 0
+  pub servers-few : getD T 2 0 ≤ 8
+  pub own-one : getD T 3 0 < getD T 2 0
+  pub returns-some : 1 ≤ valueOf (part 4 2 T)
+  pub returns-most : valueOf (part 4 2 T) ≤ 1024
+  pub sheet-long : 12 + valueOf (part 10 2 T) ≤ length T
+
+-- r above M and below p, s below p: rules' allowedPair
+unfoldable pub pairSound : ℕ → ℕ → ℕ → Bool
+pairSound gates r s = ltb gates r && (ltb r 2147483647 && ltb s 2147483647)
+
+-- ---- counts, totals and the return that waits, by the numbers of the header
+module _ (k : Table) (T : List ℕ) where
+  unfoldable pub countsSoundAt : Bool
+  countsSoundAt =
+      totalsFit document01 (k .returns) (columnsIn document01 T)
+      && (leb (lengthAt (k .sheet) (k .published) (k .returns) (sizeOf (k .entries) (k .gates))) (length T)
+      && (leb (k .decided + cond (within 1 2 (k .stage)) 1 0) (k .returns) && leb (k .accepted) (k .decided)))
+
+  unfoldable pub totalsSoundAt : Bool
+  totalsSoundAt = allBelow 2147483647 (elementsOf 4 (part (totalsAt (k .sheet)) (4 * k .published) T))
+
+  unfoldable pub waitingSoundAt : Bool
+  waitingSoundAt =
+      let w = waitAt (k .sheet) (k .published) (k .returns) in
+      pairSound (k .gates) (valueOf (part (w + 4) 4 T)) (valueOf (part (w + 4 + 4) 4 T))
+      && (allBelow 2147483647 (elementsOf 4 (part (w + 4) 24 T))
+      && allBelow 2147483647 (elementsOf 4 (part (w + 4 + 24) (4 * sizeOf (k .entries) (k .gates)) T)))
+
+-- ---- facts that the calls require
+-- the numbers of a table whose header and sheet are sound
+pub record Limited (k : Table) : Type 0 where
+  pub stage-most : k .stage ≤ 3
+  pub servers-some : 2 ≤ k .servers
+  pub servers-few : k .servers ≤ 8
+  pub own-one : k .own < k .servers
+  pub returns-some : 1 ≤ k .returns
+  pub returns-most : k .returns ≤ 1024
+  pub sheet-most : k .sheet ≤ 256
+  pub entries-most : k .entries ≤ 256
+  pub published-most : k .published ≤ 256
+  pub gates-most : k .gates ≤ 256
+
+pub record Headed (T : List ℕ) (k : Table) : Type 0 where
+  pub says : k ≡ tableOf T
+  pub limited : Limited k
+  pub header : headerSound document01 T ≡ true
+  pub sheet-long : 12 + k .sheet ≤ length T
+  pub no-fault : sheetFault (sheetIn document01 T) ≡ 0
+
+-- the table lies within its slice
+pub record Whole (T : List ℕ) (k : Table) : Type 0 where
+  pub limited : Limited k
+  pub long : lengthAt (k .sheet) (k .published) (k .returns) (sizeOf (k .entries) (k .gates)) ≤ length T
+
+-- a sound table
+pub record Sound (T : List ℕ) (k : Table) : Type 0 where
+  pub says : k ≡ tableOf T
+  pub limited : Limited k
+  pub is-sound : tableSound document01 T ≡ true
+  pub long : lengthAt (k .sheet) (k .published) (k .returns) (sizeOf (k .entries) (k .gates)) ≤ length T
+  pub decided-few : k .decided + cond (within 1 2 (k .stage)) 1 0 ≤ k .returns
+  pub accepted-few : k .accepted ≤ k .decided

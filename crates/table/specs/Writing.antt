@@ -1,0 +1,40 @@
+-- What is written into a table and into the closing message, in the numbers of code.
+-- Assumes nothing.
+use mathlib.Core.Path.{_≡_}
+use mathlib.Core.List.{List, [], _∷_, _++_}
+use Prim.Native.Nat.{ℕ, _+_, _*_, _≤_, _<_}
+use lib.ListN.{length}
+use Rattle.words.specs.Bytes.{bytesOf, part, splice}
+use Rattle.message.specs.Totals.{totalsHeader}
+use Rattle.table.specs.Places.{totalsAt, idsAt}
+use Rattle.table.specs.Reading.{Whole}
+use Rattle.table.specs.declared.Table.{Table}
+
+-- the header of a fresh table
+unfoldable pub startBytes : ℕ → ℕ → ℕ → ℕ → List ℕ
+startBytes servers own returns n =
+    (1 ∷ 0 ∷ servers ∷ own ∷ []) ++ bytesOf 2 returns ++ bytesOf 2 0 ++ bytesOf 2 0 ++ bytesOf 2 n
+
+-- a table whose waiting return is decided: rules' decidedTable
+unfoldable pub decidedAs : Table → ℕ → ℕ → List ℕ → List ℕ
+decidedAs k accepted id t =
+    splice
+    (splice
+    (splice t 6 (bytesOf 2 (k .decided + 1) ++ bytesOf 2 (k .accepted + accepted)))
+    (idsAt (k .sheet) (k .published) + 4 * k .decided)
+    (bytesOf 4 id))
+    1 (0 ∷ [])
+
+-- a return more can be decided
+pub record Decidable (t : List ℕ) (k : Table) : Type 0 where
+  pub whole : Whole t k
+  pub some-room : k .decided < k .returns
+  pub accepted-few : k .accepted ≤ k .decided
+
+-- the closing message: rules' closeBytes
+unfoldable pub closingBytes : Table → List ℕ → List ℕ
+closingBytes k t = totalsHeader (k .own) (k .accepted) ++ part (totalsAt (k .sheet)) (4 * k .published) t
+
+pub record Closable (t : List ℕ) (k : Table) (room : ℕ) : Type 0 where
+  pub whole : Whole t k
+  pub enough : 6 + 4 * k .published ≤ room

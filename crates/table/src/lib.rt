@@ -1,0 +1,231 @@
+// A server's table in lent bytes: its places, its reading, and what is written into it. Read here: what a table says,
+// where its length, stage, counts, sheet, numbers and elements keep to the limits. The contracts cite rules and specs/.
+ghost use mathlib.Core.Path.{_≡_};
+ghost use mathlib.Core.Bool.{cond};
+ghost use Rattle.words.specs.Bytes.{elementsOf};
+ghost use Rattle.rules.specs.Columns.{within};
+ghost use Rattle.rules.specs.Server.{has};
+ghost use Rattle.table.specs.Reading.{startSound, headIn, foundIn};
+ghost use Rattle.table.specs.Reading.{countsSoundAt, totalsSoundAt, pairSound, waitingSoundAt, Headed, Whole};
+
+pub mod places;
+pub mod writing;
+
+use places::ids_place;
+use places::share_size;
+use places::table_length;
+use places::totals_place;
+use places::wait_place;
+use sheet::Reading;
+
+// What a table says: its header, and what its sheet comes to.
+pub struct Table {
+    pub stage: u32,
+    pub servers: u32,
+    pub own: u32,
+    pub returns: u32,
+    pub decided: u32,
+    pub accepted: u32,
+    // the bytes of the sheet
+    pub sheet: usize,
+    pub entries: usize,
+    pub published: usize,
+    pub gates: usize,
+}
+
+pub enum Found {
+    Table(Table),
+    Unsound,
+}
+
+fn wide(x: u8) -> u32
+    ensures { λ r. ⌜ r ≡ x ⌝ }
+{
+    x as u32
+}
+
+// Whether an id is in a run of ids.
+pub fn has_id(ids: &[u8], id: u32) -> bool
+    ensures { λ r. ⌜ r ≡ has id (elementsOf 4 (now (ids .entry))) ⌝ }
+{
+    let mut at: usize = 0;
+    while 4 <= ids.len() - at {
+        if words::read_u32(ids, at) == id {
+            return true;
+        }
+        at += 4;
+    }
+    false
+}
+
+// Whether a return waits at a stage.
+pub fn waits(stage: u32) -> bool
+    ensures { λ r. ⌜ r ≡ within 1 2 stage ⌝ }
+{
+    if stage < 1 {
+        return false;
+    }
+    stage <= 2
+}
+
+// How many returns wait at a stage.
+fn waiting(stage: u32) -> u32
+    ensures { λ r. ⌜ r ≡ cond (within 1 2 stage) 1 0 ⌝ }
+{
+    if waits(stage) {
+        return 1;
+    }
+    0
+}
+
+// Whether the header is sound, as far as it can be judged before the sheet is read.
+fn start_sound(t: &[u8]) -> bool
+    ensures { λ r. ⌜ r ≡ startSound (now (t .entry)) ⌝ }
+{
+    if t.len() < 12 {
+        return false;
+    }
+    if t[0] != 1 {
+        return false;
+    }
+    if 3 < t[1] {
+        return false;
+    }
+    if t[2] < 2 {
+        return false;
+    }
+    if 8 < t[2] {
+        return false;
+    }
+    if t[2] <= t[3] {
+        return false;
+    }
+    let returns = words::read_u16(t, 4);
+    if returns < 1 {
+        return false;
+    }
+    if 1024 < returns {
+        return false;
+    }
+    12 + (words::read_u16(t, 10) as usize) <= t.len()
+}
+
+// What a table says whose header and sheet are sound.
+fn head(t: &[u8]) -> Found
+    ensures { λ r. ⌜ r ≡ headIn (now (t .entry)) ⌝ }
+{
+    if !start_sound(t) {
+        return Found::Unsound;
+    }
+    let n = words::read_u16(t, 10) as usize;
+    let end = 12 + n;
+    match sheet::read(&t[12..end]) {
+        Reading::Refused(_) => Found::Unsound,
+        Reading::Counts(counts) => Found::Table(Table {
+            stage: wide(t[1]),
+            servers: wide(t[2]),
+            own: wide(t[3]),
+            returns: words::read_u16(t, 4),
+            decided: words::read_u16(t, 6),
+            accepted: words::read_u16(t, 8),
+            sheet: n,
+            entries: counts.entries,
+            published: counts.published,
+            gates: counts.gates,
+        }),
+    }
+}
+
+// Whether the totals can not wrap, the table lies within its slice, and its counts are within N.
+fn counts_sound(t: &[u8], k: Table) -> bool
+    requires { ⌜ Headed (now t) k ⌝ }
+    ensures { λ r. ⌜ r ≡ countsSoundAt k (now (t .entry)) ⌝ }
+{
+    let end = 12 + k.sheet;
+    if sheet::totals::returns_refusal(&t[12..end], k.returns) != 0 {
+        return false;
+    }
+    if t.len()
+        < table_length(
+            k.sheet,
+            k.published,
+            k.returns,
+            share_size(k.entries, k.gates),
+        )
+    {
+        return false;
+    }
+    if k.returns < k.decided {
+        return false;
+    }
+    if k.returns - k.decided < waiting(k.stage) {
+        return false;
+    }
+    k.accepted <= k.decided
+}
+
+// Whether the totals are elements.
+fn totals_sound(t: &[u8], k: Table) -> bool
+    requires { ⌜ Whole (now t) k ⌝ }
+    ensures { λ r. ⌜ r ≡ totalsSoundAt k (now (t .entry)) ⌝ }
+{
+    let start = totals_place(k.sheet);
+    let end = ids_place(k.sheet, k.published);
+    words::elements_below(&t[start..end], field::P)
+}
+
+// Whether r and s are a pair for a sheet with so many multiplications.
+pub fn pair_sound(gates: usize, r: u64, s: u64) -> bool
+    ensures { λ b. ⌜ b ≡ pairSound gates r s ⌝ }
+{
+    if r <= (gates as u64) {
+        return false;
+    }
+    if 2147483647 <= r {
+        return false;
+    }
+    s < 2147483647
+}
+
+// Whether the return that waits has a pair, and its numbers are elements.
+fn waiting_sound(t: &[u8], k: Table) -> bool
+    requires { ⌜ Whole (now t) k ⌝ }
+    ensures { λ r. ⌜ r ≡ waitingSoundAt k (now (t .entry)) ⌝ }
+{
+    let at = wait_place(k.sheet, k.published, k.returns) + 4;
+    let r = words::read_u32(t, at);
+    let s = words::read_u32(t, at + 4);
+    if !pair_sound(k.gates, r as u64, s as u64) {
+        return false;
+    }
+    let share = at + 24;
+    if !words::elements_below(&t[at..share], field::P) {
+        return false;
+    }
+    let end = share + 4 * share_size(k.entries, k.gates);
+    words::elements_below(&t[share..end], field::P)
+}
+
+// What a sound table says.
+pub fn read(t: &[u8]) -> Found
+    ensures { λ r. ⌜ r ≡ foundIn (now (t .entry)) ⌝ }
+{
+    match head(t) {
+        Found::Unsound => Found::Unsound,
+        Found::Table(k) => {
+            if !counts_sound(t, k) {
+                return Found::Unsound;
+            }
+            if !totals_sound(t, k) {
+                return Found::Unsound;
+            }
+            if !waits(k.stage) {
+                return Found::Table(k);
+            }
+            if !waiting_sound(t, k) {
+                return Found::Unsound;
+            }
+            Found::Table(k)
+        }
+    }
+}

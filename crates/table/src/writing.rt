@@ -1,0 +1,63 @@
+// What is written: the header of a fresh table, the marks of a return that is decided, the closing message.
+ghost use mathlib.Core.Path.{_≡_};
+ghost use Prim.Native.Nat.{_+_, _≤_};
+ghost use lib.ListN.{length, replicate};
+ghost use Rattle.words.specs.Bytes.{splice};
+ghost use Rattle.table.specs.Writing.{startBytes, decidedAs, Decidable, closingBytes, Closable};
+use crate::places::ids_place;
+use crate::places::totals_place;
+use crate::Table;
+
+// Clears n bytes from `at`.
+pub fn clear(t: &mut [u8], at: usize, n: usize)
+    requires { ⌜ at + n ≤ length (now t) ⌝ }
+    ensures { λ _. ⌜ now (t .exit) ≡ splice (now (t .entry)) at (replicate n 0) ⌝ }
+{
+    let mut i: usize = 0;
+    while i < n {
+        t[at + i] = 0;
+        i += 1;
+    }
+}
+
+// Writes the header of a fresh table with a sheet of n bytes.
+pub fn write_start(t: &mut [u8], servers: u8, own: u8, returns: u32, n: u32)
+    requires { ⌜ 12 ≤ length (now t) ⌝ }
+    ensures { λ _. ⌜ now (t .exit) ≡ splice (now (t .entry)) 0 (startBytes servers own returns n) ⌝ }
+{
+    t[0] = 1;
+    t[1] = 0;
+    t[2] = servers;
+    t[3] = own;
+    words::write_u16(t, 4, returns);
+    words::write_u16(t, 6, 0);
+    words::write_u16(t, 8, 0);
+    words::write_u16(t, 10, n);
+}
+
+// Notes that the return that waits is decided: the counts, its id, and the stage.
+pub fn decide(t: &mut [u8], k: Table, accepted: u32, id: u32)
+    requires { ⌜ Decidable (now t) k × (accepted ≤ 1) ⌝ }
+    ensures { λ _. ⌜ now (t .exit) ≡ decidedAs k accepted id (now (t .entry)) ⌝ }
+{
+    let decided = k.decided;
+    words::write_u16(t, 6, decided + 1);
+    words::write_u16(t, 8, k.accepted + accepted);
+    words::write_u32(
+        t,
+        ids_place(k.sheet, k.published) + 4 * (decided as usize),
+        id,
+    );
+    t[1] = 0;
+}
+
+// Writes the closing message of a table.
+pub fn write_closing(t: &[u8], k: Table, out: &mut [u8])
+    requires { ⌜ Closable (now t) k (length (now out)) ⌝ }
+    ensures { λ _. ⌜ now (out .exit) ≡ splice (now (out .entry)) 0 (closingBytes k (now (t .entry))) ⌝ }
+{
+    message::write_totals_header(out, k.own as u8, k.accepted);
+    let start = totals_place(k.sheet);
+    let end = ids_place(k.sheet, k.published);
+    words::copy(out, 6, &t[start..end]);
+}

@@ -1,1 +1,7 @@
-// Definitions and laws only, in specs/ and proofs/: see specs/Lib.antt. There is no code in this crate.
+// Records and refusals: the definitions are in specs/. Here: the answer of a call that writes.
+
+// The number of bytes that were written, or the number of the refusal.
+pub enum Written {
+    Done(usize),
+    Refused(u32),
+}

@@ -16,7 +16,8 @@ use Rattle.rules.proofs.Limits.{within-both}
 use Rattle.table.specs.Places.{waitAt}
 use Rattle.table.specs.Reading.{tableOf, foundIn, Sound}
 use Rattle.table.specs.Writing.{decidedAs, Decidable}
-use Rattle.server.specs.Calls.{onlyIf, Drops}
+use Rattle.records.specs.Answers.{onlyIf}
+use Rattle.server.specs.Calls.{Drops}
 use Rattle.table.specs.declared.Table.{Table}
 use Rattle.table.specs.declared.Found.the-variants as answer
 use Rattle.table.proofs.Answers.{unsound}

@@ -1,17 +1,30 @@
--- What each call comes to: its answer, and what the table holds then. A refusal leaves it.
+-- What each call comes to: its answer, and what the table and the buffer hold then. A refusal leaves both.
 -- Assumes nothing.
 use mathlib.Core.Path.{_≡_}
-use mathlib.Core.Bool.{cond}
 use mathlib.Core.List.{List}
-use Prim.Native.Nat.{ℕ}
-use lib.Dec.{eqb}
+use Prim.Native.Nat.{ℕ, _+_, _*_}
+use lib.ListN.{length}
+use Rattle.words.specs.Bytes.{splice}
+use Rattle.records.specs.Answers.{answered, onlyIf}
+use Rattle.records.specs.declared.Written.{Written}
 use Rattle.rules.specs.Settings.{document01}
-use Rattle.rules.specs.Table.{dropRefused, dropTable}
+use Rattle.rules.specs.Server.{totalsLength}
+use Rattle.rules.specs.Table.{openRefusal, openLength, openBytes, dropRefused, dropTable}
+use Rattle.rules.specs.Table.{openedIn, closeRefused, closeTable, closeBytes}
 
--- what a buffer holds where a call is not refused, and what it held where it is
-unfoldable pub onlyIf : ℕ → List ℕ → List ℕ → List ℕ
-onlyIf refusal new old = cond (eqb refusal 0) new old
+-- opening a table in the buffer T
+pub record Opens (servers own : ℕ) (sheet : List ℕ) (returns : ℕ) (T : List ℕ) (r : Written) (T' : List ℕ) : Type 0 where
+  pub answer-is : r
+      ≡ answered (openRefusal document01 servers own sheet returns (length T)) (openLength document01 sheet returns)
+  pub table-is : T'
+      ≡ onlyIf (openRefusal document01 servers own sheet returns (length T))
+      (splice T 0 (openBytes document01 servers own sheet returns)) T
 
 pub record Drops (T : List ℕ) (r : ℕ) (T' : List ℕ) : Type 0 where
   pub answer-is : r ≡ dropRefused document01 T
   pub table-is : T' ≡ onlyIf (dropRefused document01 T) (dropTable document01 T) T
+
+pub record Closes (T out : List ℕ) (r : Written) (T' out' : List ℕ) : Type 0 where
+  pub answer-is : r ≡ answered (closeRefused document01 T (length out)) (totalsLength document01 (openedIn document01 T))
+  pub table-is : T' ≡ onlyIf (closeRefused document01 T (length out)) (closeTable document01 T) T
+  pub out-is : out' ≡ onlyIf (closeRefused document01 T (length out)) (splice out 0 (closeBytes document01 T)) out

@@ -1,7 +1,6 @@
 // The calls on a server's table. The definitions that the contracts cite are those of the crate rules, at document 01's
 // setting, and of specs/. A refusal leaves the table and every buffer as they were.
 ghost use Rattle.server.specs.Calls.{Drops};
-
 use table::Found;
 use table::places::wait_place;
 use table::read;

@@ -4,9 +4,9 @@ ghost use Prim.Native.Nat.{_+_, _≤_};
 ghost use lib.ListN.{length, replicate};
 ghost use Rattle.words.specs.Bytes.{splice};
 ghost use Rattle.table.specs.Writing.{startBytes, decidedAs, Decidable, closingBytes, Closable};
+use crate::Table;
 use crate::places::ids_place;
 use crate::places::totals_place;
-use crate::Table;
 
 // Clears n bytes from `at`.
 pub fn clear(t: &mut [u8], at: usize, n: usize)

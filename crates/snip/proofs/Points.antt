@@ -13,7 +13,7 @@ use Rattle.algebra.proofs.Tables.{getD-tabulate}
 use Rattle.field.specs.Residues.{prime, residues}
 use Rattle.field.proofs.Below.{sum-below}
 use Rattle.rules.specs.Judging.{through, folded}
-use Rattle.snip.specs.Walks.{members}
+use Rattle.walk.specs.Walks.{members}
 
 through-at : (z : ℕ) (ls : List ℕ) (j : ℕ) → members (z ∷ ls) j ≡ through residues z ls j
 unfolding through

@@ -20,8 +20,8 @@ use Rattle.rules.specs.Walk.{walkLefts, walkRights, walkTests}
 use Rattle.rules.proofs.Walk.{walk-is-run}
 use Rattle.snip.specs.declared.judging.Judged.{Judged}
 use Rattle.snip.specs.Judged.{judgedOf}
-use Rattle.snip.specs.Walks.{held, plain, members, outputs}
-use Rattle.snip.proofs.Meanings.{server-lefts, server-rights, server-tests}
+use Rattle.walk.specs.Walks.{held, plain, members, outputs}
+use Rattle.walk.proofs.Meanings.{server-lefts, server-rights, server-tests}
 
 module _ (cs : List Column) (k : ℕ) (xs : List ℕ) where
   abbrev x : ℕ → ℕ

@@ -10,7 +10,7 @@ use Rattle.rules.specs.Judging.{shareSize}
 use Rattle.rules.proofs.Limits.{limits}
 use Rattle.sheet.specs.declared.Counts.{Counts}
 use Rattle.snip.specs.Judged.{Share}
-use Rattle.snip.specs.Walks.{Entries, Outputs}
+use Rattle.walk.specs.Walks.{Entries, Outputs}
 
 pub record Room (s : List ℕ) (counts : Counts) (xs : List ℕ) : Type 0 where
   pub entries-are : counts .entries ≡ entriesIn (columnsOf s)

@@ -16,7 +16,7 @@ use Rattle.sheet.specs.declared.Counts.{Counts}
 use Rattle.sheet.specs.Reading.{countsOf}
 use Rattle.snip.specs.declared.judging.Judged.{Judged}
 use Rattle.snip.specs.declared.judging.Inputs.{Inputs}
-use Rattle.snip.specs.Walks.{plain, members}
+use Rattle.walk.specs.Walks.{plain, members}
 
 -- "d_i = f_i(r) - a_i, e_i = r × g_i(r) - b_i", r × h_i(r) and tau_i at server `own` with the share xs
 abbrev pub judgedOf : List Column → ℕ → List ℕ → ℕ → ℕ → Judged

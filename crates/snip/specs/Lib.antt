@@ -1,4 +1,3 @@
 -- What the contracts of this crate cite besides algebra, rules and field.
 pub mod Factorials
-pub mod Walks
 pub mod Judged

@@ -13,8 +13,7 @@ ghost use Rattle.rules.specs.Judging.{through, folded};
 ghost use Rattle.rules.specs.Walk.{walkLefts, walkRights, walkTests};
 ghost use Rattle.snip.specs.Factorials.{Tables};
 ghost use Rattle.snip.specs.Judged.{judgedOf, inputsOf, Share};
-ghost use Rattle.snip.specs.Walks.{held, plain, members, outputs, Entries, Outputs};
-use crate::walk;
+ghost use Rattle.walk.specs.Walks.{held, plain, members, outputs, Entries, Outputs};
 use sheet::Counts;
 
 // The values of f at the points 0, 1, ..: the member at `first`, then the left inputs.

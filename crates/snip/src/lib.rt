@@ -11,7 +11,6 @@ ghost use Rattle.rules.specs.Judging.{firstOnly, sigmaFrom};
 ghost use Rattle.snip.specs.Factorials.{inverseFactorial, Tables};
 
 pub mod judging;
-pub mod walk;
 
 // inverses[i] = 1 / (i + 1), and out[j] = 1 / j!
 pub fn fill_inverse_factorials(inverses: &mut [u32], out: &mut [u32])

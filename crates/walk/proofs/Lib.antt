@@ -1,0 +1,5 @@
+-- Laws of the walk over columns, in numbers modulo the prime. Read Walking, Filling, Meanings, ColumnTests.
+pub mod Walking
+pub mod Filling
+pub mod Meanings
+pub mod ColumnTests

@@ -1,0 +1,195 @@
+// The inputs of the multiplications and the tests of a sheet's circuit, column by column, from the entries of a list or of
+// a share. `constant` is what the constant p - 1 comes to: p - 1 for a list and at server 0, 0 at the other servers.
+ghost use mathlib.Core.Path.{_≡_};
+ghost use Prim.Native.Nat.{_+_, _^_, _<_, _≤_};
+ghost use lib.ListN.{length, getD};
+ghost use Rattle.algebra.specs.Lists.{tabulate};
+ghost use Rattle.field.specs.Residues.{prime, residues, Elements};
+ghost use Rattle.rules.specs.Settings.{document01};
+ghost use Rattle.rules.specs.Columns.{columnsOf, entriesOf};
+ghost use Rattle.rules.specs.Circuit.{gatesOf, testsOf, gatesIn, testsIn};
+ghost use Rattle.rules.specs.Walk.{sumFrom, bitsAt, sumTests, columnTests, walkLefts, walkRights, walkTests};
+ghost use Rattle.sheet.specs.Cursor.{back};
+ghost use Rattle.walk.specs.Walks.{held, plain, members, outputs, Entries, Outputs, Asked};
+use sheet::columns;
+use sheet::columns::Column;
+
+// out[i] = x[first + i]
+fn copy(x: &[u32], first: usize, out: &mut [u32])
+    requires { ⌜ first + length (now out) ≤ length (now x) ⌝ }
+    ensures { λ _. ⌜ now (out .exit) ≡ tabulate (λ i. members (now (x .entry)) (first + i)) (length (now (out .entry))) ⌝ }
+{
+    let mut i = 0;
+    while i < out.len() {
+        out[i] = x[first + i];
+        i += 1;
+    }
+}
+
+// out[i] = x[first + i] + constant
+fn copy_plus(x: &[u32], first: usize, constant: u32, out: &mut [u32])
+    requires { ⌜ (first + length (now out) ≤ length (now x)) × Elements (now x) × (constant < prime) ⌝ }
+    ensures { λ _. ⌜ now (out .exit)
+        ≡ tabulate (λ i. residues ._⊕_ (members (now (x .entry)) (first + i)) constant) (length (now (out .entry))) ⌝ }
+{
+    let mut i = 0;
+    while i < out.len() {
+        out[i] = field::add(x[first + i], constant);
+        i += 1;
+    }
+}
+
+// start + x[first] + .. + x[first + n - 1]
+fn sum_from(x: &[u32], first: usize, n: usize, start: u32) -> u32
+    requires { ⌜ (first + n ≤ length (now x)) × Elements (now x) × (start < prime) ⌝ }
+    ensures { λ r. ⌜ r ≡ sumFrom document01 (plain 0 (members (now (x .entry)))) start
+        (λ i. members (now (x .entry)) (first + i)) n ⌝ }
+{
+    let mut acc = start;
+    let mut i = 0;
+    while i < n {
+        acc = field::add(acc, x[first + i]);
+        i += 1;
+    }
+    acc
+}
+
+// start + x[first] + 2 x[first + 1] + 4 x[first + 2] + .., n members
+fn weighted_from(x: &[u32], first: usize, n: usize, start: u32) -> u32
+    requires { ⌜ (first + n ≤ length (now x)) × Elements (now x) × (start < prime) ⌝ }
+    ensures { λ r. ⌜ r ≡ sumFrom document01 (plain 0 (members (now (x .entry)))) start
+        (λ i. residues ._⊗_ (members (now (x .entry)) (first + i)) (residues .ι (2 ^ i))) n ⌝ }
+{
+    let mut acc = start;
+    let mut power: u32 = 1;
+    let mut i = 0;
+    while i < n {
+        acc = field::mul_add(x[first + i], power, acc);
+        power = field::add(power, power);
+        i += 1;
+    }
+    acc
+}
+
+// The first bit entry of a column whose first entry is e.
+fn bits_at(column: Column, e: usize) -> usize
+    requires { ⌜ e ≤ 256 ⌝ }
+    ensures { λ r. ⌜ r ≡ bitsAt document01 (plain 0 (λ e. 0)) e (back column) ⌝ }
+{
+    match column {
+        Column::YesNo => e,
+        Column::Choice(_) => e,
+        Column::Number(_) => e + 1,
+    }
+}
+
+fn gates_of(column: Column) -> usize
+    ensures { λ r. ⌜ r ≡ gatesOf (back column) ⌝ }
+{
+    match column {
+        Column::YesNo => 1,
+        Column::Choice(n) => n,
+        Column::Number(n) => n,
+    }
+}
+
+fn tests_of(column: Column) -> usize
+    requires { ⌜ testsOf (back column) ≤ 1024 ⌝ }
+    ensures { λ r. ⌜ r ≡ testsOf (back column) ⌝ }
+{
+    match column {
+        Column::YesNo => 1,
+        Column::Choice(n) => n + 1,
+        Column::Number(n) => n + 1,
+    }
+}
+
+// The test of the sum of a column's entries; 0 for a column that has none.
+fn sum_test(x: &[u32], e: usize, constant: u32, column: Column) -> u32
+    requires { ⌜ (e + entriesOf (back column) ≤ length (now x)) × Elements (now x) × (constant < prime) ⌝ }
+    ensures { λ r. ⌜ r ≡ getD (sumTests document01 (plain constant (members (now (x .entry)))) e (back column)) 0 0 ⌝ }
+{
+    match column {
+        Column::YesNo => 0,
+        Column::Choice(n) => sum_from(x, e, n, constant),
+        Column::Number(n) => weighted_from(x, e + 1, n, field::mul(x[e], field::P - 1)),
+    }
+}
+
+// The left inputs of the multiplications.
+pub fn fill_lefts(s: &[u8], x: &[u32], out: &mut [u32])
+    requires { ⌜ Entries (now s) (now x) × (length (now out) ≡ gatesIn (columnsOf (now s))) ⌝ }
+    ensures { λ _. ⌜ now (out .exit)
+        ≡ walkLefts document01 (plain 0 (members (now (x .entry)))) 0 (columnsOf (now (s .entry))) ⌝ }
+{
+    let mut c = columns::start();
+    while c.at < s.len() {
+        let step = columns::next(s, c);
+        let column = step.column;
+        let after = step.next;
+        let from = c.gates;
+        let to = after.gates;
+        copy(x, bits_at(column, c.entry), &mut out[from..to]);
+        c = after;
+    }
+}
+
+// The right inputs of the multiplications.
+pub fn fill_rights(s: &[u8], x: &[u32], constant: u32, out: &mut [u32])
+    requires { ⌜ Entries (now s) (now x) × (length (now out) ≡ gatesIn (columnsOf (now s))) × (constant < prime) ⌝ }
+    ensures { λ _. ⌜ now (out .exit)
+        ≡ walkRights document01 (plain constant (members (now (x .entry)))) 0 (columnsOf (now (s .entry))) ⌝ }
+{
+    let mut c = columns::start();
+    while c.at < s.len() {
+        let step = columns::next(s, c);
+        let column = step.column;
+        let after = step.next;
+        let from = c.gates;
+        let to = after.gates;
+        copy_plus(x, bits_at(column, c.entry), constant, &mut out[from..to]);
+        c = after;
+    }
+}
+
+// The tests of one column, whose first entry is e, with t multiplications before it: the outputs of its multiplications,
+// then the test of its sum if it has one. l is the number of all entries.
+fn column_tests(
+    x: &[u32],
+    l: usize,
+    e: usize,
+    t: usize,
+    constant: u32,
+    column: Column,
+    out: &mut [u32],
+)
+    requires { ⌜ Asked (now x) l e t constant (back column) × (length (now out) ≡ testsOf (back column)) ⌝ }
+    ensures { λ _. ⌜ now (out .exit)
+        ≡ columnTests document01 (held constant (members (now (x .entry))) (outputs l (now (x .entry)))) e t (back column) ⌝ }
+{
+    let n = gates_of(column);
+    copy(x, l + 3 + t, &mut out[..n]);
+    if n < out.len() {
+        out[n] = sum_test(x, e, constant, column);
+    }
+}
+
+// The tests, from a share with l entries.
+pub fn fill_tests(s: &[u8], x: &[u32], l: usize, constant: u32, out: &mut [u32])
+    requires { ⌜ Entries (now s) (now x) × Outputs (now s) (now x) l ⌝ }
+    requires { ⌜ (length (now out) ≡ testsIn (columnsOf (now s))) × (constant < prime) ⌝ }
+    ensures { λ _. ⌜ now (out .exit) ≡ walkTests document01
+        (held constant (members (now (x .entry))) (outputs l (now (x .entry)))) 0 0 (columnsOf (now (s .entry))) ⌝ }
+{
+    let mut c = columns::start();
+    let mut done = 0;
+    while c.at < s.len() {
+        let step = columns::next(s, c);
+        let column = step.column;
+        let to = done + tests_of(column);
+        column_tests(x, l, c.entry, c.gates, constant, column, &mut out[done..to]);
+        done = to;
+        let after = step.next;
+        c = after;
+    }
+}

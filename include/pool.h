@@ -1,0 +1,185 @@
+/*
+ * pool.h: the figures pool.
+ *
+ * A return is one value for each column of a sheet. A workshop (client) splits it into shares for S servers; each server
+ * sees one share, which alone says nothing. The servers check the form of a return together, in two rounds of short
+ * messages, add up what they accept, and publish totals.
+ *
+ *     workshop          pool_make ------> S share messages, one for each server
+ *     each server       pool_open         once: a table
+ *                       pool_share ------> its round-one message (14 bytes)    } for each return
+ *                       pool_round_one --> its round-two message (14 bytes)    }
+ *                       pool_round_two --> accepted or rejected                }
+ *                       pool_close ------> its totals message, at the end
+ *     anyone            pool_join -------> the count of accepted returns and the totals
+ *
+ * The host sends the messages: it puts the S messages of a round one after another in server order and hands the whole run
+ * to every server. It also draws the random numbers, and chooses r and s, the same for every server, after the shares have
+ * been sent and in a way that no workshop can foretell.
+ *
+ * Answers. Every function returns 0 when it is done, and else the number of the refusal (POOL_...). The first refusal in
+ * the order given at each function counts. A refusal changes nothing: buffers, tables and results behind pointers keep
+ * what they held. When a function is done, the bytes of a buffer past the written length keep what they held.
+ *
+ * Numbers. A number wider than a byte stands in a buffer lowest byte first. An element is a number below
+ * p = 2147483647 in 4 bytes.
+ *
+ * Buffers. Each is a pointer with its length after it; a length of 0 goes with any pointer, NULL included. The buffers
+ * and results of one call must not overlap. Pointers to results must not be NULL.
+ *
+ * Tables. A table is a plain run of bytes that the host keeps; it may be copied, stored and used again later. It may
+ * stand at the start of a longer buffer.
+ *
+ * Threads. Functions keep nothing between calls. Calls at the same time are allowed on separate buffers. No function
+ * needs more than 64 KiB of stack; none allocates memory.
+ */
+#ifndef POOL_H
+#define POOL_H
+
+#include <stddef.h>
+#include <stdint.h>
+
+#ifdef __cplusplus
+extern "C" {
+#endif
+
+/* Refusals. */
+#define POOL_DONE 0
+#define POOL_KIND 1     /* sheet or circuit: unknown kind byte, or the body is cut off */
+#define POOL_LIMIT 2    /* a count, constant, number of servers, server number or N outside its limits */
+#define POOL_WIRE 3     /* circuit: a wire not yet made, or an entry that does not exist */
+#define POOL_WRAP 4     /* N returns could make a total of p or more */
+#define POOL_VALUE 5    /* not one value for each column, or a value outside its column */
+#define POOL_RANDOM 6   /* not the right number of random elements, or one not below p */
+#define POOL_SHARE 7    /* share message of the wrong kind byte, length or server */
+#define POOL_ELEMENT 8  /* share element not below p */
+#define POOL_PAIR 9     /* r or s outside its range */
+#define POOL_DECIDED 10 /* the id was decided before */
+#define POOL_STAGE 11   /* the table is no sound table, or its stage does not allow the call */
+#define POOL_JOINED 12  /* joined messages: length, kind, id, order, element, own message or counts wrong */
+#define POOL_FULL 13    /* N returns are decided */
+#define POOL_ROOM 14    /* the output buffer is too short */
+
+/* Limits. */
+#define POOL_PRIME UINT32_C(2147483647)
+#define POOL_MIN_SERVERS 2
+#define POOL_MAX_SERVERS 8
+#define POOL_MAX_RETURNS 1024
+#define POOL_MAX_ENTRIES 256
+
+/*
+ * Columns of a sheet: the kind byte, then the body.
+ *     POOL_YES_NO          no body; values 0 and 1; one entry, one published
+ *     POOL_CHOICE, B       B options, 2 to 64; values 0 to B - 1; B entries, B published
+ *     POOL_NUMBER, b       b bits, 1 to 24; values 0 to 2^b - 1; b + 1 entries, one published
+ * A sheet has 1 to 256 entries. M is the number of multiplications: 1 for yes/no, B for a choice, b for a number.
+ */
+#define POOL_YES_NO 17
+#define POOL_CHOICE 18
+#define POOL_NUMBER 19
+
+/* Sizes of buffers, in bytes, from a sheet's entries, multiplications and published entries. */
+#define POOL_SHARE_ELEMENTS(entries, multiplications) ((size_t)(entries) + 2 * (size_t)(multiplications) + 6)
+#define POOL_SHARE_BYTES(entries, multiplications) (6 + 4 * POOL_SHARE_ELEMENTS(entries, multiplications))
+#define POOL_RANDOM_BYTES(servers, entries, multiplications) \
+    (4 * (((size_t)(servers) - 1) * POOL_SHARE_ELEMENTS(entries, multiplications) + 4))
+#define POOL_ROUND_BYTES 14
+#define POOL_TOTALS_BYTES(published) (6 + 4 * (size_t)(published))
+#define POOL_TABLE_BYTES(sheet_len, entries, multiplications, published, returns)                             \
+    (12 + (size_t)(sheet_len) + 4 * (size_t)(published) + 4 * (size_t)(returns) + 28                         \
+     + 4 * POOL_SHARE_ELEMENTS(entries, multiplications))
+
+/* Sizes that are enough for every sheet. */
+#define POOL_MAX_SHEET_BYTES 256
+#define POOL_MAX_CIRCUIT_BYTES 7008
+#define POOL_MAX_SHARE_BYTES 3102
+#define POOL_MAX_TOTALS_BYTES 1030
+#define POOL_MAX_TABLE_BYTES 8512
+
+/*
+ * Reads a sheet and counts: its columns, entries, multiplications M, and published entries.
+ * Refusals: 1 or 2 by the first column at fault; 2 for no entries or more than 256.
+ */
+uint32_t pool_read_sheet(const uint8_t *sheet, size_t sheet_len,
+                         uint32_t *columns, uint32_t *entries, uint32_t *multiplications, uint32_t *published);
+
+/*
+ * Writes the circuit of a sheet.
+ * Refusals: the sheet's, 14.
+ */
+uint32_t pool_circuit(const uint8_t *sheet, size_t sheet_len, uint8_t *out, size_t out_len, size_t *written);
+
+/*
+ * Reads a circuit over so many entries and counts its wires, multiplications and tests.
+ * Refusals: 2 for entries outside 1 to 256, then for more than 17,920 bytes; 1, 2 or 3 by the first step at fault; 2 for
+ * more than 2,048 wires, multiplications outside 1 to 256 or tests outside 1 to 512.
+ */
+uint32_t pool_read_circuit(uint32_t entries, const uint8_t *circuit, size_t circuit_len,
+                           uint32_t *wires, uint32_t *multiplications, uint32_t *tests);
+
+/*
+ * Makes a return: writes the S share messages one after another in server order, POOL_SHARE_BYTES each.
+ *     id        any number, given to one return only
+ *     values    4 bytes for each column, in the order of the sheet
+ *     random    POOL_RANDOM_BYTES of random elements, each drawn evenly below p, never used twice
+ * Refusals: the sheet's, 2 for S, 5, 6, 14.
+ */
+uint32_t pool_make(const uint8_t *sheet, size_t sheet_len, uint32_t servers, uint32_t id,
+                   const uint8_t *values, size_t values_len, const uint8_t *random, size_t random_len,
+                   uint8_t *out, size_t out_len, size_t *written);
+
+/*
+ * Opens a table of server `own` (0 to S - 1) for `returns` decided returns (N, 1 to 1,024): writes POOL_TABLE_BYTES.
+ * Refusals: 2 for S, 2 for the own number, the sheet's, 2 for N, 4, 14.
+ */
+uint32_t pool_open(uint32_t servers, uint32_t own, const uint8_t *sheet, size_t sheet_len, uint32_t returns,
+                   uint8_t *table, size_t table_len, size_t *written);
+
+/*
+ * Takes a share into an idle table and writes the server's round-one message, POOL_ROUND_BYTES.
+ *     r         from M + 1 to p - 1; s from 0 to p - 1: the same at every server
+ * Refusals: 11, 13, 7, 8, 10, 9, 14.
+ */
+uint32_t pool_share(uint8_t *table, size_t table_len, const uint8_t *message, size_t message_len,
+                    uint64_t r, uint64_t s, uint8_t *out, size_t out_len, size_t *written);
+
+/*
+ * Takes the S joined round-one messages and writes the server's round-two message, POOL_ROUND_BYTES.
+ * Refusals: 11, 12, 14.
+ */
+uint32_t pool_round_one(uint8_t *table, size_t table_len, const uint8_t *joined, size_t joined_len,
+                        uint8_t *out, size_t out_len, size_t *written);
+
+/*
+ * Takes the S joined round-two messages and decides: *accepted is 1 or 0. The table is idle again.
+ * Refusals: 11, 12.
+ */
+uint32_t pool_round_two(uint8_t *table, size_t table_len, const uint8_t *joined, size_t joined_len,
+                        uint32_t *accepted);
+
+/*
+ * Drops the return that waits. It is decided and its id stays used. The table is idle again.
+ * Refusals: 11.
+ */
+uint32_t pool_drop(uint8_t *table, size_t table_len);
+
+/*
+ * Closes an idle table and writes the server's totals message, POOL_TOTALS_BYTES. A closed table takes no call.
+ * Refusals: 11, 14.
+ */
+uint32_t pool_close(uint8_t *table, size_t table_len, uint8_t *out, size_t out_len, size_t *written);
+
+/*
+ * Joins the S totals messages, in server order, of tables opened with this S, sheet and N: *accepted is the count of
+ * accepted returns, and the totals of the published entries are written as elements in entry order.
+ * Refusals: 2 for S, the sheet's, 2 for N, 4, 12, 14.
+ */
+uint32_t pool_join(uint32_t servers, const uint8_t *sheet, size_t sheet_len, uint32_t returns,
+                   const uint8_t *joined, size_t joined_len, uint8_t *out, size_t out_len,
+                   uint32_t *accepted, size_t *written);
+
+#ifdef __cplusplus
+}
+#endif
+
+#endif

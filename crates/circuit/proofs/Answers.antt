@@ -17,9 +17,10 @@ use Rattle.rules.proofs.Refusals.{sheet-refusals, sheet-fault}
 use Rattle.sheet.specs.declared.Counts.{Counts}
 use Rattle.sheet.specs.Reading.{countsOf, reading, readingOf}
 use Rattle.sheet.specs.declared.Reading.the-variants as sheet
-use Rattle.circuit.specs.declared.writer.Written.{Written}
+use Rattle.records.specs.declared.Written.{Written}
+use Rattle.records.specs.Answers.{answered, onlyIf}
 use Rattle.circuit.specs.Writing.{writtenOf, circuitIn}
-use Rattle.circuit.specs.declared.writer.Written.the-variants as answer
+use Rattle.records.specs.declared.Written.the-variants as answer
 
 -- what `write` promises of its answer and of the buffer
 abbrev Answers : List ℕ → List ℕ → Written → List ℕ → Type 0
@@ -27,7 +28,7 @@ Answers s out r t = (r ≡ writtenOf s (length out)) × (t ≡ circuitIn s out)
 
 module _ (s out : List ℕ) where
   refuse : (n : ℕ) → sheetCircuitRefusal document01 s (length out) ≡ n → (n ≡ 0 → ⊥) → Answers s out (answer.Refused n) out
-  unfolding writtenOf circuitIn
+  unfolding writtenOf circuitIn answered onlyIf
   refuse n e z = (rw (e, ne-eqb n 0 z), rw (e, ne-eqb n 0 z))
 
   -- the sheet is refused
@@ -53,7 +54,7 @@ module _ (s out : List ℕ) where
 
     pub done : (n : ℕ) (t : List ℕ) → n ≡ length (sheetCircuit document01 s) → n ≤ length out
         → t ≡ splice out 0 (sheetCircuit document01 s) → Answers s out (answer.Done n) t
-    unfolding writtenOf circuitIn sheetCircuitRefusal
+    unfolding writtenOf circuitIn answered onlyIf sheetCircuitRefusal
     done n t e h p =
         let fits : length (sheetCircuit document01 s) ≤ length out = omega arith in
         let none : sheetCircuitRefusal document01 s (length out) ≡ 0

@@ -1,16 +1,14 @@
 -- What the functions that write do to a buffer, and the answer of the circuit writer. Assumes nothing.
 use mathlib.Core.Path.{_≡_}
-use mathlib.Core.Bool.{cond}
 use mathlib.Core.List.{List}
 use Prim.Native.Nat.{ℕ, _+_, _*_, _≤_}
-use lib.Dec.{eqb}
 use lib.ListN.{length}
 use Rattle.words.specs.Bytes.{splice}
 use Rattle.rules.specs.Settings.{document01}
 use Rattle.rules.specs.Columns.{Column, yesNo, choice, number}
 use Rattle.rules.specs.CircuitReader.{sheetCircuit, sheetCircuitRefusal}
-use Rattle.circuit.specs.declared.writer.Written as written
-use Rattle.circuit.specs.declared.writer.Written.the-variants as answer
+use Rattle.records.specs.Answers.{answered, onlyIf}
+use Rattle.records.specs.declared.Written.{Written}
 
 -- s became t: the n bytes ys stand from place at, nothing else changed, and next is the place behind them
 pub record Put (s : List ℕ) (at n : ℕ) (ys t : List ℕ) (next : ℕ) : Type 0 where
@@ -27,12 +25,10 @@ columnSize (choice n) = 21 * n + 3
 columnSize (number n) = 28 * n + 13
 
 -- the answer where a buffer of so many bytes is lent
-unfoldable pub writtenOf : List ℕ → ℕ → written.Written
-writtenOf sheet room =
-    cond (eqb (sheetCircuitRefusal document01 sheet room) 0) (answer.Done (length (sheetCircuit document01 sheet)))
-    (answer.Refused (sheetCircuitRefusal document01 sheet room))
+unfoldable pub writtenOf : List ℕ → ℕ → Written
+writtenOf sheet room = answered (sheetCircuitRefusal document01 sheet room) (length (sheetCircuit document01 sheet))
 
 -- the buffer afterwards
 unfoldable pub circuitIn : List ℕ → List ℕ → List ℕ
 circuitIn sheet out =
-    cond (eqb (sheetCircuitRefusal document01 sheet (length out)) 0) (splice out 0 (sheetCircuit document01 sheet)) out
+    onlyIf (sheetCircuitRefusal document01 sheet (length out)) (splice out 0 (sheetCircuit document01 sheet)) out

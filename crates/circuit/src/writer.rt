@@ -14,14 +14,9 @@ ghost use Rattle.rules.specs.Circuit.{columnSteps, wiresOf};
 ghost use Rattle.rules.specs.CircuitReader.{sheetCircuit};
 ghost use Rattle.sheet.specs.Cursor.{back, Bounded};
 ghost use Rattle.circuit.specs.Writing.{Put, columnSize, writtenOf, circuitIn};
+use records::Written;
 use sheet::Reading;
 use sheet::columns::Column;
-
-// The number of bytes that were written, or the number of the refusal.
-pub enum Written {
-    Done(usize),
-    Refused(u32),
-}
 
 // A kind byte and a wire or an entry number.
 fn put_one(out: &mut [u8], at: usize, kind: u8, a: u32) -> usize

@@ -25,11 +25,11 @@ pub fn sheet(name: &[u8], s: &[u8]) {
 pub fn circuit(name: &[u8], s: &[u8], out: &mut [u8]) {
     text::write(name);
     match circuit::writer::write(s, out) {
-        circuit::writer::Written::Done(count) => {
+        records::Written::Done(count) => {
             text::item(b": bytes ", count as u64);
             text::write(b"\n");
         },
-        circuit::writer::Written::Refused(number) => refused(number),
+        records::Written::Refused(number) => refused(number),
     }
 }
 

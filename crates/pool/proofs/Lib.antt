@@ -1,0 +1,4 @@
+-- Laws of the outcomes.
+pub mod Outcomes
+pub mod Sheets
+pub mod Circuits

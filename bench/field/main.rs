@@ -3,6 +3,8 @@ mod check;
 mod kernels;
 mod loops;
 mod speed;
+#[path = "../timing.rs"]
+mod timing;
 
 fn main() {
     let words: Vec<String> = std::env::args().skip(1).collect();

@@ -1,0 +1,172 @@
+// The sheet reader and the circuit writer as the same loops in Rust.
+const P_LESS_ONE: u32 = 2147483646;
+
+#[derive(Clone, Copy, Default, PartialEq, Debug)]
+pub struct Counts {
+    pub columns: usize,
+    pub entries: usize,
+    pub published: usize,
+    pub gates: usize,
+    pub tests: usize,
+}
+
+fn bytes_of(kind: u8) -> usize {
+    match kind {
+        17 => 1,
+        18 | 19 => 2,
+        _ => 0,
+    }
+}
+
+fn column(kind: u8, last: usize) -> Counts {
+    match kind {
+        17 => Counts { columns: 1, entries: 1, published: 1, gates: 1, tests: 1 },
+        18 if (2..=64).contains(&last) => {
+            Counts { columns: 1, entries: last, published: last, gates: last, tests: last + 1 }
+        }
+        19 if (1..=24).contains(&last) => {
+            Counts { columns: 1, entries: last + 1, published: 1, gates: last, tests: last + 1 }
+        }
+        _ => Counts::default(),
+    }
+}
+
+pub fn read_sheet(s: &[u8]) -> Result<Counts, u32> {
+    let mut counts = Counts::default();
+    let mut at = 0;
+    while at < s.len() {
+        let kind = s[at];
+        let size = bytes_of(kind);
+        if size == 0 || s.len() - at < size {
+            return Err(1);
+        }
+        let c = column(kind, s[at + size - 1] as usize);
+        if c.entries == 0 {
+            return Err(2);
+        }
+        if counts.entries <= 256 {
+            counts.columns += c.columns;
+            counts.entries += c.entries;
+            counts.published += c.published;
+            counts.gates += c.gates;
+            counts.tests += c.tests;
+        }
+        at += size;
+    }
+    if (1..=256).contains(&counts.entries) {
+        Ok(counts)
+    } else {
+        Err(2)
+    }
+}
+
+// The counts behind pointers, as the C function leaves them.
+#[inline(never)]
+pub fn sheet(s: &[u8], columns: &mut u32, entries: &mut u32, gates: &mut u32, published: &mut u32) -> u32 {
+    match read_sheet(s) {
+        Ok(c) => {
+            *columns = c.columns as u32;
+            *entries = c.entries as u32;
+            *gates = c.gates as u32;
+            *published = c.published as u32;
+            0
+        }
+        Err(refusal) => refusal,
+    }
+}
+
+fn put(out: &mut [u8], at: usize, bytes: &[u8]) -> usize {
+    out[at..at + bytes.len()].copy_from_slice(bytes);
+    at + bytes.len()
+}
+
+fn put_one(out: &mut [u8], at: usize, kind: u8, a: u32) -> usize {
+    let a = (a as u16).to_le_bytes();
+    put(out, at, &[kind, a[0], a[1]])
+}
+
+fn put_pair(out: &mut [u8], at: usize, kind: u8, a: u32, b: u32) -> usize {
+    let next = put_one(out, at, kind, a);
+    put(out, next, &(b as u16).to_le_bytes())
+}
+
+fn put_scale(out: &mut [u8], at: usize, a: u32, constant: u32) -> usize {
+    let next = put_one(out, at, 4, a);
+    put(out, next, &constant.to_le_bytes())
+}
+
+fn bit_checks(out: &mut [u8], at: usize, n: u32, e: u32, w: u32) -> usize {
+    let mut place = at;
+    for i in 0..n {
+        let w = w + 3 * i;
+        place = put_one(out, place, 2, e + i);
+        place = put_pair(out, place, 3, w, 0);
+        place = put_pair(out, place, 5, w, w + 1);
+        place = put_one(out, place, 6, w + 2);
+    }
+    place
+}
+
+fn put_choice(out: &mut [u8], at: usize, n: u32, e: u32, w: u32) -> usize {
+    let mut place = bit_checks(out, at, n, e, w);
+    let mut sum = 0;
+    for i in 0..n {
+        place = put_pair(out, place, 3, sum, w + 3 * i);
+        sum = w + 3 * n + i;
+    }
+    put_one(out, place, 6, sum)
+}
+
+fn put_number(out: &mut [u8], at: usize, n: u32, e: u32, w: u32) -> usize {
+    let mut place = put_one(out, at, 2, e);
+    place = bit_checks(out, place, n, e + 1, w + 1);
+    place = put_scale(out, place, w, P_LESS_ONE);
+    let q = w + 1 + 3 * n;
+    for i in 0..n {
+        place = put_scale(out, place, w + 1 + 3 * i, 1 << i);
+        place = put_pair(out, place, 3, q + 2 * i, q + 2 * i + 1);
+    }
+    put_one(out, place, 6, q + 2 * n)
+}
+
+fn circuit_length(s: &[u8]) -> usize {
+    let (mut total, mut at) = (5, 0);
+    while at < s.len() {
+        let n = s[at + bytes_of(s[at]) - 1] as usize;
+        total += match s[at] {
+            17 => 16,
+            18 => 21 * n + 3,
+            _ => 28 * n + 13,
+        };
+        at += bytes_of(s[at]);
+    }
+    total
+}
+
+#[inline(never)]
+pub fn circuit(s: &[u8], out: &mut [u8], written: &mut usize) -> u32 {
+    if let Err(refusal) = read_sheet(s) {
+        return refusal;
+    }
+    let length = circuit_length(s);
+    if out.len() < length {
+        return 14;
+    }
+    let mut place = put(out, 0, &[1]);
+    place = put(out, place, &P_LESS_ONE.to_le_bytes());
+    let (mut at, mut e, mut w) = (0, 0, 1);
+    while at < s.len() {
+        let n = s[at + bytes_of(s[at]) - 1] as u32;
+        let (entries, wires);
+        (place, entries, wires) = match s[at] {
+            17 => (bit_checks(out, place, 1, e, w), 1, 3),
+            18 => (put_choice(out, place, n, e, w), n, 4 * n),
+            _ => (put_number(out, place, n, e, w), n + 1, 5 * n + 2),
+        };
+        e += entries;
+        w += wires;
+        at += bytes_of(s[at]);
+    }
+    *written = length;
+    0
+}

@@ -1,0 +1,120 @@
+// Compares reading a sheet and writing a circuit by libpool.a with the same loops in Rust: their speed, or with --check
+// their results.
+mod loops;
+#[path = "../timing.rs"]
+mod timing;
+use std::hint::black_box;
+
+mod c {
+    #[link(name = "pool", kind = "static")]
+    extern "C" {
+        pub fn pool_read_sheet(s: *const u8, n: usize, c: *mut u32, e: *mut u32, m: *mut u32, p: *mut u32) -> u32;
+        pub fn pool_circuit(s: *const u8, n: usize, out: *mut u8, room: usize, written: *mut usize) -> u32;
+    }
+}
+
+type Read = fn(&[u8], &mut u32, &mut u32, &mut u32, &mut u32) -> u32;
+type Write = fn(&[u8], &mut [u8], &mut usize) -> u32;
+
+fn our_sheet(s: &[u8], c: &mut u32, e: &mut u32, m: &mut u32, p: &mut u32) -> u32 {
+    unsafe { c::pool_read_sheet(s.as_ptr(), s.len(), c, e, m, p) }
+}
+
+fn our_circuit(s: &[u8], out: &mut [u8], written: &mut usize) -> u32 {
+    unsafe { c::pool_circuit(s.as_ptr(), s.len(), out.as_mut_ptr(), out.len(), written) }
+}
+
+// Sheets by name: small ones, and for each kind and for a mixture one of about 256 entries.
+fn sheets() -> Vec<(&'static str, Vec<u8>)> {
+    vec![
+        ("one yes/no", vec![17]),
+        ("small mixture", vec![17, 18, 4, 19, 8]),
+        ("256 yes/no", vec![17; 256]),
+        ("4 choices of 64", [18, 64].repeat(4)),
+        ("128 choices of 2", [18, 2].repeat(128)),
+        ("10 numbers of 24", [19, 24].repeat(10)),
+        ("128 numbers of 1", [19, 1].repeat(128)),
+        ("large mixture", [17, 18, 5, 19, 9, 17, 19, 3, 18, 2].repeat(11)),
+    ]
+}
+
+fn read(f: Read, s: &[u8]) -> (u32, [u32; 4]) {
+    let (mut c, mut e, mut m, mut p) = (9, 9, 9, 9);
+    let answer = f(s, &mut c, &mut e, &mut m, &mut p);
+    (answer, [c, e, m, p])
+}
+
+fn write(f: Write, s: &[u8], room: usize) -> (u32, usize, Vec<u8>) {
+    let (mut out, mut written) = (vec![0xa5; room], 9);
+    let answer = f(s, &mut out, &mut written);
+    (answer, written, out)
+}
+
+fn speed() {
+    println!("CPU: {}; {} rounds in turns, medians", timing::cpu(), timing::ROUNDS);
+    println!("{:<17} {:<17} {:>11} {:>11} {:>7}", "call", "sheet", "ours, ns", "Rust, ns", "ratio");
+    for (name, sheet) in sheets() {
+        let s = &sheet[..];
+        let call = |f: Read| {
+            black_box(read(f, black_box(s)));
+        };
+        let (ours, rust) = timing::compare(&mut || call(our_sheet), &mut || call(loops::sheet));
+        println!("{:<17} {name:<17} {ours:>11.1} {rust:>11.1} {:>7.2}", "read sheet", ours / rust);
+    }
+    for (name, sheet) in sheets() {
+        let s = &sheet[..];
+        let (mut out, mut same) = (vec![0; 8192], vec![0; 8192]);
+        let call = |f: Write, out: &mut [u8]| {
+            let mut written = 0;
+            assert!(f(black_box(s), black_box(out), &mut written) == 0);
+        };
+        let (ours, rust) = timing::compare(&mut || call(our_circuit, &mut out), &mut || call(loops::circuit, &mut same));
+        println!("{:<17} {name:<17} {ours:>11.1} {rust:>11.1} {:>7.2}", "write circuit", ours / rust);
+    }
+}
+
+// Every sheet above, each with every byte set to a few others and cut at every place, and rooms around the length.
+fn check() -> bool {
+    let (mut passed, mut failed) = (0, 0);
+    let mut expect = |same: bool, sheet: &[u8]| {
+        if same {
+            passed += 1;
+        } else {
+            failed += 1;
+            println!("the results differ on the sheet {sheet:?}");
+        }
+    };
+    for (_, sheet) in sheets() {
+        let mut all = vec![sheet.clone()];
+        all.extend((0..sheet.len()).map(|n| sheet[..n].to_vec()));
+        for at in 0..sheet.len() {
+            for byte in [0, 1, 16, 17, 20, 24, 25, 64, 65, 255] {
+                let mut changed = sheet.clone();
+                changed[at] = byte;
+                all.push(changed);
+            }
+        }
+        for s in all {
+            expect(read(our_sheet, &s) == read(loops::sheet, &s), &s);
+            let (answer, length, _) = write(loops::circuit, &s, 8192);
+            let rooms = if answer == 0 { vec![length - 1, length, length + 3] } else { vec![0, 8192] };
+            for room in rooms {
+                expect(write(our_circuit, &s, room) == write(loops::circuit, &s, room), &s);
+            }
+        }
+    }
+    println!("{passed} passed, {failed} failed");
+    failed == 0
+}
+
+fn main() {
+    let words: Vec<String> = std::env::args().skip(1).collect();
+    match words.iter().map(String::as_str).collect::<Vec<_>>()[..] {
+        [] => speed(),
+        ["--check"] => std::process::exit(if check() { 0 } else { 1 }),
+        _ => {
+            eprintln!("usage: forms [--check]");
+            std::process::exit(2)
+        }
+    }
+}

@@ -1,0 +1,42 @@
+// Times two ways of doing one thing, in turns, and compares the medians of the rounds.
+use std::time::Instant;
+
+pub const ROUNDS: usize = 31;
+const ROUND_NS: f64 = 1_000_000.0;
+
+// Nanoseconds for one of `times` calls.
+fn time(call: &mut dyn FnMut(), times: usize) -> f64 {
+    let start = Instant::now();
+    for _ in 0..times {
+        call();
+    }
+    start.elapsed().as_nanos() as f64 / times as f64
+}
+
+fn median(mut times: Vec<f64>) -> f64 {
+    times.sort_by(f64::total_cmp);
+    times[times.len() / 2]
+}
+
+// The medians of both, in nanoseconds for a call.
+pub fn compare(ours: &mut dyn FnMut(), other: &mut dyn FnMut()) -> (f64, f64) {
+    let once = time(other, 100).max(1.0);
+    let times = (ROUND_NS / once) as usize + 1;
+    let (mut a, mut b) = (Vec::new(), Vec::new());
+    for round in 0..ROUNDS {
+        if round % 2 == 0 {
+            a.push(time(ours, times));
+            b.push(time(other, times));
+        } else {
+            b.push(time(other, times));
+            a.push(time(ours, times));
+        }
+    }
+    (median(a), median(b))
+}
+
+pub fn cpu() -> String {
+    let info = std::fs::read_to_string("/proc/cpuinfo").unwrap_or_default();
+    let name = info.lines().find(|l| l.starts_with("model name")).and_then(|l| l.split(": ").nth(1));
+    name.unwrap_or("unknown").to_string()
+}

@@ -105,7 +105,7 @@ module _ (𝓕 : Field) where
             ∙ ap (y i ⊗_) (mul-zero 𝓕 _) ∙ mul-zero 𝓕 _
 
   -- the points 0, .., m - 1 as a list
-  points-distinct : (m : ℕ) (pt : ℕ → F) → Apart 𝓕 m pt → Distinct (tabulate pt m)
+  pub points-distinct : (m : ℕ) (pt : ℕ → F) → Apart 𝓕 m pt → Distinct (tabulate pt m)
   points-distinct zero pt h = rw (tabulate-none pt) distinct[]
   points-distinct (suc m) pt h =
       rw (tabulate-front pt m)

@@ -9,7 +9,7 @@ use native.Mathlib.Omega.{arith}
 use borrow.Author.Tests.{leb-true, le-leb}
 use lib.Dec.{leb, eqb}
 use Rattle.algebra.specs.Lists.{All, all[], all∷}
-use Rattle.words.proofs.Below.{all-append}
+use Rattle.algebra.proofs.Members.{all-append}
 use Rattle.records.specs.Outcome.{Outcome, ok, refused}
 use Rattle.records.specs.Records.{Format, readFrom, read}
 use Rattle.records.proofs.Runs.{read-record, kept-by-read}
@@ -73,4 +73,4 @@ small-most (b ∷ s) a h = within (leb b 9) (leb-true b 9) h where
 all-small : (s xs : List ℕ) → read example s ≡ ok xs → All (λ x. x ≤ 9) xs
 all-small =
     kept-by-read example (All (λ x. x ≤ 9)) all[]
-    (λ done k body a e j h. all-append (λ x. x ≤ 9) h (all∷ (small-most body a j) all[]))
+    (λ done k body a e j h. all-append {P = λ x. x ≤ 9} h (all∷ (small-most body a j) all[]))

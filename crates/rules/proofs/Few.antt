@@ -17,7 +17,7 @@ use Rattle.algebra.proofs.Members.{all-tabulate}
 use Rattle.algebra.proofs.Ring.{sub-zero}
 use Rattle.algebra.proofs.Polynomial.{poly-zero, poly-ext, poly-add, poly-neg, poly-mul, poly-horner, horner-powers}
 use Rattle.algebra.proofs.Roots.{strip, coefficients-zero}
-use Rattle.algebra.proofs.Interpolation.{interpolate-poly, interpolate-at}
+use Rattle.algebra.proofs.Interpolation.{interpolate-poly, interpolate-at, points-distinct}
 use Rattle.algebra.proofs.Pairs.{pair-bound}
 use Rattle.rules.specs.Settings.{Setting}
 use Rattle.rules.specs.Columns.{Column, entriesIn}
@@ -40,18 +40,10 @@ module _ (𝓕 : Field) where
   abbrev points : ℕ → List F
   points m = tabulate (λ i. ι (suc i)) m
 
-  distinct-table : (m : ℕ) (pt : ℕ → F) → Apart 𝓕 m pt → Distinct (tabulate pt m)
-  distinct-table zero pt h = rw (tabulate-none pt) distinct[]
-  distinct-table (suc m) pt h =
-      rw (tabulate-front pt m)
-      (distinct∷
-      (all-tabulate (λ i. pt (suc i)) m (λ i l. h (suc i) 0 (omega arith) (omega arith) (omega arith)))
-      (distinct-table m (λ i. pt (suc i)) (λ i j k l ne. h (suc i) (suc j) (omega arith) (omega arith) (omega arith))))
-
   module _ (m : ℕ) (apart : Apart 𝓕 (suc m) ι) where
-    points-distinct : Distinct (points m)
-    points-distinct =
-        distinct-table m (λ i. ι (suc i)) (λ i j k l ne. apart (suc i) (suc j) (omega arith) (omega arith) (omega arith))
+    gates-distinct : Distinct (points m)
+    gates-distinct =
+        points-distinct 𝓕 m (λ i. ι (suc i)) (λ i j k l ne. apart (suc i) (suc j) (omega arith) (omega arith) (omega arith))
 
     points-nonzero : All (λ r. r ≡ 𝟘 → ⊥) (points m)
     points-nonzero =
@@ -74,7 +66,7 @@ module _ (𝓕 : Field) where
   folded-zero : (ts : List F) (m : ℕ) → Apart 𝓕 (suc m) ι → length ts ≤ suc m → Vanishes 𝓕 (folded O ts)
       → All (λ y. y ≡ 𝟘) ts
   folded-zero ts m apart le z =
-      coefficients-zero 𝓕 (points m) (points-distinct m apart) (points-nonzero m apart) ts
+      coefficients-zero 𝓕 (points m) (gates-distinct m apart) (points-nonzero m apart) ts
       (omega (arith, length-tabulate (λ i. ι (suc i)) m)) (λ s. sym (folded-horner ts s) ∙ z s)
 
   module _ (σ : Setting) (cs : List Column) (servers : ℕ) (some : 0 < servers) (x : ℕ → ℕ → F) where
@@ -120,7 +112,7 @@ module _ (𝓕 : Field) where
       sigma-zero z r =
           sub-zero 𝓕
           (strip 𝓕 (points (suc (M + M))) gap-poly (omega (arith, length-tabulate (λ i. ι (suc i)) (suc (M + M))))
-          (points-distinct (suc (M + M)) apart) (points-nonzero (suc (M + M)) apart)
+          (gates-distinct (suc (M + M)) apart) (points-nonzero (suc (M + M)) apart)
           (λ t. sym (sigma-is 𝓕 σ cs servers some x t) ∙ z t) r)
 
       tau-zero : Vanishes 𝓕 (tauSum O σ cs servers x) → All (λ y. y ≡ 𝟘) (shareRun O σ cs 𝟙 whole .tests)

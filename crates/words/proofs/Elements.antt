@@ -15,7 +15,8 @@ use Rattle.algebra.proofs.Tables.{length-tabulate, getD-tabulate, tabulate-appe
 use Rattle.words.specs.Bytes.{valueOf, bytesOf, bytesOfAll, part, elementsOf}
 use Rattle.words.proofs.Numbers.{length-bytes, value-bytes, value-below, bytes-value}
 use Rattle.words.proofs.Splice.{length-part}
-use Rattle.words.proofs.Below.{all-of-places, all-take, all-drop}
+use Rattle.algebra.proofs.Members.{getD-all}
+use Rattle.words.proofs.Below.{all-take, all-drop}
 
 -- one of two orders
 order : (a b : ℕ) → (a ≤ b) ⊎ (b < a)
@@ -143,7 +144,7 @@ module _ (w : ℕ) (pos : 0 < w) where
   -- elements of bytes hold w bytes
   pub elements-hold : (s : List ℕ) → All (λ b. b < 256) s → All (λ x. x < 256 ^ w) (elementsOf w s)
   elements-hold s a =
-      all-of-places (λ x. x < 256 ^ w) 0 (elementsOf w s)
+      getD-all {P = λ x. x < 256 ^ w} 0 (elementsOf w s)
       (λ i h.
       let k : i < length s / w = rw length-elements at h in
       let l : suc i * w ≤ length s = le-div-iff-mul-le pos .0 k in

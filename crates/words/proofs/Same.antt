@@ -11,7 +11,7 @@ use lib.Dec.{eqb}
 use lib.ListN.{length, getD, drop, drop-of-length-le}
 use lib.Seq.{drop-cons}
 use Rattle.words.specs.Bytes.{sameBytes}
-use Rattle.words.proofs.Below.{both-true}
+use Rattle.algebra.proofs.Members.{and-left, and-right}
 
 pub same-equal : (s t : List ℕ) → sameBytes s t ≡ true → s ≡ t
 unfolding sameBytes
@@ -19,8 +19,7 @@ same-equal [] [] h = refl
 same-equal [] (b ∷ t) h = absurd (let z : _≡_ {A = ℕ} 0 1 = cc in omega arith)
 same-equal (a ∷ s) [] h = absurd (let z : _≡_ {A = ℕ} 0 1 = cc in omega arith)
 same-equal (a ∷ s) (b ∷ t) h =
-    let e = both-true (eqb a b) (sameBytes s t) h in
-    ap₂ _∷_ (eqb-true a b (e .0)) (same-equal s t (e .1))
+    ap₂ _∷_ (eqb-true a b (and-left (eqb a b) (sameBytes s t) h)) (same-equal s t (and-right (eqb a b) (sameBytes s t) h))
 
 pub equal-same : (s t : List ℕ) → s ≡ t → sameBytes s t ≡ true
 unfolding sameBytes

@@ -2,3 +2,4 @@
 pub mod Outcomes
 pub mod Sheets
 pub mod Circuits
+pub mod Totals

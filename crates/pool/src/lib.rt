@@ -4,8 +4,10 @@
 ghost use mathlib.Core.Path.{_≡_};
 ghost use Rattle.pool.specs.Outcomes.{numberOf, lengthOf};
 ghost use Rattle.pool.specs.Calls.{ReadsSheet, WritesCircuit, ReadsCircuit};
+ghost use Rattle.pool.specs.Tables.{Joins};
 use records::Written;
 use sheet::Reading;
+use totals::Joined;
 
 // The number that an answer comes to; the length written goes behind the pointer.
 fn told(answer: Written, written: &mut usize) -> u32
@@ -72,6 +74,32 @@ pub extern "C" fn pool_read_circuit(
             *wires = counts.wires;
             *multiplications = counts.multiplications;
             *tests = counts.tests;
+            0
+        }
+    }
+}
+
+// ---- Totals
+
+#[no_mangle]
+pub extern "C" fn pool_join(
+    servers: u32,
+    sheet: &[u8],
+    returns: u32,
+    joined: &[u8],
+    out: &mut [u8],
+    accepted: &mut u32,
+    written: &mut usize,
+) -> u32
+    ensures { λ r. ⌜ Joins servers (now (sheet .entry)) returns (now (joined .entry)) (now (out .entry))
+        (now (accepted .entry)) (now (written .entry))
+        r (now (out .exit)) (now (accepted .exit)) (now (written .exit)) ⌝ }
+{
+    match totals::join(servers, sheet, returns, joined, out) {
+        Joined::Refused(refusal) => refusal,
+        Joined::Done(done) => {
+            *accepted = done.accepted;
+            *written = done.written;
             0
         }
     }

@@ -1,0 +1,2 @@
+-- What joining comes to, in the numbers of code.
+pub mod Calls

@@ -4,7 +4,7 @@
 ghost use mathlib.Core.Path.{_≡_};
 ghost use Rattle.pool.specs.Outcomes.{numberOf, lengthOf};
 ghost use Rattle.pool.specs.Calls.{ReadsSheet, WritesCircuit, ReadsCircuit};
-ghost use Rattle.pool.specs.Tables.{Joins};
+ghost use Rattle.pool.specs.Tables.{TakesShare, Drops, Joins};
 use records::Written;
 use sheet::Reading;
 use totals::Joined;
@@ -77,6 +77,30 @@ pub extern "C" fn pool_read_circuit(
             0
         }
     }
+}
+
+// ---- A server's table
+
+#[no_mangle]
+pub extern "C" fn pool_share(
+    table: &mut [u8],
+    message: &[u8],
+    r: u64,
+    s: u64,
+    out: &mut [u8],
+    written: &mut usize,
+) -> u32
+    ensures { λ a. ⌜ TakesShare (now (table .entry)) (now (message .entry)) r s (now (out .entry)) (now (written .entry))
+        a (now (table .exit)) (now (out .exit)) (now (written .exit)) ⌝ }
+{
+    told(shares::share(table, message, r, s, out), written)
+}
+
+#[no_mangle]
+pub extern "C" fn pool_drop(table: &mut [u8]) -> u32
+    ensures { λ a. ⌜ Drops (now (table .entry)) a (now (table .exit)) ⌝ }
+{
+    server::drop(table)
 }
 
 // ---- Totals

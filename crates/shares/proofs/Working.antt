@@ -1,0 +1,94 @@
+-- What is worked out from a share that is taken: the sheet that the code cuts out of a sound table is read, the elements
+-- that it reads are those of the message, and both are what judging asks for. Assumes nothing.
+use mathlib.Core.Path.{_≡_, refl, sym, ap, _∙_}
+use mathlib.Core.Bool.{true, not, _&&_, _||_}
+use mathlib.Core.List.{List}
+use Prim.Native.Nat.{ℕ, _+_, _-_, _*_, _≤_, _<_}
+use native.Mathlib.Omega.{arith}
+use borrow.Author.Tests.{eqb-true}
+use lib.Dec.{eqb}
+use lib.ListN.{length, take, drop, length-drop}
+use Rattle.algebra.proofs.Members.{and-left, and-right}
+use Rattle.words.specs.Bytes.{elementsOf, allBelow}
+use Rattle.words.proofs.Below.{all-of-below}
+use Rattle.records.specs.Outcome.{ok}
+use Rattle.rules.specs.Settings.{document01}
+use Rattle.rules.specs.Columns.{readSheet, columnsOf, sheetFault}
+use Rattle.rules.specs.Judging.{shareSize}
+use Rattle.rules.specs.Messages.{shareElements}
+use Rattle.rules.specs.Table.{sheetIn, columnsIn, totalsIn, waits, headerSound, countsSound, waitingSound, tableSound}
+use Rattle.message.proofs.Parts.{to-end}
+use Rattle.sheet.specs.declared.Counts.{Counts}
+use Rattle.sheet.specs.Reading.{countsOf}
+use Rattle.snip.specs.Judged.{Share, judgedOf}
+use Rattle.snip.specs.declared.judging.Judged.{Judged}
+use Rattle.table.specs.Places.{sizeOf}
+use Rattle.table.specs.Reading.{tableOf, startSound, Headed, Sound}
+use Rattle.table.specs.declared.Table.{Table}
+use Rattle.table.proofs.Header.{header-is}
+use Rattle.table.proofs.Judged.{cut-reads}
+use Rattle.shares.specs.Taking.{Takable}
+
+-- ---- the sheet
+-- the sheet as the code cuts it out
+abbrev pub sheetCut : List ℕ → Table → List ℕ
+sheetCut T k = take (12 + k .sheet - 12) (drop 12 T)
+
+module _ (T : List ℕ) (k : Table) (h : Sound T k) where
+  header-sound : headerSound document01 T ≡ true
+  unfolding tableSound
+  header-sound =
+      let last = allBelow 2147483647 (totalsIn document01 T) && (not (waits document01 T) || waitingSound document01 T) in
+      and-left (headerSound document01 T) (countsSound document01 T && last) (h .is-sound)
+
+  no-sheet-fault : sheetFault (sheetIn document01 T) ≡ 0
+  no-sheet-fault =
+      let both : startSound T && eqb (sheetFault (sheetIn document01 T)) 0 ≡ true = sym (header-is T) ∙ header-sound in
+      eqb-true (sheetFault (sheetIn document01 T)) 0 (and-right (startSound T) (eqb (sheetFault (sheetIn document01 T)) 0) both)
+
+  headed : Headed T k
+  headed = record {
+    says = h .says;
+    limited = h .limited;
+    header = header-sound;
+    sheet-long = omega (arith, h .long);
+    no-fault = no-sheet-fault;
+  }
+
+  pub sheet-cut : sheetCut T k ≡ sheetIn document01 T
+  unfolding tableOf
+  sheet-cut = let l : 12 + k .sheet - 12 ≡ k .sheet = omega arith in rw (l, h .says)
+
+  pub sheet-reads : readSheet (sheetCut T k) ≡ ok (columnsOf (sheetCut T k))
+  sheet-reads = cut-reads T k headed
+
+  size-is : sizeOf (k .entries) (k .gates) ≡ shareSize (columnsOf (sheetCut T k))
+  unfolding tableOf shareSize
+  size-is = rw (sheet-cut, h .says)
+
+-- ---- the elements
+-- the part behind the header holds n elements
+pub elements-long : (m : List ℕ) (n z : ℕ) → length m ≡ 6 + 4 * z → n ≡ z → length (take (length m - 6) (drop 6 m)) ≡ 4 * n
+elements-long m n z h e = rw (to-end 6 m, length-drop) (omega arith)
+
+module _ (T : List ℕ) (k : Table) (m : List ℕ) (r s : ℕ) (h : Takable T k m r s) (xs : List ℕ)
+    (ex : xs ≡ elementsOf 4 (take (length m - 6) (drop 6 m))) where
+  elements-are : xs ≡ shareElements document01 m
+  elements-are = ex ∙ ap (elementsOf 4) (to-end 6 m)
+
+  pub the-share : (c : Counts) → c ≡ countsOf (columnsOf (sheetCut T k)) → length xs ≡ sizeOf (k .entries) (k .gates)
+      → Share (sheetCut T k) c xs r s
+  the-share c ec l = record {
+    is-read = sheet-reads T k (h .table);
+    counts-are = ec;
+    size = l ∙ size-is T k (h .table);
+    elements = rw elements-are (all-of-below 2147483647 (shareElements document01 m) (h .elements));
+    r-below = h .r-below;
+    s-below = h .s-below;
+  }
+
+  pub worked-out : judgedOf (columnsOf (sheetCut T k)) (k .own) xs r s
+      ≡ judgedOf (columnsIn document01 T) (k .own) (shareElements document01 m) r s
+  worked-out =
+      ap (λ (l : List ℕ). judgedOf (columnsOf l) (k .own) xs r s) (sheet-cut T k (h .table))
+      ∙ ap (λ (l : List ℕ). judgedOf (columnsIn document01 T) (k .own) l r s) elements-are

@@ -1,0 +1,117 @@
+-- `shares::judged` meets its contract: the sheet and the elements that it lends are what judging asks for (`the-share`).
+-- Assumes nothing.
+use mathlib.Core.Path.{_≡_, sym, ap, _∙_}
+use Prim.Native.Nat.{ℕ, _+_, _*_, _-_, _≤_}
+use native.Mathlib.Omega.{arith}
+use lib.ListN.{length, take, drop, length-append, length-drop}
+use lib.Seq.{length-take-le, take-at}
+use Rattle.shares.proofs.Working.{sheet-reads, elements-long, the-share, worked-out}
+use borrow.Author.Needs.{needs}
+use Rattle.shares.proofs.judged.Statement.{statement}
+use Rattle.shares.proofs.judged.Tie as tie
+
+share-size-requires : tie.Need-share-size-requires
+share-size-requires c κs = search needs
+
+sub-read-elements : tie.Need-sub-read-elements
+sub-read-elements c = search needs
+
+part-read-elements-start : tie.Need-part-read-elements-start
+part-read-elements-start c = search needs
+
+part-read-elements-end : tie.Need-part-read-elements-end
+part-read-elements-end c = search needs
+
+array-borrow-prefix-x : tie.Need-array-borrow-prefix-x
+array-borrow-prefix-x c = search needs
+
+slice-aggregate-read-elements : tie.Need-slice-aggregate-read-elements
+slice-aggregate-read-elements c =
+    let z = c .before .before .share-size in
+    let few : z .result ≤ 774 = omega (arith, z .ensures, c .before .before .before .before .before .pre .table .limited) in
+    sym (length-take-le _ _ few)
+
+read-elements-requires : tie.Need-read-elements-requires
+read-elements-requires c κs =
+    let z = c .before .before .share-size in
+    let p = c .before .before .before .before .before in
+    let few : z .result ≤ 774 = omega (arith, z .ensures, p .pre .table .limited) in
+    elements-long (p .args .m .now) _ _ (p .pre .long) (length-take-le _ _ few ∙ z .ensures)
+
+add-end : tie.Need-add-end
+add-end c = search needs
+
+sub-sheet : tie.Need-sub-sheet
+sub-sheet c = search needs
+
+part-sheet-start : tie.Need-part-sheet-start
+part-sheet-start c = search needs
+
+part-sheet-end : tie.Need-part-sheet-end
+part-sheet-end c = search needs
+
+counts-of-requires : tie.Need-counts-of-requires
+counts-of-requires c κs =
+    let p = c .before .before .before .before .before .before .before .before .before in
+    sheet-reads (p .args .t .now) (p .args .k) (p .pre .table)
+
+array-share-prefix-x : tie.Need-array-share-prefix-x
+array-share-prefix-x c =
+    let z = c .before .before .before .before .before .before .before .share-size in
+    let p = c .before .before .before .before .before .before .before .before .before .before in
+    let few : z .result ≤ 774 = omega (arith, z .ensures, p .pre .table .limited) in
+    let x = c .before .before .before .before .read-elements in
+    let l = x .kept .1 .0 ∙ length-take-le _ _ few in
+    rw (length-append, l) (omega arith)
+
+slice-aggregate-judge : tie.Need-slice-aggregate-judge
+slice-aggregate-judge c =
+    let z = c .before .before .before .before .before .before .before .before .share-size in
+    let p = c .before .before .before .before .before .before .before .before .before .before .before in
+    let few : z .result ≤ 774 = omega (arith, z .ensures, p .pre .table .limited) in
+    let x = c .before .before .before .before .before .read-elements in
+    let l = x .kept .1 .0 ∙ length-take-le _ _ few in
+    rw (take-at _ _ _ l) (sym l)
+
+judge-requires : tie.Need-judge-requires
+judge-requires c κs =
+    let z = c .before .before .before .before .before .before .before .before .share-size in
+    let p = c .before .before .before .before .before .before .before .before .before .before .before in
+    let few : z .result ≤ 774 = omega (arith, z .ensures, p .pre .table .limited) in
+    let x = c .before .before .before .before .before .read-elements in
+    let l = x .kept .1 .0 ∙ length-take-le _ _ few in
+    let a = p .args in
+    let n = c .before .counts-of in
+    rw (take-at _ _ _ l)
+    (the-share (a .t .now) (a .k) (a .m .now) (a .r) (a .s) (p .pre) _ (x .ensures) (n .result) (n .ensures) (l ∙ z .ensures))
+
+returns : tie.Need-returns
+returns c =
+    let z = c .before .before .before .before .before .before .before .before .before .share-size in
+    let p = c .before .before .before .before .before .before .before .before .before .before .before .before in
+    let few : z .result ≤ 774 = omega (arith, z .ensures, p .pre .table .limited) in
+    let x = c .before .before .before .before .before .before .read-elements in
+    let l = x .kept .1 .0 ∙ length-take-le _ _ few in
+    let a = p .args in
+    (rw (take-at _ _ _ l) at (c .judge .ensures)) ∙ worked-out (a .t .now) (a .k) (a .m .now) (a .r) (a .s) (p .pre) _ (x .ensures)
+
+pub judged-spec : {M : Type 1} → statement M
+judged-spec =
+    tie.close
+    (tie.spec
+    share-size-requires
+    sub-read-elements
+    part-read-elements-start
+    part-read-elements-end
+    array-borrow-prefix-x
+    slice-aggregate-read-elements
+    read-elements-requires
+    add-end
+    sub-sheet
+    part-sheet-start
+    part-sheet-end
+    counts-of-requires
+    array-share-prefix-x
+    slice-aggregate-judge
+    judge-requires
+    returns)

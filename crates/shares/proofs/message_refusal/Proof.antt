@@ -1,0 +1,48 @@
+-- `shares::message_refusal` meets its contract: a header that is not refused has its elements behind it, and these decide
+-- (`message-sound`, `message-over`). Assumes nothing.
+use mathlib.Core.Path.{sym, ap, _∙_}
+use Rattle.words.specs.Bytes.{elementsOf, allBelow}
+use Rattle.shares.proofs.Faults.{message-header, message-sound, message-over}
+use borrow.Author.Needs.{needs}
+use Rattle.shares.proofs.message_refusal.Statement.{statement}
+use Rattle.shares.proofs.message_refusal.Tie as tie
+
+header-refusal-requires : tie.Need-header-refusal-requires
+header-refusal-requires c κs = search needs
+
+returns : tie.Need-returns
+returns c =
+    let h = c .before .header-refusal in
+    let a = c .before .before .before .args in
+    h .ensures ∙ message-header (a .size) (a .own) (a .m .now) (rw (h .ensures) at (c .if1 .taken))
+
+share-part-requires : tie.Need-share-part-requires
+share-part-requires c κs = search needs
+
+elements-below-requires : tie.Need-elements-below-requires
+elements-below-requires c κs = search needs
+
+returns-2 : tie.Need-returns-2
+returns-2 c =
+    let h = c .before .before .before .before .header-refusal in
+    let a = c .before .before .before .before .before .before .args in
+    message-sound (a .size) (a .own) (a .m .now) (rw (h .ensures) at (c .before .before .before .if1 .left))
+    (rw (c .before .before .share-part .ensures, c .if2 .taken) at (sym (c .before .elements-below .ensures)))
+
+returns-3 : tie.Need-returns-3
+returns-3 c =
+    let h = c .before .before .before .before .header-refusal in
+    let a = c .before .before .before .before .before .before .args in
+    message-over (a .size) (a .own) (a .m .now) (rw (h .ensures) at (c .before .before .before .if1 .left))
+    (rw (c .before .before .share-part .ensures, c .if2 .left) at (sym (c .before .elements-below .ensures)))
+
+pub message-refusal-spec : {M : Type 1} → statement M
+message-refusal-spec =
+    tie.close
+    (tie.spec
+    header-refusal-requires
+    returns
+    share-part-requires
+    elements-below-requires
+    returns-2
+    returns-3)

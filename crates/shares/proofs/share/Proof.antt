@@ -1,0 +1,98 @@
+-- `shares::share` meets its contract: an unsound table and a refusal leave all as it was (`share-unsound`, `share-refused`);
+-- a share that no check refuses is what taking asks for (`takable`), and what it writes is what rules say (`share-done`).
+-- Assumes nothing.
+use mathlib.Core.Path.{_≡_, sym, _∙_}
+use native.Mathlib.Omega.{arith}
+use Rattle.table.proofs.Answers.{sound}
+use Rattle.shares.proofs.Sharing.{share-unsound, share-refused, share-done, takable}
+use borrow.Author.Needs.{needs}
+use Rattle.shares.proofs.share.Statement.{statement}
+use Rattle.shares.proofs.share.Tie as tie
+
+read-requires : tie.Need-read-requires
+read-requires c κs = search needs
+
+enum-told : tie.Need-enum-told
+enum-told c = search needs
+
+enum-known-k : tie.Need-enum-known-k
+enum-known-k c = search needs
+
+share-refusal-requires : tie.Need-share-refusal-requires
+share-refusal-requires c κs =
+    let a = c .before .before .before .before .before .before .before .before .before .args in
+    sound (a .table .now) _ (sym (c .before .before .before .before .read .ensures) ∙ c .before .before .k .given .1)
+
+same-length : tie.Need-same-length
+same-length c = search needs
+
+returns : tie.Need-returns
+returns c =
+    let a = c .before .before .before .before .before .before .before .before .before .before .before .args in
+    let h = sound (a .table .now) _ (sym (c .before .before .before .before .before .before .read .ensures) ∙ c .before .before .before .before .k .given .1) in
+    let x = c .before .share-refusal in
+    share-refused (a .table .now) (a .m .now) (a .r) (a .s) (a .out .now) _ h (x .result) (x .ensures) (c .if1 .taken)
+
+cast-take : tie.Need-cast-take
+cast-take c =
+    let a = c .before .before .before .before .before .before .before .before .before .before .before .before .args in
+    let h = sound (a .table .now) _ (sym (c .before .before .before .before .before .before .before .read .ensures) ∙ c .before .before .before .before .before .k .given .1) in
+    let x = c .before .before .share-refusal in
+    let t = takable (a .table .now) (a .m .now) (a .r) (a .s) (a .out .now) _ h (x .result) (x .ensures) (c .before .if1 .left) in
+    omega (arith, t .0 .r-below)
+
+cast-take-2 : tie.Need-cast-take-2
+cast-take-2 c =
+    let a = c .before .before .before .before .before .before .before .before .before .before .before .before .args in
+    let h = sound (a .table .now) _ (sym (c .before .before .before .before .before .before .before .read .ensures) ∙ c .before .before .before .before .before .k .given .1) in
+    let x = c .before .before .share-refusal in
+    let t = takable (a .table .now) (a .m .now) (a .r) (a .s) (a .out .now) _ h (x .result) (x .ensures) (c .before .if1 .left) in
+    omega (arith, t .0 .s-below)
+
+take-requires : tie.Need-take-requires
+take-requires c κs =
+    let a = c .before .before .before .before .before .before .before .before .before .before .before .before .before .args in
+    let h = sound (a .table .now) _ (sym (c .before .before .before .before .before .before .before .before .read .ensures) ∙ c .before .before .before .before .before .before .k .given .1) in
+    let x = c .before .before .before .share-refusal in
+    takable (a .table .now) (a .m .now) (a .r) (a .s) (a .out .now) _ h (x .result) (x .ensures) (c .before .before .if1 .left)
+
+same-length-2 : tie.Need-same-length-2
+same-length-2 c = search needs
+
+returns-2 : tie.Need-returns-2
+returns-2 c =
+    let a = c .before .before .before .before .before .before .before .args in
+    share-unsound (a .table .now) (a .m .now) (a .r) (a .s) (a .out .now) (sym (c .before .before .read .ensures) ∙ c .enum-told .given .1)
+
+same-length-3 : tie.Need-same-length-3
+same-length-3 c = search needs
+
+same-length-4 : tie.Need-same-length-4
+same-length-4 c = search needs
+
+returns-3 : tie.Need-returns-3
+returns-3 c =
+    let a = c .before .before .before .before .before .before .before .before .before .before .before .before .before .before .before .before .before .before .args in
+    let h = sound (a .table .now) _ (sym (c .before .before .before .before .before .before .before .before .before .before .before .before .before .read .ensures) ∙ c .before .before .before .before .before .before .before .before .before .before .before .k .given .1) in
+    let x = c .before .before .before .before .before .before .before .before .share-refusal in
+    let t = c .before .before .before .before .take in
+    rw (t .ensures .0, t .ensures .1) (share-done (a .table .now) (a .m .now) (a .r) (a .s) (a .out .now) _ h (x .result) (x .ensures) (c .before .before .before .before .before .before .before .if1 .left))
+
+pub share-spec : {M : Type 1} → statement M
+share-spec =
+    tie.close
+    (tie.spec
+    read-requires
+    enum-told
+    enum-known-k
+    share-refusal-requires
+    same-length
+    returns
+    cast-take
+    cast-take-2
+    take-requires
+    same-length-2
+    returns-2
+    same-length-3
+    same-length-4
+    returns-3)

@@ -1,0 +1,90 @@
+-- `shares::take` meets its contract: what it writes into the table and into the buffer is what rules say (`table-written`,
+-- `message-written`). Assumes nothing.
+use mathlib.Core.Path.{_≡_, sym, ap, _∙_}
+use native.Mathlib.Omega.{arith}
+use lib.ListN.{length-set}
+use Rattle.words.specs.Bytes.{splice}
+use Rattle.shares.proofs.Taken.{table-written, message-written}
+use borrow.Author.Needs.{needs}
+use Rattle.shares.proofs.take.Statement.{statement}
+use Rattle.shares.proofs.take.Tie as tie
+
+id-of-requires : tie.Need-id-of-requires
+id-of-requires c κs = search needs
+
+judged-requires : tie.Need-judged-requires
+judged-requires c κs = search needs
+
+wait-place-requires : tie.Need-wait-place-requires
+wait-place-requires c κs = search needs
+
+write-waiting-requires : tie.Need-write-waiting-requires
+write-waiting-requires c κs = search needs
+
+add-copy : tie.Need-add-copy
+add-copy c = search needs
+
+sub-copy : tie.Need-sub-copy
+sub-copy c = search needs
+
+part-copy-start : tie.Need-part-copy-start
+part-copy-start c = search needs
+
+part-copy-end : tie.Need-part-copy-end
+part-copy-end c = search needs
+
+copy-requires : tie.Need-copy-requires
+copy-requires c κs = search needs
+
+slice-write-table : tie.Need-slice-write-table
+slice-write-table c = search needs
+
+cast-write-round : tie.Need-cast-write-round
+cast-write-round c =
+    let l = c .before .before .before .before .before .before .before .before .before .before .before .before .before .before .before .before .before .before .pre .0 .table .limited in
+    omega (arith, l .own-one, l .servers-few)
+
+write-round-requires : tie.Need-write-round-requires
+write-round-requires c κs = search needs
+
+same-length : tie.Need-same-length
+same-length c =
+    simp length-set (omega (arith, c .before .before .before .before .before .before .before .copy .kept .0, c .before .before .before .before .before .before .before .before .before .before .before .before .write-waiting .kept .0))
+
+same-length-2 : tie.Need-same-length-2
+same-length-2 c = search needs
+
+returns : tie.Need-returns
+returns c =
+    let p = c .before .before .before .before .before .before .before .before .before .before .before .before .before .before .before .before .before .before .before .before .before in
+    let a = p .args in
+    let i = c .before .before .before .before .before .before .before .before .before .before .before .before .before .before .before .before .before .id-of in
+    let j = c .before .before .before .before .before .before .before .before .before .before .before .before .before .before .before .judged in
+    let w = c .before .before .before .before .before .before .before .before .before .before .before .before .before .before .wait-place in (
+      rw (c .before .before .before .before .before .before .before .copy .ensures, c .before .before .before .before .before .before .before .before .before .before .before .before .write-waiting .ensures)
+          (table-written (a .table .now) (a .k) (a .m .now) (a .r) (a .s) (p .pre .0) (i .result) (j .result) (i .ensures) (j .ensures)
+          (w .result) (w .ensures)),
+      c .before .before .write-round .ensures
+          ∙ ap (splice (a .out .now) 0)
+          (message-written (a .table .now) (a .k) (a .m .now) (a .r) (a .s) (p .pre .0) (i .result) (j .result) (i .ensures) (j .ensures)),
+    )
+
+pub take-spec : {M : Type 1} → statement M
+take-spec =
+    tie.close
+    (tie.spec
+    id-of-requires
+    judged-requires
+    wait-place-requires
+    write-waiting-requires
+    add-copy
+    sub-copy
+    part-copy-start
+    part-copy-end
+    copy-requires
+    slice-write-table
+    cast-write-round
+    write-round-requires
+    same-length
+    same-length-2
+    returns)

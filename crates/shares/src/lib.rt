@@ -1,0 +1,165 @@
+// Taking a share. The definitions that the contracts cite are those of the crate rules, at document 01's setting, and of
+// specs/. A refusal leaves the table and the buffer as they were.
+ghost use mathlib.Core.Path.{_≡_};
+ghost use Prim.Native.Nat.{_+_, _≤_};
+ghost use lib.ListN.{length};
+ghost use Rattle.words.specs.Bytes.{splice};
+ghost use Rattle.records.specs.Outcome.{ok};
+ghost use Rattle.rules.specs.Columns.{readSheet, columnsOf};
+ghost use Rattle.rules.specs.Settings.{document01};
+ghost use Rattle.rules.specs.Server.{shareRefusal};
+ghost use Rattle.rules.specs.Messages.{shareElements};
+ghost use Rattle.rules.specs.Table.{known, columnsIn, shareTable, shareBytes};
+ghost use Rattle.sheet.specs.Reading.{countsOf};
+ghost use Rattle.snip.specs.Judged.{judgedOf};
+ghost use Rattle.table.specs.Reading.{Sound};
+ghost use Rattle.shares.specs.Calls.{Shares};
+ghost use Rattle.shares.specs.Taking.{startFault, messageFault, lastFault, waitBytes, Fitting, Takable};
+use records::Written;
+use sheet::Counts;
+use sheet::Reading;
+use snip::judging::Judged;
+use snip::judging::judge;
+use table::Found;
+use table::Table;
+use table::has_id;
+use table::pair_sound;
+use table::places::ids_place;
+use table::places::share_size;
+use table::places::wait_place;
+use table::read;
+
+// The refusal by the table: 11 where it is not idle, 13 where N returns are decided, 0 for none.
+fn start_refusal(k: Table) -> u32
+    ensures { λ n. ⌜ n ≡ startFault k ⌝ }
+{
+    if k.stage != 0 {
+        return 11;
+    }
+    if k.decided < k.returns {
+        return 0;
+    }
+    13
+}
+
+// The refusal by the message of a share of `size` elements: 7 by its header, 8 by an element, 0 for none.
+fn message_refusal(m: &[u8], size: usize, own: u32) -> u32
+    requires { ⌜ size ≤ 774 ⌝ }
+    ensures { λ n. ⌜ n ≡ messageFault size own (now (m .entry)) ⌝ }
+{
+    let refusal = message::header_refusal(m, size, own);
+    if refusal != 0 {
+        return refusal;
+    }
+    if words::elements_below(message::share_part(m, size, own), field::P) {
+        return 0;
+    }
+    8
+}
+
+// The refusal by what is left: 10 for an id already decided, 9 for a pair out of range, 14 for too little room, 0 for none.
+fn last_refusal(t: &[u8], k: Table, m: &[u8], r: u64, s: u64, room: usize) -> u32
+    requires { ⌜ Fitting (now t) k (now m) ⌝ }
+    ensures { λ n. ⌜ n ≡ lastFault (now (t .entry)) k (now (m .entry)) r s room ⌝ }
+{
+    let start = ids_place(k.sheet, k.published);
+    let end = start + 4 * (k.decided as usize);
+    if has_id(&t[start..end], message::id_of(m)) {
+        return 10;
+    }
+    if !pair_sound(k.gates, r, s) {
+        return 9;
+    }
+    if room < 14 {
+        return 14;
+    }
+    0
+}
+
+// The refusal of a share by a sound table, 0 for none: 11, 13, 7, 8, 10, 9, 14.
+fn share_refusal(t: &[u8], k: Table, m: &[u8], r: u64, s: u64, room: usize) -> u32
+    requires { ⌜ Sound (now t) k ⌝ }
+    ensures { λ n. ⌜ n ≡ shareRefusal document01 (known document01 (now (t .entry))) (now (m .entry)) r s room ⌝ }
+{
+    let start = start_refusal(k);
+    if start != 0 {
+        return start;
+    }
+    let message = message_refusal(m, share_size(k.entries, k.gates), k.own);
+    if message != 0 {
+        return message;
+    }
+    last_refusal(t, k, m, r, s, room)
+}
+
+// The counts of a sheet that is read.
+fn counts_of(sheet: &[u8]) -> Counts
+    requires { ⌜ readSheet (now sheet) ≡ ok (columnsOf (now sheet)) ⌝ }
+    ensures { λ c. ⌜ c ≡ countsOf (columnsOf (now (sheet .entry))) ⌝ }
+{
+    match sheet::read(sheet) {
+        Reading::Counts(counts) => counts,
+        Reading::Refused(_) => Counts {
+            columns: 0,
+            entries: 0,
+            published: 0,
+            gates: 0,
+            tests: 0,
+        },
+    }
+}
+
+// What the server works out from the share m with the pair r, s.
+fn judged(t: &[u8], k: Table, m: &[u8], r: u32, s: u32) -> Judged
+    requires { ⌜ Takable (now t) k (now m) r s ⌝ }
+    ensures { λ j. ⌜ j
+        ≡ judgedOf (columnsIn document01 (now (t .entry))) (k .own) (shareElements document01 (now (m .entry))) r s ⌝ }
+{
+    let mut x = [0u32; 774];
+    let size = share_size(k.entries, k.gates);
+    words::read_elements(&m[6..], &mut x[..size]);
+    let end = 12 + k.sheet;
+    let sheet = &t[12..end];
+    judge(sheet, counts_of(sheet), k.own, &x[..size], r, s)
+}
+
+// Writes the return that waits, but for its elements.
+fn write_waiting(t: &mut [u8], at: usize, id: u32, r: u32, s: u32, j: Judged)
+    requires { ⌜ at + 28 ≤ length (now t) ⌝ }
+    ensures { λ _. ⌜ now (t .exit) ≡ splice (now (t .entry)) at (waitBytes id r s j) ⌝ }
+{
+    let numbers = [id, r, s, j.d, j.e, j.rh, j.tau];
+    words::write_elements(t, at, &numbers);
+}
+
+// Takes a share that is not refused: it waits for round one, whose message is written.
+fn take(table: &mut [u8], k: Table, m: &[u8], r: u32, s: u32, out: &mut [u8])
+    requires { ⌜ Takable (now table) k (now m) r s × (14 ≤ length (now out)) ⌝ }
+    ensures { λ _. ⌜ (now (table .exit) ≡ shareTable document01 (now (table .entry)) (now (m .entry)) r s)
+        × (now (out .exit) ≡ splice (now (out .entry)) 0 (shareBytes document01 (now (table .entry)) (now (m .entry)) r s)) ⌝ }
+{
+    let id = message::id_of(m);
+    let j = judged(table, k, m, r, s);
+    let at = wait_place(k.sheet, k.published, k.returns);
+    write_waiting(table, at, id, r, s, j);
+    words::copy(table, at + 28, &m[6..]);
+    table[1] = 1;
+    message::write_round(out, 34, id, k.own as u8, j.d, j.e);
+}
+
+// Takes the share message m with the pair r, s, and writes the message of round one.
+pub fn share(table: &mut [u8], m: &[u8], r: u64, s: u64, out: &mut [u8]) -> Written
+    ensures { λ a. ⌜ Shares (now (table .entry)) (now (m .entry)) r s (now (out .entry)) a (now (table .exit)) (now (out .exit)) ⌝ }
+{
+    match read(table) {
+        Found::Unsound => Written::Refused(11),
+        Found::Table(k) => {
+            let refusal = share_refusal(table, k, m, r, s, out.len());
+            if refusal != 0 {
+                return Written::Refused(refusal);
+            }
+            take(table, k, m, r as u32, s as u32, out);
+            Written::Done(14)
+        }
+    }
+}

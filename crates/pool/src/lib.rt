@@ -4,7 +4,7 @@
 ghost use mathlib.Core.Path.{_≡_};
 ghost use Rattle.pool.specs.Outcomes.{numberOf, lengthOf};
 ghost use Rattle.pool.specs.Calls.{ReadsSheet, WritesCircuit, ReadsCircuit};
-ghost use Rattle.pool.specs.Tables.{TakesShare, Drops, Joins};
+ghost use Rattle.pool.specs.Tables.{Opens, TakesShare, Drops, Closes, Joins};
 use records::Written;
 use sheet::Reading;
 use totals::Joined;
@@ -82,6 +82,21 @@ pub extern "C" fn pool_read_circuit(
 // ---- A server's table
 
 #[no_mangle]
+pub extern "C" fn pool_open(
+    servers: u32,
+    own: u32,
+    sheet: &[u8],
+    returns: u32,
+    table: &mut [u8],
+    written: &mut usize,
+) -> u32
+    ensures { λ a. ⌜ Opens servers own (now (sheet .entry)) returns (now (table .entry)) (now (written .entry))
+        a (now (table .exit)) (now (written .exit)) ⌝ }
+{
+    told(server::open(servers, own, sheet, returns, table), written)
+}
+
+#[no_mangle]
 pub extern "C" fn pool_share(
     table: &mut [u8],
     message: &[u8],
@@ -101,6 +116,14 @@ pub extern "C" fn pool_drop(table: &mut [u8]) -> u32
     ensures { λ a. ⌜ Drops (now (table .entry)) a (now (table .exit)) ⌝ }
 {
     server::drop(table)
+}
+
+#[no_mangle]
+pub extern "C" fn pool_close(table: &mut [u8], out: &mut [u8], written: &mut usize) -> u32
+    ensures { λ a. ⌜ Closes (now (table .entry)) (now (out .entry)) (now (written .entry))
+        a (now (table .exit)) (now (out .exit)) (now (written .exit)) ⌝ }
+{
+    told(server::close(table, out), written)
 }
 
 // ---- Totals

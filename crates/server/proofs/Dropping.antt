@@ -1,16 +1,14 @@
 -- A drop: refused where the table is unsound or no return waits, else the return is decided. Assumes nothing.
-use mathlib.Core.Path.{_≡_, refl, sym, _∙_}
+use mathlib.Core.Path.{_≡_, sym}
 use mathlib.Core.Bool.{true, false, cond}
 use mathlib.Core.List.{List}
-use Prim.Native.Nat.{ℕ, zero, suc, _≤_}
+use Prim.Native.Nat.{ℕ}
 use native.Mathlib.Omega.{arith}
-use borrow.Author.Tests.{ne-eqb}
-use lib.Dec.{eqb}
 use Rattle.words.specs.Bytes.{valueOf, part}
 use Rattle.records.specs.Outcome.{orElse}
 use Rattle.rules.specs.Settings.{document01}
 use Rattle.rules.specs.Columns.{within}
-use Rattle.rules.specs.Server.{Waiting, Stage, idle, awaitsOne, awaitsTwo, closed, whileWaiting, dropRefusal}
+use Rattle.rules.specs.Server.{dropRefusal}
 use Rattle.rules.specs.Table.{stageByte, waitingIn, stageIn, known, tableFault, decidedTable, dropRefused, dropTable, idsPlace, waitPlace}
 use Rattle.rules.proofs.Limits.{within-both}
 use Rattle.table.specs.Places.{waitAt}
@@ -21,28 +19,7 @@ use Rattle.server.specs.Calls.{Drops}
 use Rattle.table.specs.declared.Table.{Table}
 use Rattle.table.specs.declared.Found.the-variants as answer
 use Rattle.table.proofs.Answers.{unsound}
-
-abbrev stageOf : ℕ → Waiting → Stage
-stageOf b w = cond (eqb b 0) idle (cond (eqb b 1) (awaitsOne w) (cond (eqb b 2) (awaitsTwo w) closed))
-
-none-waits : (b : ℕ) (w : Waiting) → within 1 2 b ≡ false → whileWaiting (stageOf b w) ≡ 11
-unfolding whileWaiting
-none-waits zero w e = refl
-none-waits (suc zero) w e = let z : _≡_ {A = ℕ} 0 1 = cc in absurd (omega arith)
-none-waits (suc (suc zero)) w e = let z : _≡_ {A = ℕ} 0 1 = cc in absurd (omega arith)
-none-waits (suc (suc (suc b))) w e =
-    rw (
-      ne-eqb (suc (suc (suc b))) 0 (λ z. omega arith),
-      ne-eqb (suc (suc (suc b))) 1 (λ z. omega arith),
-      ne-eqb (suc (suc (suc b))) 2 (λ z. omega arith),
-    )
-
-one-waits : (b : ℕ) (w : Waiting) → (1 ≤ b) × (b ≤ 2) → whileWaiting (stageOf b w) ≡ 0
-unfolding whileWaiting
-one-waits zero w h = absurd (omega (arith, h .0))
-one-waits (suc zero) w h = refl
-one-waits (suc (suc zero)) w h = refl
-one-waits (suc (suc (suc b))) w h = absurd (omega (arith, h .1))
+use Rattle.server.proofs.Stages.{none-waits, one-waits}
 
 module _ (T : List ℕ) where
   refused : dropRefused document01 T ≡ 11 → Drops T 11 T

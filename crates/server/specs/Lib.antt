@@ -1,2 +1,3 @@
 -- What the contracts of this crate cite besides rules.
 pub mod Calls
+pub mod Fresh

@@ -1,16 +1,14 @@
 -- The refusals of a share, check by check. Assumes nothing.
-use mathlib.Core.Path.{_≡_, refl, sym, ap, _∙_}
+use mathlib.Core.Path.{_≡_, sym, _∙_}
 use mathlib.Core.Bool.{Bool, true, false, not, cond}
 use mathlib.Core.List.{List}
 use Prim.Native.Nat.{ℕ, _+_, _-_, _*_, _≤_, _<_}
-use native.Mathlib.Omega.{arith}
 use borrow.Author.Tests.{eq-eqb, ne-eqb, lt-ltb, le-ltb, lt-leb, le-leb, not-true, not-false}
 use lib.ListN.{take, drop}
 use Rattle.words.specs.Bytes.{part, elementsOf, allBelow}
 use Rattle.records.specs.Outcome.{orElse}
 use Rattle.records.proofs.Outcome.{or-none, or-first}
-use Rattle.rules.specs.Settings.{document01}
-use Rattle.rules.specs.Messages.{idIn, shareElements, elementsFault}
+use Rattle.rules.specs.Messages.{idIn, elementsFault}
 use Rattle.rules.specs.Server.{has}
 use Rattle.message.specs.Shares.{headerFaultAt, sharePart}
 use Rattle.message.proofs.Shares.{part-sound}

@@ -21,7 +21,7 @@ use Rattle.rules.specs.Table.{stageByte, waitingIn, idsIn, decidedIn, stageIn, 
 use Rattle.rules.specs.Messages.{elementsFault}
 use Rattle.message.specs.Shares.{headerFaultAt}
 use Rattle.message.proofs.Shares.{header-fault, header-long}
-use Rattle.table.specs.Places.{idsAt, lengthAt, sizeOf}
+use Rattle.table.specs.Places.{idsAt, sizeOf}
 use Rattle.table.specs.Reading.{tableOf, pairSound, Sound}
 use Rattle.table.specs.declared.Table.{Table}
 use Rattle.shares.specs.Taking.{startFault, messageFault, lastFault, Fitting}
@@ -68,22 +68,22 @@ module _ (T m : List ℕ) (r s room : ℕ) where
   pub refusal-in-order : (k : Table) → Sound T k → shareRefusal document01 (known document01 T) m r s room ≡ inOrder k
   refusal-in-order k h = rw (h .says) (refusal-at (rw (h .says) at h))
 
-  -- the first check that refuses
-  module _ (k : Table) (h : Sound T k) where
-    pub refused-first : (x : ℕ) → x ≡ startFault k → (x ≡ 0 → ⊥) → x ≡ shareRefusal document01 (known document01 T) m r s room
-    refused-first x e n = rw (refusal-in-order k h, ← e) (sym (or-first x _ n))
+  -- the table and the message, then the rest
+  module _ (k : Table) (h : Sound T k) (x z y n : ℕ) (ex : x ≡ startFault k) (ez : z ≡ sizeOf (k .entries) (k .gates))
+      (ey : y ≡ messageFault z (k .own) m) (en : n ≡ orElse x y) where
+    in-two : shareRefusal document01 (known document01 T) m r s room ≡ orElse n (lastFault T k m r s room)
+    in-two = refusal-in-order k h ∙ rw (en, or-assoc, ex, ey, ez)
 
-    module _ (x z y : ℕ) (e : x ≡ startFault k) (none : x ≡ 0) (ez : z ≡ sizeOf (k .entries) (k .gates))
-        (ey : y ≡ messageFault z (k .own) m) where
-      pub refused-second : (y ≡ 0 → ⊥) → y ≡ shareRefusal document01 (known document01 T) m r s room
-      refused-second n = rw (refusal-in-order k h, ← e, none, or-none, ← ez, ← ey) (sym (or-first y _ n))
+    pub refused-first : (n ≡ 0 → ⊥) → n ≡ shareRefusal document01 (known document01 T) m r s room
+    refused-first f = rw in-two (sym (or-first n _ f))
 
-      module _ (none-yet : y ≡ 0) where
-        pub refused-last : lastFault T k m r s room ≡ shareRefusal document01 (known document01 T) m r s room
-        refused-last = rw (refusal-in-order k h, ← e, none, or-none, ← ez, ← ey, none-yet, or-none)
+    module _ (none : n ≡ 0) where
+      pub refused-last : lastFault T k m r s room ≡ shareRefusal document01 (known document01 T) m r s room
+      refused-last = rw (in-two, none, or-none)
 
-        pub fitting : Fitting T k m
-        unfolding messageFault
-        fitting =
-            let f = or-zero (headerFaultAt z (k .own) m) (elementsFault document01 m) (sym ey ∙ none-yet) in
-            record { table = h; long = rw ez at (header-long z (k .own) m (f .0)) }
+      pub fitting : Fitting T k m
+      unfolding messageFault
+      fitting =
+          let b = or-zero x y (sym en ∙ none) in
+          let f = or-zero (headerFaultAt z (k .own) m) (elementsFault document01 m) (sym ey ∙ b .1) in
+          record { table = h; long = rw ez at (header-long z (k .own) m (f .0)) }

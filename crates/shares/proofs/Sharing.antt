@@ -1,11 +1,11 @@
 -- A share: refused where the table is unsound or a check refuses, else taken; what is taken keeps to the limits that
 -- taking asks for (`takable`). Assumes nothing.
-use mathlib.Core.Path.{_≡_, refl, sym, _∙_}
+use mathlib.Core.Path.{_≡_, sym, _∙_}
 use mathlib.Core.Bool.{true, not, _&&_}
 use mathlib.Core.List.{List}
-use Prim.Native.Nat.{ℕ, _+_, _*_, _≤_, _<_}
+use Prim.Native.Nat.{ℕ, _*_, _≤_, _<_}
 use native.Mathlib.Omega.{arith}
-use borrow.Author.Tests.{eq-eqb, ne-eqb, ltb-true, leb-true}
+use borrow.Author.Tests.{ne-eqb, ltb-true, leb-true}
 use lib.Dec.{ltb, leb}
 use lib.ListN.{length}
 use Rattle.algebra.proofs.Members.{and-left, and-right}
@@ -13,7 +13,7 @@ use Rattle.words.specs.Bytes.{part, elementsOf, allBelow, splice}
 use Rattle.records.specs.Answers.{answered, onlyIf}
 use Rattle.records.specs.Outcome.{orElse}
 use Rattle.records.specs.declared.Written.the-variants as written
-use Rattle.records.proofs.Outcome.{or-none, or-first, or-zero}
+use Rattle.records.proofs.Outcome.{or-none, or-zero}
 use Rattle.rules.specs.Settings.{document01}
 use Rattle.rules.specs.Columns.{check}
 use Rattle.rules.specs.Messages.{idIn, shareElements, elementsFault}

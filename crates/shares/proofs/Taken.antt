@@ -1,8 +1,8 @@
 -- A share that is taken: the return that waits, its elements and the stage are put where they stand, and the round message
 -- is the one of what was worked out. What judging gives is what rules note, by unfolding both. Assumes nothing.
-use mathlib.Core.Path.{_≡_, refl, sym, ap, _∙_}
+use mathlib.Core.Path.{_≡_, refl, _∙_}
 use mathlib.Core.List.{List, [], _∷_, _++_}
-use Prim.Native.Nat.{ℕ, _+_, _-_, _*_, _≤_, _<_}
+use Prim.Native.Nat.{ℕ, _+_, _-_, _*_, _≤_}
 use native.Mathlib.Omega.{arith}
 use lib.ListN.{length, take, drop, set, length-append, length-drop}
 use Rattle.words.specs.Bytes.{bytesOf, bytesOfAll, splice}
@@ -17,7 +17,7 @@ use Rattle.message.proofs.Parts.{to-end}
 use Rattle.snip.specs.Judged.{judgedOf}
 use Rattle.snip.specs.declared.judging.Judged.{Judged}
 use Rattle.table.specs.Places.{waitAt, sizeOf}
-use Rattle.table.specs.Reading.{tableOf, Sound}
+use Rattle.table.specs.Reading.{tableOf}
 use Rattle.table.specs.declared.Table.{Table}
 use Rattle.shares.specs.Taking.{waitBytes, Takable}
 

@@ -1,9 +1,9 @@
 -- What is worked out from a share that is taken: the sheet that the code cuts out of a sound table is read, the elements
 -- that it reads are those of the message, and both are what judging asks for. Assumes nothing.
-use mathlib.Core.Path.{_≡_, refl, sym, ap, _∙_}
+use mathlib.Core.Path.{_≡_, sym, ap, _∙_}
 use mathlib.Core.Bool.{true, not, _&&_, _||_}
 use mathlib.Core.List.{List}
-use Prim.Native.Nat.{ℕ, _+_, _-_, _*_, _≤_, _<_}
+use Prim.Native.Nat.{ℕ, _+_, _-_, _*_}
 use native.Mathlib.Omega.{arith}
 use borrow.Author.Tests.{eqb-true}
 use lib.Dec.{eqb}
@@ -21,7 +21,6 @@ use Rattle.message.proofs.Parts.{to-end}
 use Rattle.sheet.specs.declared.Counts.{Counts}
 use Rattle.sheet.specs.Reading.{countsOf}
 use Rattle.snip.specs.Judged.{Share, judgedOf}
-use Rattle.snip.specs.declared.judging.Judged.{Judged}
 use Rattle.table.specs.Places.{sizeOf}
 use Rattle.table.specs.Reading.{tableOf, startSound, Headed, Sound}
 use Rattle.table.specs.declared.Table.{Table}

@@ -4,7 +4,7 @@ ghost use mathlib.Core.Path.{_≡_};
 ghost use Prim.Native.Nat.{_+_, _≤_};
 ghost use lib.ListN.{length};
 ghost use Rattle.words.specs.Bytes.{splice};
-ghost use Rattle.records.specs.Outcome.{ok};
+ghost use Rattle.records.specs.Outcome.{ok, orElse};
 ghost use Rattle.rules.specs.Columns.{readSheet, columnsOf};
 ghost use Rattle.rules.specs.Settings.{document01};
 ghost use Rattle.rules.specs.Server.{shareRefusal};
@@ -28,6 +28,16 @@ use table::places::ids_place;
 use table::places::share_size;
 use table::places::wait_place;
 use table::read;
+
+// The first of two refusals, 0 for none.
+fn or_else(a: u32, b: u32) -> u32
+    ensures { λ n. ⌜ n ≡ orElse a b ⌝ }
+{
+    if a != 0 {
+        return a;
+    }
+    b
+}
 
 // The refusal by the table: 11 where it is not idle, 13 where N returns are decided, 0 for none.
 fn start_refusal(k: Table) -> u32
@@ -81,13 +91,11 @@ fn share_refusal(t: &[u8], k: Table, m: &[u8], r: u64, s: u64, room: usize) -> u
     requires { ⌜ Sound (now t) k ⌝ }
     ensures { λ n. ⌜ n ≡ shareRefusal document01 (known document01 (now (t .entry))) (now (m .entry)) r s room ⌝ }
 {
-    let start = start_refusal(k);
-    if start != 0 {
-        return start;
-    }
-    let message = message_refusal(m, share_size(k.entries, k.gates), k.own);
-    if message != 0 {
-        return message;
+    let first = start_refusal(k);
+    let second = message_refusal(m, share_size(k.entries, k.gates), k.own);
+    let refusal = or_else(first, second);
+    if refusal != 0 {
+        return refusal;
     }
     last_refusal(t, k, m, r, s, room)
 }

@@ -1,9 +1,9 @@
 -- `shares::judged` meets its contract: the sheet and the elements that it lends are what judging asks for (`the-share`).
 -- Assumes nothing.
-use mathlib.Core.Path.{_≡_, sym, ap, _∙_}
-use Prim.Native.Nat.{ℕ, _+_, _*_, _-_, _≤_}
+use mathlib.Core.Path.{sym, _∙_}
+use Prim.Native.Nat.{_≤_}
 use native.Mathlib.Omega.{arith}
-use lib.ListN.{length, take, drop, length-append, length-drop}
+use lib.ListN.{length-append}
 use lib.Seq.{length-take-le, take-at}
 use Rattle.shares.proofs.Working.{sheet-reads, elements-long, the-share, worked-out}
 use borrow.Author.Needs.{needs}

@@ -1,7 +1,6 @@
 -- `shares::message_refusal` meets its contract: a header that is not refused has its elements behind it, and these decide
 -- (`message-sound`, `message-over`). Assumes nothing.
-use mathlib.Core.Path.{sym, ap, _∙_}
-use Rattle.words.specs.Bytes.{elementsOf, allBelow}
+use mathlib.Core.Path.{sym, _∙_}
 use Rattle.shares.proofs.Faults.{message-header, message-sound, message-over}
 use borrow.Author.Needs.{needs}
 use Rattle.shares.proofs.message_refusal.Statement.{statement}

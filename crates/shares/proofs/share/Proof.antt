@@ -1,7 +1,7 @@
 -- `shares::share` meets its contract: an unsound table and a refusal leave all as it was (`share-unsound`, `share-refused`);
 -- a share that no check refuses is what taking asks for (`takable`), and what it writes is what rules say (`share-done`).
 -- Assumes nothing.
-use mathlib.Core.Path.{_≡_, sym, _∙_}
+use mathlib.Core.Path.{sym, _∙_}
 use native.Mathlib.Omega.{arith}
 use Rattle.table.proofs.Answers.{sound}
 use Rattle.shares.proofs.Sharing.{share-unsound, share-refused, share-done, takable}
@@ -20,40 +20,49 @@ enum-known-k c = search needs
 
 share-refusal-requires : tie.Need-share-refusal-requires
 share-refusal-requires c κs =
-    let a = c .before .before .before .before .before .before .before .before .before .args in
-    sound (a .table .now) _ (sym (c .before .before .before .before .read .ensures) ∙ c .before .before .k .given .1)
+    let u = c .before .before in
+    let a = u .before .before .before .before .before .before .before .args in
+    sound (a .table .now) _ (sym (u .before .before .read .ensures) ∙ u .k .given .1)
 
 same-length : tie.Need-same-length
 same-length c = search needs
 
 returns : tie.Need-returns
 returns c =
-    let a = c .before .before .before .before .before .before .before .before .before .before .before .args in
-    let h = sound (a .table .now) _ (sym (c .before .before .before .before .before .before .read .ensures) ∙ c .before .before .before .before .k .given .1) in
-    let x = c .before .share-refusal in
+    let q = c .before in
+    let x = q .share-refusal in
+    let u = q .before .before .before in
+    let a = u .before .before .before .before .before .before .before .args in
+    let h = sound (a .table .now) _ (sym (u .before .before .read .ensures) ∙ u .k .given .1) in
     share-refused (a .table .now) (a .m .now) (a .r) (a .s) (a .out .now) _ h (x .result) (x .ensures) (c .if1 .taken)
 
 cast-take : tie.Need-cast-take
 cast-take c =
-    let a = c .before .before .before .before .before .before .before .before .before .before .before .before .args in
-    let h = sound (a .table .now) _ (sym (c .before .before .before .before .before .before .before .read .ensures) ∙ c .before .before .before .before .before .k .given .1) in
-    let x = c .before .before .share-refusal in
+    let q = c .before .before in
+    let x = q .share-refusal in
+    let u = q .before .before .before in
+    let a = u .before .before .before .before .before .before .before .args in
+    let h = sound (a .table .now) _ (sym (u .before .before .read .ensures) ∙ u .k .given .1) in
     let t = takable (a .table .now) (a .m .now) (a .r) (a .s) (a .out .now) _ h (x .result) (x .ensures) (c .before .if1 .left) in
     omega (arith, t .0 .r-below)
 
 cast-take-2 : tie.Need-cast-take-2
 cast-take-2 c =
-    let a = c .before .before .before .before .before .before .before .before .before .before .before .before .args in
-    let h = sound (a .table .now) _ (sym (c .before .before .before .before .before .before .before .read .ensures) ∙ c .before .before .before .before .before .k .given .1) in
-    let x = c .before .before .share-refusal in
+    let q = c .before .before in
+    let x = q .share-refusal in
+    let u = q .before .before .before in
+    let a = u .before .before .before .before .before .before .before .args in
+    let h = sound (a .table .now) _ (sym (u .before .before .read .ensures) ∙ u .k .given .1) in
     let t = takable (a .table .now) (a .m .now) (a .r) (a .s) (a .out .now) _ h (x .result) (x .ensures) (c .before .if1 .left) in
     omega (arith, t .0 .s-below)
 
 take-requires : tie.Need-take-requires
 take-requires c κs =
-    let a = c .before .before .before .before .before .before .before .before .before .before .before .before .before .args in
-    let h = sound (a .table .now) _ (sym (c .before .before .before .before .before .before .before .before .read .ensures) ∙ c .before .before .before .before .before .before .k .given .1) in
-    let x = c .before .before .before .share-refusal in
+    let q = c .before .before .before in
+    let x = q .share-refusal in
+    let u = q .before .before .before in
+    let a = u .before .before .before .before .before .before .before .args in
+    let h = sound (a .table .now) _ (sym (u .before .before .read .ensures) ∙ u .k .given .1) in
     takable (a .table .now) (a .m .now) (a .r) (a .s) (a .out .now) _ h (x .result) (x .ensures) (c .before .before .if1 .left)
 
 same-length-2 : tie.Need-same-length-2
@@ -72,11 +81,15 @@ same-length-4 c = search needs
 
 returns-3 : tie.Need-returns-3
 returns-3 c =
-    let a = c .before .before .before .before .before .before .before .before .before .before .before .before .before .before .before .before .before .before .args in
-    let h = sound (a .table .now) _ (sym (c .before .before .before .before .before .before .before .before .before .before .before .before .before .read .ensures) ∙ c .before .before .before .before .before .before .before .before .before .before .before .k .given .1) in
-    let x = c .before .before .before .before .before .before .before .before .share-refusal in
+    let q = c .before .before .before .before .before .before .before .before in
+    let x = q .share-refusal in
+    let u = q .before .before .before in
+    let a = u .before .before .before .before .before .before .before .args in
+    let h = sound (a .table .now) _ (sym (u .before .before .read .ensures) ∙ u .k .given .1) in
     let t = c .before .before .before .before .take in
-    rw (t .ensures .0, t .ensures .1) (share-done (a .table .now) (a .m .now) (a .r) (a .s) (a .out .now) _ h (x .result) (x .ensures) (c .before .before .before .before .before .before .before .if1 .left))
+    rw (t .ensures .0, t .ensures .1)
+    (share-done (a .table .now) (a .m .now) (a .r) (a .s) (a .out .now) _ h (x .result) (x .ensures)
+    (c .before .before .before .before .before .before .before .if1 .left))
 
 pub share-spec : {M : Type 1} → statement M
 share-spec =

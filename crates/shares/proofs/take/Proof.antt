@@ -1,6 +1,6 @@
 -- `shares::take` meets its contract: what it writes into the table and into the buffer is what rules say (`table-written`,
 -- `message-written`). Assumes nothing.
-use mathlib.Core.Path.{_≡_, sym, ap, _∙_}
+use mathlib.Core.Path.{ap, _∙_}
 use native.Mathlib.Omega.{arith}
 use lib.ListN.{length-set}
 use Rattle.words.specs.Bytes.{splice}
@@ -41,7 +41,8 @@ slice-write-table c = search needs
 
 cast-write-round : tie.Need-cast-write-round
 cast-write-round c =
-    let l = c .before .before .before .before .before .before .before .before .before .before .before .before .before .before .before .before .before .before .pre .0 .table .limited in
+    let w = c .before .before .before .before .before .before .before .before .before in
+    let l = w .before .before .before .before .before .before .before .before .before .pre .0 .table .limited in
     omega (arith, l .own-one, l .servers-few)
 
 write-round-requires : tie.Need-write-round-requires
@@ -49,24 +50,28 @@ write-round-requires c κs = search needs
 
 same-length : tie.Need-same-length
 same-length c =
-    simp length-set (omega (arith, c .before .before .before .before .before .before .before .copy .kept .0, c .before .before .before .before .before .before .before .before .before .before .before .before .write-waiting .kept .0))
+    let y = c .before .before .before .before .before .before .before in
+    simp length-set (omega (arith, y .copy .kept .0, y .before .before .before .before .before .write-waiting .kept .0))
 
 same-length-2 : tie.Need-same-length-2
 same-length-2 c = search needs
 
 returns : tie.Need-returns
 returns c =
-    let p = c .before .before .before .before .before .before .before .before .before .before .before .before .before .before .before .before .before .before .before .before .before in
-    let a = p .args in
-    let i = c .before .before .before .before .before .before .before .before .before .before .before .before .before .before .before .before .before .id-of in
-    let j = c .before .before .before .before .before .before .before .before .before .before .before .before .before .before .before .judged in
-    let w = c .before .before .before .before .before .before .before .before .before .before .before .before .before .before .wait-place in (
-      rw (c .before .before .before .before .before .before .before .copy .ensures, c .before .before .before .before .before .before .before .before .before .before .before .before .write-waiting .ensures)
+    let y = c .before .before .before .before .before .before .before in
+    let z = y .before .before .before .before .before in
+    let w = z .before .before .wait-place in
+    let j = z .before .before .before .judged in
+    let i = z .before .before .before .before .before .id-of in
+    let p = z .before .before .before .before .before .before .before .before .before in
+    let a = p .args in (
+      rw (y .copy .ensures, z .write-waiting .ensures)
           (table-written (a .table .now) (a .k) (a .m .now) (a .r) (a .s) (p .pre .0) (i .result) (j .result) (i .ensures) (j .ensures)
           (w .result) (w .ensures)),
       c .before .before .write-round .ensures
           ∙ ap (splice (a .out .now) 0)
-          (message-written (a .table .now) (a .k) (a .m .now) (a .r) (a .s) (p .pre .0) (i .result) (j .result) (i .ensures) (j .ensures)),
+          (message-written (a .table .now) (a .k) (a .m .now) (a .r) (a .s) (p .pre .0) (i .result) (j .result) (i .ensures)
+          (j .ensures)),
     )
 
 pub take-spec : {M : Type 1} → statement M

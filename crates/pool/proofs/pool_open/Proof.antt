@@ -1,0 +1,22 @@
+-- `pool::pool_open` meets its contract: that of opening. Assumes nothing.
+use Rattle.pool.proofs.Outcomes.{writes}
+use borrow.Author.Needs.{needs}
+use Rattle.pool.proofs.pool_open.Statement.{statement}
+use Rattle.pool.proofs.pool_open.Tie as tie
+
+open-requires : tie.Need-open-requires
+open-requires c κs = search needs
+
+told-requires : tie.Need-told-requires
+told-requires c κs = search needs
+
+same-length : tie.Need-same-length
+same-length c = search needs
+
+returns : tie.Need-returns
+returns c =
+    let s = c .before .before .before .before .«open» .ensures in
+    writes _ _ _ _ _ _ _ _ _ (s .answer-is) (s .table-is) (c .told .ensures .0) (c .told .ensures .1)
+
+pub pool-open-spec : {M : Type 1} → statement M
+pool-open-spec = tie.close (tie.spec open-requires told-requires same-length returns)

@@ -1,0 +1,122 @@
+-- `server::close` meets its contract: a sound table gives the message its totals and the buffer's test its room
+-- (`close-done`); else it is refused (`close-unsound`, `close-staged`, `close-narrow`). Assumes nothing.
+use mathlib.Core.Path.{sym, _∙_}
+use Prim.Native.Nat.{_<_}
+use native.Mathlib.Omega.{arith}
+use Rattle.algebra.specs.Lists.{All}
+use Rattle.algebra.proofs.Members.{getD-all}
+use Rattle.table.proofs.Answers.{sound}
+use Rattle.server.proofs.Closing.{close-unsound, close-staged, close-narrow, close-closes, close-done}
+use borrow.Author.Needs.{needs}
+use Rattle.server.proofs.close.Statement.{statement}
+use Rattle.server.proofs.close.Tie as tie
+
+read-requires : tie.Need-read-requires
+read-requires c κs = search needs
+
+enum-told : tie.Need-enum-told
+enum-told c = search needs
+
+enum-known-k : tie.Need-enum-known-k
+enum-known-k c = search needs
+
+same-length : tie.Need-same-length
+same-length c = search needs
+
+returns : tie.Need-returns
+returns c =
+    let u = c .before .before .before in
+    let T = u .before .before .before .before .before .before .args .table .now in
+    let out = u .before .before .before .before .before .before .args .out .now in
+    let s = sound T _ (sym (u .before .before .read .ensures) ∙ u .k .given .1) in
+    close-staged T out _ s (λ z. omega (arith, c .if1 .taken))
+
+mul-size : tie.Need-mul-size
+mul-size c =
+    let u = c .before .before .before .before in
+    let T = u .before .before .before .before .before .before .args .table .now in
+    let out = u .before .before .before .before .before .before .args .out .now in
+    let s = sound T _ (sym (u .before .before .read .ensures) ∙ u .k .given .1) in
+    omega (arith, s .limited .published-most)
+
+add-size : tie.Need-add-size
+add-size c =
+    let u = c .before .before .before .before in
+    let T = u .before .before .before .before .before .before .args .table .now in
+    let out = u .before .before .before .before .before .before .args .out .now in
+    let s = sound T _ (sym (u .before .before .read .ensures) ∙ u .k .given .1) in
+    omega (arith, s .limited .published-most)
+
+same-length-2 : tie.Need-same-length-2
+same-length-2 c = search needs
+
+returns-2 : tie.Need-returns-2
+returns-2 c =
+    let u = c .before .before .before .before .before in
+    let T = u .before .before .before .before .before .before .args .table .now in
+    let out = u .before .before .before .before .before .before .args .out .now in
+    let s = sound T _ (sym (u .before .before .read .ensures) ∙ u .k .given .1) in
+    close-narrow T out _ s (omega (arith, c .before .before .if1 .left)) (omega (arith, c .if2 .taken))
+
+write-closing-requires : tie.Need-write-closing-requires
+write-closing-requires c κs =
+    let u = c .before .before .before .before .before .before .before in
+    let T = u .before .before .before .before .before .before .args .table .now in
+    let out = u .before .before .before .before .before .before .args .out .now in
+    let s = sound T _ (sym (u .before .before .read .ensures) ∙ u .k .given .1) in
+    close-closes T out _ s (omega (arith, c .before .before .if2 .left))
+
+slice-write-table : tie.Need-slice-write-table
+slice-write-table c =
+    let u = c .before .before .before .before .before .before .before .before .before .before in
+    let T = u .before .before .before .before .before .before .args .table .now in
+    let out = u .before .before .before .before .before .before .args .out .now in
+    let s = sound T _ (sym (u .before .before .read .ensures) ∙ u .k .given .1) in
+    omega (arith, s .long)
+
+same-length-3 : tie.Need-same-length-3
+same-length-3 c = search needs
+
+returns-3 : tie.Need-returns-3
+returns-3 c =
+    let a = c .before .before .before .before .before .before .args in
+    close-unsound (a .table .now) (a .out .now) (sym (c .before .before .read .ensures) ∙ c .enum-told .given .1)
+
+same-length-4 : tie.Need-same-length-4
+same-length-4 c = search needs
+
+same-length-5 : tie.Need-same-length-5
+same-length-5 c = search needs
+
+returns-4 : tie.Need-returns-4
+returns-4 c =
+    let u = c .before .before .before .before .before .before .before .before .before .before in
+    let T = u .before .before .before .before .before .before .args .table .now in
+    let out = u .before .before .before .before .before .before .args .out .now in
+    let s = sound T _ (sym (u .before .before .read .ensures) ∙ u .k .given .1) in
+    let w = c .before .before .before .before .before in
+    let known = u .before .before .before .before .before .slice-known .given in
+    let bytes : All (λ b. b < 256) T = getD-all {P = λ b. b < 256} 0 T (λ i h. let f = known i in omega arith) in
+    rw (c .before .before .write-closing .ensures)
+    (close-done T out _ s (omega (arith, w .before .before .if1 .left)) (omega (arith, w .if2 .left)) bytes)
+
+pub close-spec : {M : Type 1} → statement M
+close-spec =
+    tie.close
+    (tie.spec
+    read-requires
+    enum-told
+    enum-known-k
+    same-length
+    returns
+    mul-size
+    add-size
+    same-length-2
+    returns-2
+    write-closing-requires
+    slice-write-table
+    same-length-3
+    returns-3
+    same-length-4
+    same-length-5
+    returns-4)

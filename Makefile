@@ -1,10 +1,27 @@
 # The commands of the README, and what is handy beside them.
-.PHONY: help run test format
+.PHONY: help demo run test fuzz format
+
+# The core as a C library. It is proved and made where it is missing.
+ARCHIVE := target/staticlib/libpool.a
 
 help:
+	@echo 'make demo    run a whole pool on this machine, from C'
 	@echo 'make run     prove what is needed, then run the worked examples'
 	@echo 'make test    the merge gate: prove everything from nothing and run every test'
+	@echo 'make fuzz    feed arbitrary bytes to the C functions for a minute (FUZZ_SECONDS=..)'
 	@echo 'make format  lay out the sources'
+
+demo: target/hosts/demo
+	@target/hosts/demo
+
+target/hosts/demo: hosts/c/demo.c hosts/c/host.h include/pool.h $(ARCHIVE)
+	@mkdir -p target/hosts
+	@$(CC) -std=c11 -O2 -Wall -Wextra -Iinclude hosts/c/demo.c $(ARCHIVE) -o $@
+
+$(ARCHIVE):
+	@mkdir -p target
+	@echo 'proving the core and making the C library'
+	@rt staticlib pool >target/staticlib.log 2>&1 || { cat target/staticlib.log; exit 1; }
 
 run:
 	@rt check worked
@@ -12,6 +29,9 @@ run:
 
 test:
 	@.ci/run
+
+fuzz:
+	@hosts/harden/fuzz
 
 format:
 	@rt fmt

@@ -24,11 +24,17 @@
  * Numbers. A number wider than a byte stands in a buffer lowest byte first. An element is a number below
  * p = 2147483647 in 4 bytes.
  *
- * Buffers. Each is a pointer with its length after it; a length of 0 goes with any pointer, NULL included. The buffers
- * and results of one call must not overlap. Pointers to results must not be NULL.
+ * Buffers. Each is a pointer with its length after it; a length of 0 goes with any pointer, NULL included, and an output
+ * buffer of length 0 is one that is too short. The buffers and results of one call must not overlap. Pointers to results
+ * must not be NULL.
  *
- * Tables. A table is a plain run of bytes that the host keeps; it may be copied, stored and used again later. It may
- * stand at the start of a longer buffer.
+ * Tables. A table is a plain run of bytes that the host keeps, so it survives a restart. It may stand at the start of a
+ * longer buffer. Store the table and the message that a call wrote together, before the message is sent: a message cannot
+ * be written a second time. Never go back to an older copy of a table: a share judged twice with two pairs shows more of
+ * the return than it may.
+ *
+ * Dropping. A return that cannot be finished is dropped at every server. Do not drop one whose round-two message has been
+ * sent: another server may have accepted it, and then the totals do not fit together.
  *
  * Threads. Functions keep nothing between calls. Calls at the same time are allowed on separate buffers. No function
  * needs more than 64 KiB of stack; none allocates memory.
@@ -78,22 +84,28 @@ extern "C" {
 #define POOL_CHOICE 18
 #define POOL_NUMBER 19
 
-/* Sizes of buffers, in bytes, from a sheet's entries, multiplications and published entries. */
+/* Sizes of buffers, in bytes, from S (2 to 8) and a sheet's entries, multiplications and published entries. */
 #define POOL_SHARE_ELEMENTS(entries, multiplications) ((size_t)(entries) + 2 * (size_t)(multiplications) + 6)
 #define POOL_SHARE_BYTES(entries, multiplications) (6 + 4 * POOL_SHARE_ELEMENTS(entries, multiplications))
 #define POOL_RANDOM_BYTES(servers, entries, multiplications) \
     (4 * (((size_t)(servers) - 1) * POOL_SHARE_ELEMENTS(entries, multiplications) + 4))
+#define POOL_MAKE_BYTES(servers, entries, multiplications) ((size_t)(servers) * POOL_SHARE_BYTES(entries, multiplications))
 #define POOL_ROUND_BYTES 14
 #define POOL_TOTALS_BYTES(published) (6 + 4 * (size_t)(published))
+#define POOL_JOIN_BYTES(published) (4 * (size_t)(published))
 #define POOL_TABLE_BYTES(sheet_len, entries, multiplications, published, returns)                             \
     (12 + (size_t)(sheet_len) + 4 * (size_t)(published) + 4 * (size_t)(returns) + 28                         \
      + 4 * POOL_SHARE_ELEMENTS(entries, multiplications))
 
-/* Sizes that are enough for every sheet. */
+/* Sizes that are enough for every sheet and S. */
 #define POOL_MAX_SHEET_BYTES 256
 #define POOL_MAX_CIRCUIT_BYTES 7008
+#define POOL_MAX_VALUES_BYTES 1024
+#define POOL_MAX_RANDOM_BYTES 21688
 #define POOL_MAX_SHARE_BYTES 3102
+#define POOL_MAX_MAKE_BYTES 24816
 #define POOL_MAX_TOTALS_BYTES 1030
+#define POOL_MAX_JOIN_BYTES 1024
 #define POOL_MAX_TABLE_BYTES 8512
 
 /*

@@ -1,0 +1,103 @@
+/*
+ * host.h: what a C host of the pool brings along: random numbers from the system, numbers in buffers, refusals in
+ * words. Functions are static, so that a program has only to include it.
+ */
+#ifndef POOL_HOST_H
+#define POOL_HOST_H
+
+#include <errno.h>
+#include <stdio.h>
+#include <stdlib.h>
+#include <sys/random.h>
+
+#include "pool.h"
+
+/* The refusal in words. */
+static inline const char *host_words(uint32_t refusal)
+{
+    static const char *const words[] = {
+        "done",
+        "sheet or circuit: an unknown kind, or its body is cut off",
+        "a count, constant, number of servers, server number or N outside its limits",
+        "circuit: a wire not yet made, or an entry that does not exist",
+        "so many returns could make a total of p or more",
+        "not one value for each column, or a value outside its column",
+        "not the right number of random elements, or one not below p",
+        "share message of the wrong kind, length or server",
+        "share element not below p",
+        "r or s outside its range",
+        "the id was decided before",
+        "no sound table, or its stage does not allow the call",
+        "joined messages: length, kind, id, order, element, own message or counts wrong",
+        "all N returns are decided",
+        "the output buffer is too short",
+    };
+    return refusal < sizeof words / sizeof words[0] ? words[refusal] : "unknown refusal";
+}
+
+/* Ends the program, with the refusal's number and words, unless the call was done. */
+static inline void host_must(const char *call, uint32_t answer)
+{
+    if (answer == POOL_DONE)
+        return;
+    fprintf(stderr, "%s: refused %u: %s\n", call, (unsigned)answer, host_words(answer));
+    exit(1);
+}
+
+static inline void host_put_u32(uint8_t *at, uint32_t x)
+{
+    for (int k = 0; k < 4; k++)
+        at[k] = (uint8_t)(x >> 8 * k);
+}
+
+static inline uint32_t host_u32(const uint8_t *at)
+{
+    return at[0] | (uint32_t)at[1] << 8 | (uint32_t)at[2] << 16 | (uint32_t)at[3] << 24;
+}
+
+/* Fills a buffer with random bytes of the system. */
+static inline void host_random(uint8_t *out, size_t len)
+{
+    while (len > 0) {
+        ssize_t got = getrandom(out, len, 0);
+        if (got < 0 && errno == EINTR)
+            continue;
+        if (got < 0) {
+            perror("getrandom");
+            exit(1);
+        }
+        out += got;
+        len -= (size_t)got;
+    }
+}
+
+/* A random element: 31 random bits, drawn again where they are p itself, so that each element is as likely as any. */
+static inline uint32_t host_element(void)
+{
+    uint8_t bytes[4];
+    uint32_t x;
+    do {
+        host_random(bytes, sizeof bytes);
+        x = host_u32(bytes) & POOL_PRIME;
+    } while (x == POOL_PRIME);
+    return x;
+}
+
+/* Fills a buffer with random elements; its length is a multiple of 4. */
+static inline void host_elements(uint8_t *out, size_t len)
+{
+    for (size_t at = 0; at < len; at += 4)
+        host_put_u32(out + at, host_element());
+}
+
+/* A random challenge r: from M + 1 to p - 1. */
+static inline uint32_t host_challenge(uint32_t multiplications)
+{
+    uint32_t r;
+    do
+        r = host_element();
+    while (r <= multiplications);
+    return r;
+}
+
+#endif

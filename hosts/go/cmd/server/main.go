@@ -1,0 +1,112 @@
+// Server is one of two servers of a pool, as an example of a keeper's program.
+//
+//	server -own 0 -sheet '17 19 8' -handle 3 -workshops 127.0.0.1:7000 -peer 127.0.0.1:7010
+//	server -own 1 -sheet '17 19 8' -handle 3 -workshops 127.0.0.1:7001 -peer 127.0.0.1:7010
+//
+// Server 0 awaits server 1 at the address -peer. Both take shares of workshops at -workshops; server 0 says which
+// return is next. After -handle returns they close, exchange totals messages and print the joined totals, each line
+// with column, option and total. The example sends in the clear, on one machine: a pool encrypts, and knows who calls.
+package main
+
+import (
+	"flag"
+	"fmt"
+	"log"
+	"net"
+	"os"
+	"time"
+
+	"yimakohe.example/pool"
+	"yimakohe.example/pool/internal/frame"
+)
+
+const servers = 2
+
+type options struct {
+	own       uint
+	sheet     string
+	returns   uint
+	handle    int
+	workshops string
+	peer      string
+	wait      time.Duration
+}
+
+func main() {
+	log.SetFlags(0)
+	var o options
+	flag.UintVar(&o.own, "own", 0, "the server's own number, 0 or 1")
+	flag.StringVar(&o.sheet, "sheet", "", "the sheet's bytes, in decimal")
+	flag.UintVar(&o.returns, "returns", 100, "N, the most returns to decide")
+	flag.IntVar(&o.handle, "handle", 1, "how many returns to handle before closing")
+	flag.StringVar(&o.workshops, "workshops", "127.0.0.1:0", "where to take shares")
+	flag.StringVar(&o.peer, "peer", "127.0.0.1:0", "where server 0 awaits server 1")
+	flag.DurationVar(&o.wait, "wait", 5*time.Second, "how long to wait for the own share of a return")
+	flag.Parse()
+	log.SetPrefix(fmt.Sprintf("server %d: ", o.own))
+	if err := run(o); err != nil {
+		log.Fatal(err)
+	}
+}
+
+func run(o options) error {
+	b, err := frame.Bytes(o.sheet)
+	if err != nil {
+		return err
+	}
+	sheet, err := pool.ReadSheet(b)
+	if err != nil {
+		return err
+	}
+	table, err := pool.Open(servers, uint32(o.own), sheet, uint32(o.returns))
+	if err != nil {
+		return err
+	}
+	listener, err := net.Listen("tcp", o.workshops)
+	if err != nil {
+		return err
+	}
+	defer listener.Close()
+	fmt.Println("workshops", listener.Addr())
+	shares := newInbox(o.wait)
+	go shares.serve(listener)
+
+	conn, err := meet(o.own, o.peer)
+	if err != nil {
+		return err
+	}
+	defer conn.Close()
+	s := &server{own: o.own, sheet: sheet, table: table, peer: conn, shares: shares}
+	for k := 0; k < o.handle; k++ {
+		if err := s.next(); err != nil {
+			return err
+		}
+	}
+	totals, err := s.close(uint32(o.returns))
+	if err != nil {
+		return err
+	}
+	publish(totals)
+	return nil
+}
+
+// meet connects the two servers: server 0 listens, server 1 calls.
+func meet(own uint, address string) (net.Conn, error) {
+	if own != 0 {
+		return net.Dial("tcp", address)
+	}
+	listener, err := net.Listen("tcp", address)
+	if err != nil {
+		return nil, err
+	}
+	defer listener.Close()
+	fmt.Println("peer", listener.Addr())
+	return listener.Accept()
+}
+
+func publish(totals pool.Totals) {
+	fmt.Fprintln(os.Stdout, "accepted", totals.Accepted)
+	for _, line := range totals.Lines {
+		fmt.Fprintln(os.Stdout, line.Column, line.Option, line.Total)
+	}
+}

@@ -1,0 +1,69 @@
+// Workshop makes one return and sends each server its share.
+//
+//	workshop -sheet '17 19 8' -id 7 -values '1 40' 127.0.0.1:7000 127.0.0.1:7001
+//
+// The servers' addresses stand in server order. The example sends shares in the clear, on one machine: a pool encrypts
+// them.
+package main
+
+import (
+	"flag"
+	"fmt"
+	"log"
+	"net"
+
+	"yimakohe.example/pool"
+	"yimakohe.example/pool/internal/frame"
+)
+
+func main() {
+	log.SetFlags(0)
+	log.SetPrefix("workshop: ")
+	sheetText := flag.String("sheet", "", "the sheet's bytes, in decimal")
+	id := flag.Uint("id", 0, "the return's id, given to no other return")
+	valueText := flag.String("values", "", "one value for each column")
+	flag.Parse()
+	if err := run(*sheetText, uint32(*id), *valueText, flag.Args()); err != nil {
+		log.Fatal(err)
+	}
+}
+
+func run(sheetText string, id uint32, valueText string, servers []string) error {
+	b, err := frame.Bytes(sheetText)
+	if err != nil {
+		return err
+	}
+	sheet, err := pool.ReadSheet(b)
+	if err != nil {
+		return err
+	}
+	values, err := frame.Numbers(valueText, 32)
+	if err != nil {
+		return err
+	}
+	client := pool.Client{Sheet: sheet, Servers: uint32(len(servers))}
+	shares, err := client.Make(id, values)
+	if err != nil {
+		return err
+	}
+	for k, address := range servers {
+		if err := send(address, shares[k]); err != nil {
+			return fmt.Errorf("server %d: %w", k, err)
+		}
+	}
+	return nil
+}
+
+// send hands a server its share and waits until the server has it.
+func send(address string, share []byte) error {
+	conn, err := net.Dial("tcp", address)
+	if err != nil {
+		return err
+	}
+	defer conn.Close()
+	if err := frame.Write(conn, share); err != nil {
+		return err
+	}
+	_, err = frame.Read(conn)
+	return err
+}

@@ -1,0 +1,152 @@
+package pool
+
+// #cgo CFLAGS: -I${SRCDIR}/../../include
+// #cgo LDFLAGS: ${SRCDIR}/../../target/staticlib/libpool.a
+// #include "pool.h"
+//
+// // The sizes of buffers, which the header gives as macros.
+// static size_t share_bytes(uint32_t entries, uint32_t multiplications)
+// {
+//     return POOL_SHARE_BYTES(entries, multiplications);
+// }
+// static size_t random_bytes(uint32_t servers, uint32_t entries, uint32_t multiplications)
+// {
+//     return POOL_RANDOM_BYTES(servers, entries, multiplications);
+// }
+// static size_t table_bytes(size_t sheet, uint32_t entries, uint32_t multiplications, uint32_t published,
+//                           uint32_t returns)
+// {
+//     return POOL_TABLE_BYTES(sheet, entries, multiplications, published, returns);
+// }
+import "C"
+
+// The C functions, one for one, on byte slices. Nothing else in the package calls C.
+
+// Numbers of the header.
+const (
+	prime        = uint32(C.POOL_PRIME)
+	minServers   = C.POOL_MIN_SERVERS
+	maxServers   = C.POOL_MAX_SERVERS
+	maxReturns   = C.POOL_MAX_RETURNS
+	roundBytes   = C.POOL_ROUND_BYTES
+	maxTotals    = C.POOL_MAX_TOTALS_BYTES
+	maxCircuit   = C.POOL_MAX_CIRCUIT_BYTES
+	kindYesNo    = C.POOL_YES_NO
+	kindChoice   = C.POOL_CHOICE
+	kindNumber   = C.POOL_NUMBER
+	elementBytes = 4
+)
+
+// shareBytes is the length of a share message.
+func (s *Sheet) shareBytes() int {
+	return int(C.share_bytes(C.uint32_t(s.entries), C.uint32_t(s.multiplications)))
+}
+
+// randomBytes is the length of the random elements of a return for so many servers.
+func (s *Sheet) randomBytes(servers uint32) int {
+	return int(C.random_bytes(C.uint32_t(servers), C.uint32_t(s.entries), C.uint32_t(s.multiplications)))
+}
+
+// tableBytes is the length of a table for so many returns.
+func (s *Sheet) tableBytes(returns uint32) int {
+	return int(C.table_bytes(C.size_t(len(s.bytes)), C.uint32_t(s.entries), C.uint32_t(s.multiplications),
+		C.uint32_t(s.published), C.uint32_t(returns)))
+}
+
+// lend gives the pointer and length of a slice; an empty one has no pointer.
+func lend(b []byte) (*C.uint8_t, C.size_t) {
+	if len(b) == 0 {
+		return nil, 0
+	}
+	return (*C.uint8_t)(&b[0]), C.size_t(len(b))
+}
+
+func coreReadSheet(sheet []byte) (columns, entries, multiplications, published, answer uint32) {
+	var c, e, m, p C.uint32_t
+	at, n := lend(sheet)
+	answer = uint32(C.pool_read_sheet(at, n, &c, &e, &m, &p))
+	return uint32(c), uint32(e), uint32(m), uint32(p), answer
+}
+
+func coreCircuit(sheet, out []byte) (written int, answer uint32) {
+	var w C.size_t
+	at, n := lend(sheet)
+	to, room := lend(out)
+	answer = uint32(C.pool_circuit(at, n, to, room, &w))
+	return int(w), answer
+}
+
+func coreReadCircuit(entries uint32, circuit []byte) (wires, multiplications, tests, answer uint32) {
+	var w, m, t C.uint32_t
+	at, n := lend(circuit)
+	answer = uint32(C.pool_read_circuit(C.uint32_t(entries), at, n, &w, &m, &t))
+	return uint32(w), uint32(m), uint32(t), answer
+}
+
+func coreMake(sheet []byte, servers, id uint32, values, random, out []byte) (written int, answer uint32) {
+	var w C.size_t
+	at, n := lend(sheet)
+	v, nv := lend(values)
+	x, nx := lend(random)
+	to, room := lend(out)
+	answer = uint32(C.pool_make(at, n, C.uint32_t(servers), C.uint32_t(id), v, nv, x, nx, to, room, &w))
+	return int(w), answer
+}
+
+func coreOpen(servers, own uint32, sheet []byte, returns uint32, table []byte) (written int, answer uint32) {
+	var w C.size_t
+	at, n := lend(sheet)
+	to, room := lend(table)
+	answer = uint32(C.pool_open(C.uint32_t(servers), C.uint32_t(own), at, n, C.uint32_t(returns), to, room, &w))
+	return int(w), answer
+}
+
+func coreShare(table, message []byte, r, s uint64, out []byte) (written int, answer uint32) {
+	var w C.size_t
+	t, nt := lend(table)
+	at, n := lend(message)
+	to, room := lend(out)
+	answer = uint32(C.pool_share(t, nt, at, n, C.uint64_t(r), C.uint64_t(s), to, room, &w))
+	return int(w), answer
+}
+
+func coreRoundOne(table, joined, out []byte) (written int, answer uint32) {
+	var w C.size_t
+	t, nt := lend(table)
+	at, n := lend(joined)
+	to, room := lend(out)
+	answer = uint32(C.pool_round_one(t, nt, at, n, to, room, &w))
+	return int(w), answer
+}
+
+func coreRoundTwo(table, joined []byte) (accepted, answer uint32) {
+	var a C.uint32_t
+	t, nt := lend(table)
+	at, n := lend(joined)
+	answer = uint32(C.pool_round_two(t, nt, at, n, &a))
+	return uint32(a), answer
+}
+
+func coreDrop(table []byte) (answer uint32) {
+	t, nt := lend(table)
+	return uint32(C.pool_drop(t, nt))
+}
+
+func coreClose(table, out []byte) (written int, answer uint32) {
+	var w C.size_t
+	t, nt := lend(table)
+	to, room := lend(out)
+	answer = uint32(C.pool_close(t, nt, to, room, &w))
+	return int(w), answer
+}
+
+func coreJoin(servers uint32, sheet []byte, returns uint32, joined, out []byte) (
+	accepted uint32, written int, answer uint32) {
+	var a C.uint32_t
+	var w C.size_t
+	at, n := lend(sheet)
+	j, nj := lend(joined)
+	to, room := lend(out)
+	answer = uint32(C.pool_join(C.uint32_t(servers), at, n, C.uint32_t(returns), j, nj, to, room, &a, &w))
+	return uint32(a), int(w), answer
+}

@@ -1,0 +1,9 @@
+// Package pool is the figures pool's core for Go programs, over the C functions of pool.h.
+//
+// A return is one value for each column of a sheet. A workshop splits it into shares (Client.Make), one for each
+// server; a share alone says nothing. The servers check the form of a return together, in two rounds of short messages,
+// add up what they accept (Table), and publish totals (Join).
+//
+// The program that uses the package carries the messages. It encrypts what it sends, knows who is at the other end, and
+// gives each return an id of its own.
+package pool

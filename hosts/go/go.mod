@@ -1,0 +1,3 @@
+module yimakohe.example/pool
+
+go 1.19

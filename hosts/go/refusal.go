@@ -1,0 +1,64 @@
+package pool
+
+import "fmt"
+
+// Refusal is the number of a refused call. A refused call has changed nothing.
+//
+// The errors of this package that come from the core wrap a Refusal:
+//
+//	if errors.Is(err, pool.Decided) { ... }
+//
+//	var refusal pool.Refusal
+//	if errors.As(err, &refusal) { ... uint32(refusal) ... }
+type Refusal uint32
+
+// The refusals, with their numbers.
+const (
+	Kind    Refusal = 1  // sheet or circuit: unknown kind, or its body is cut off
+	Limit   Refusal = 2  // a count, constant, number of servers, server number or N outside its limits
+	Wire    Refusal = 3  // circuit: a wire not yet made, or an entry that does not exist
+	Wrap    Refusal = 4  // N returns could make a total of p or more
+	Value   Refusal = 5  // not one value for each column, or a value outside its column
+	Random  Refusal = 6  // not the right number of random elements, or one not below p
+	Share   Refusal = 7  // share message of the wrong kind, length or server
+	Element Refusal = 8  // share element not below p
+	Range   Refusal = 9  // r or s outside its range
+	Decided Refusal = 10 // the id was decided before
+	Stage   Refusal = 11 // no sound table, or its stage does not allow the call
+	Joined  Refusal = 12 // joined messages at fault
+	Full    Refusal = 13 // N returns are decided
+	Room    Refusal = 14 // the output buffer is too short
+)
+
+var words = [...]string{
+	Kind:    "sheet or circuit: an unknown kind, or its body is cut off",
+	Limit:   "a count, constant, number of servers, server number or N outside its limits",
+	Wire:    "circuit: a wire not yet made, or an entry that does not exist",
+	Wrap:    "so many returns could make a total of p or more",
+	Value:   "not one value for each column, or a value outside its column",
+	Random:  "not the right number of random elements, or one not below p",
+	Share:   "share message of the wrong kind, length or server",
+	Element: "share element not below p",
+	Range:   "r or s outside its range",
+	Decided: "the id was decided before",
+	Stage:   "no sound table, or its stage does not allow the call",
+	Joined:  "joined messages: length, kind, id, order, element, own message or counts wrong",
+	Full:    "all N returns are decided",
+	Room:    "the output buffer is too short",
+}
+
+// Error says the refusal by its number and in words.
+func (r Refusal) Error() string {
+	if r == 0 || int(r) >= len(words) {
+		return fmt.Sprintf("refused %d: unknown refusal", uint32(r))
+	}
+	return fmt.Sprintf("refused %d: %s", uint32(r), words[r])
+}
+
+// answer makes an error of a call's answer, nil where the call was done.
+func answer(call string, number uint32) error {
+	if number == 0 {
+		return nil
+	}
+	return fmt.Errorf("pool: %s: %w", call, Refusal(number))
+}

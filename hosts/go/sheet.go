@@ -1,0 +1,121 @@
+package pool
+
+import "fmt"
+
+// Column is one question of a sheet: its kind byte and, for choices and numbers, the byte after it.
+type Column struct {
+	kind, size byte
+}
+
+// YesNo is a question with the values 0 (no) and 1 (yes).
+func YesNo() Column { return Column{kind: kindYesNo} }
+
+// Choice is a question with 2 to 64 options; its value is the chosen option, from 0.
+func Choice(options byte) Column { return Column{kindChoice, options} }
+
+// Number is a question with a number of 1 to 24 bits.
+func Number(bits byte) Column { return Column{kindNumber, bits} }
+
+// String names the column in words.
+func (c Column) String() string {
+	switch c.kind {
+	case kindYesNo:
+		return "yes/no"
+	case kindChoice:
+		return fmt.Sprintf("choice of %d", c.size)
+	default:
+		return fmt.Sprintf("number of %d bits", c.size)
+	}
+}
+
+// bytes gives the column as it stands in a sheet.
+func (c Column) bytes() []byte {
+	if c.kind == kindYesNo {
+		return []byte{c.kind}
+	}
+	return []byte{c.kind, c.size}
+}
+
+// published says how many totals are published for the column.
+func (c Column) published() int {
+	if c.kind == kindChoice {
+		return int(c.size)
+	}
+	return 1
+}
+
+// Sheet is a list of questions that was read and found sound. It does not change.
+type Sheet struct {
+	bytes                               []byte
+	columns                             []Column
+	entries, multiplications, published int
+}
+
+// NewSheet makes a sheet of columns. It refuses what ReadSheet refuses.
+func NewSheet(columns ...Column) (*Sheet, error) {
+	var b []byte
+	for _, c := range columns {
+		b = append(b, c.bytes()...)
+	}
+	return ReadSheet(b)
+}
+
+// ReadSheet reads a sheet's bytes.
+func ReadSheet(b []byte) (*Sheet, error) {
+	columns, entries, multiplications, published, number := coreReadSheet(b)
+	if number != 0 {
+		return nil, answer("read sheet", number)
+	}
+	s := &Sheet{
+		bytes:           append([]byte(nil), b...),
+		columns:         make([]Column, 0, columns),
+		entries:         int(entries),
+		multiplications: int(multiplications),
+		published:       int(published),
+	}
+	for rest := s.bytes; len(rest) > 0; {
+		c := Column{kind: rest[0]}
+		if c.kind != kindYesNo {
+			c.size = rest[1]
+		}
+		s.columns = append(s.columns, c)
+		rest = rest[len(c.bytes()):]
+	}
+	return s, nil
+}
+
+// Bytes gives the sheet's bytes, to be sent to every workshop and server.
+func (s *Sheet) Bytes() []byte { return append([]byte(nil), s.bytes...) }
+
+// Columns gives the questions in order.
+func (s *Sheet) Columns() []Column { return append([]Column(nil), s.columns...) }
+
+// Entries is L, the number of entries of a return.
+func (s *Sheet) Entries() int { return s.entries }
+
+// Multiplications is M, the number of multiplications of the sheet's circuit.
+func (s *Sheet) Multiplications() int { return s.multiplications }
+
+// Circuit gives the sheet's circuit.
+func (s *Sheet) Circuit() ([]byte, error) {
+	out := make([]byte, maxCircuit)
+	n, number := coreCircuit(s.bytes, out)
+	if number != 0 {
+		return nil, answer("circuit", number)
+	}
+	return out[:n:n], nil
+}
+
+// CircuitCounts is what a circuit that was read comes to.
+type CircuitCounts struct {
+	Wires, Multiplications, Tests int
+}
+
+// ReadCircuit reads a circuit over so many entries.
+func ReadCircuit(entries uint32, circuit []byte) (CircuitCounts, error) {
+	wires, multiplications, tests, number := coreReadCircuit(entries, circuit)
+	if number != 0 {
+		return CircuitCounts{}, answer("read circuit", number)
+	}
+	return CircuitCounts{int(wires), int(multiplications), int(tests)}, nil
+}

@@ -1,0 +1,76 @@
+/*
+ * calls.h: the C functions of the pool, each called on buffers of exactly the lent size and watched.
+ *
+ * A call fails the run where it touches a byte outside the buffers, changes what it was only lent to read, answers
+ * with a refusal that its place in pool.h does not name, changes anything although it is refused, or changes a byte
+ * past what it says to have written.
+ *
+ * Memory outside is watched in one of two ways. GUARDED: a buffer ends right before, or begins right after, a page that
+ * can not be touched. HEAP: a buffer is a block of malloc, for valgrind and for the sanitizers' own malloc. The library
+ * is compiled without a sanitizer's checks, so that a sanitizer sees of it only its calls of memcpy and the like: what
+ * the library itself touches is caught by the guarded pages and by valgrind.
+ */
+#ifndef POOL_CALLS_H
+#define POOL_CALLS_H
+
+#include "pool.h"
+
+/* More than any call needs, for sheets and circuits that are too long. */
+enum { RUN_BYTES = 72000 };
+
+/* A run of bytes that the driver owns. Calls work on copies. */
+struct run {
+    size_t len;
+    uint8_t at[RUN_BYTES];
+};
+
+struct sheet_counts {
+    uint32_t columns, entries, multiplications, published;
+};
+
+struct circuit_counts {
+    uint32_t wires, multiplications, tests;
+};
+
+enum lending { GUARDED, HEAP };
+
+/* To be called once, before any call. */
+void calls_start(enum lending how);
+
+/* What to print where a check fails, beside the call's name. */
+extern char calls_note[128];
+
+/* Random numbers of the driver, from a seed. */
+void seed_random(uint64_t seed);
+uint64_t random64(void);
+uint32_t random_below(uint32_t limit);
+void random_fill(uint8_t *at, size_t len);
+
+/* Numbers in a run, lowest byte first. */
+void put_u32(uint8_t *at, uint32_t x);
+uint32_t get_u32(const uint8_t *at);
+
+/*
+ * The calls. `room` is the length of the output buffer, `extra` the bytes after a table in its buffer. Results are set
+ * only where a call is done: a table is then the one after the call, an output run what was written.
+ */
+uint32_t call_read_sheet(const struct run *sheet, struct sheet_counts *counts);
+uint32_t call_circuit(const struct run *sheet, size_t room, struct run *out);
+uint32_t call_read_circuit(uint32_t entries, const struct run *circuit, struct circuit_counts *counts);
+uint32_t call_make(const struct run *sheet, uint32_t servers, uint32_t id, const struct run *values,
+                   const struct run *random, size_t room, struct run *out);
+uint32_t call_open(uint32_t servers, uint32_t own, const struct run *sheet, uint32_t returns, size_t room,
+                   struct run *table);
+uint32_t call_share(struct run *table, size_t extra, const struct run *message, uint64_t r, uint64_t s, size_t room,
+                    struct run *out);
+uint32_t call_round_one(struct run *table, size_t extra, const struct run *joined, size_t room, struct run *out);
+uint32_t call_round_two(struct run *table, size_t extra, const struct run *joined, uint32_t *accepted);
+uint32_t call_drop(struct run *table, size_t extra);
+uint32_t call_close(struct run *table, size_t extra, size_t room, struct run *out);
+uint32_t call_join(uint32_t servers, const struct run *sheet, uint32_t returns, const struct run *joined, size_t room,
+                   uint32_t *accepted, struct run *out);
+
+/* Fails the run. */
+_Noreturn void fail(const char *why);
+
+#endif

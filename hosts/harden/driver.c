@@ -1,0 +1,474 @@
+/*
+ * driver.c: random pools from a seed. Each call that a pool needs is made soundly, and must be done; beside it
+ * functions are called with arguments gone wild, on copies of the tables. The totals at the end are held to the plain
+ * sums.
+ *
+ *     driver guard|heap SEED POOLS SECONDS
+ *
+ * It stops after so many pools, or at the end of the pool in which the time is up. Pool k has the seed SEED + k.
+ */
+#include <stdio.h>
+#include <stdlib.h>
+#include <string.h>
+#include <time.h>
+
+#include "calls.h"
+
+enum { MOST_RETURNS = 4 };
+
+/* The pool that is being played. */
+static struct {
+    struct run sheet;
+    struct sheet_counts counts;
+    uint32_t servers, returns;
+    struct run tables[POOL_MAX_SERVERS];
+    struct run values, random, shares, joined, next;
+    uint64_t r, s;
+    uint32_t plain[POOL_MAX_ENTRIES], accepted;
+} pool;
+
+static struct run a, b, c, out; /* for calls gone wild */
+
+static void must(uint32_t answer, const char *what)
+{
+    if (answer != 0) {
+        fprintf(stderr, "harden: refused %u\n", (unsigned)answer);
+        fail(what);
+    }
+}
+
+static void copy(struct run *to, const struct run *from)
+{
+    to->len = from->len;
+    memcpy(to->at, from->at, from->len);
+}
+
+static void append(struct run *to, const uint8_t *bytes, size_t len)
+{
+    memcpy(to->at + to->len, bytes, len);
+    to->len += len;
+}
+
+/* Wild arguments */
+
+static const uint8_t odd_bytes[] = {0, 1, 2, 3, 8, 9, 17, 18, 19, 20, 25, 33, 34, 35, 36, 64, 65, 127, 128, 255};
+
+static uint8_t odd_byte(void) { return odd_bytes[random_below(sizeof odd_bytes)]; }
+
+static void resize(struct run *run, size_t len)
+{
+    if (len > run->len)
+        random_fill(run->at + run->len, len - run->len);
+    run->len = len;
+}
+
+/* Changes a run a little or a lot, or leaves it. */
+static void wild(struct run *run)
+{
+    uint32_t n = (uint32_t)run->len;
+    switch (random_below(10)) {
+    case 0:
+        if (n > 0)
+            run->at[random_below(n)] ^= (uint8_t)(1 << random_below(8));
+        break;
+    case 1:
+        if (n > 0)
+            run->at[random_below(n < 16 ? n : 16)] = odd_byte();
+        break;
+    case 2:
+        if (n > 0)
+            run->at[random_below(n)] = odd_byte();
+        break;
+    case 3:
+        if (n >= 4)
+            put_u32(run->at + n - 4 * (1 + random_below(n / 4)), POOL_PRIME);
+        break;
+    case 4:
+        resize(run, random_below(n + 1));
+        break;
+    case 5:
+        resize(run, n > 0 ? n - 1 : 0);
+        break;
+    case 6:
+        resize(run, n + 1 + random_below(8));
+        break;
+    case 7:
+        random_fill(run->at, n);
+        break;
+    case 8:
+        run->len = 0;
+        break;
+    }
+}
+
+static uint32_t wild32(uint32_t sound)
+{
+    static const uint32_t odd[] = {0, 1, 2, 8, 9, 256, 257, 258, 1024, 1025, 65537, POOL_PRIME, 0x80000000, UINT32_MAX};
+    switch (random_below(4)) {
+    case 0:
+        return odd[random_below(sizeof odd / sizeof odd[0])];
+    case 1:
+        return (uint32_t)random64();
+    default:
+        return sound;
+    }
+}
+
+static uint64_t wild64(uint64_t sound)
+{
+    uint64_t m = pool.counts.multiplications;
+    const uint64_t odd[] = {0, m, m + 1, 2 * m, POOL_PRIME - 1, POOL_PRIME, sound + (UINT64_C(1) << 32), UINT64_MAX};
+    return random_below(3) == 0 ? odd[random_below(sizeof odd / sizeof odd[0])] : sound;
+}
+
+/* Room around what is needed. */
+static size_t wild_room(size_t needed)
+{
+    switch (random_below(4)) {
+    case 0:
+        return needed > 0 ? needed - 1 : 0;
+    case 1:
+        return random_below((uint32_t)needed + 1);
+    case 2:
+        return needed + random_below(40);
+    default:
+        return needed;
+    }
+}
+
+static size_t some_extra(void) { return random_below(3) == 0 ? random_below(20) : 0; }
+
+/* Sheets and circuits */
+
+static void add_column(struct run *sheet, uint32_t budget)
+{
+    uint32_t kind = random_below(3), most;
+    if (kind == 0 || budget < 2) {
+        append(sheet, (const uint8_t[]){POOL_YES_NO}, 1);
+        return;
+    }
+    most = kind == 1 ? (budget < 64 ? budget : 64) : (budget - 1 < 24 ? budget - 1 : 24);
+    if (kind == 1)
+        append(sheet, (const uint8_t[]){POOL_CHOICE, (uint8_t)(2 + random_below(most - 1))}, 2);
+    else
+        append(sheet, (const uint8_t[]){POOL_NUMBER, (uint8_t)(1 + random_below(most))}, 2);
+}
+
+/* A sound sheet: small, now and then large, now and then as large as may be. */
+static void new_sheet(void)
+{
+    uint32_t budget = 1 + random_below(random_below(32) == 0 ? 256 : 12);
+    if (random_below(64) == 0)
+        budget = 256;
+    pool.sheet.len = 0;
+    pool.counts.entries = 0;
+    while (pool.counts.entries < budget) {
+        add_column(&pool.sheet, budget - pool.counts.entries);
+        must(call_read_sheet(&pool.sheet, &pool.counts), "a sound sheet is refused");
+    }
+    if (pool.counts.entries > budget)
+        fail("more entries than the columns have");
+}
+
+/* More columns than any sheet may have, with a fault behind them or none. */
+static void long_sheet(void)
+{
+    struct sheet_counts counts;
+    a.len = 65000 + random_below(5000);
+    memset(a.at, POOL_YES_NO, a.len);
+    uint32_t want = POOL_LIMIT;
+    if (random64() % 2) {
+        a.at[a.len - 1] = 99;
+        want = POOL_KIND;
+    }
+    if (call_read_sheet(&a, &counts) != want)
+        fail("the refusal of a long sheet");
+}
+
+static void circuits(void)
+{
+    struct circuit_counts counts;
+    struct sheet_counts ignored;
+    must(call_circuit(&pool.sheet, POOL_MAX_CIRCUIT_BYTES, &a), "a sound sheet has no circuit");
+    must(call_circuit(&pool.sheet, a.len, &b), "the room of a circuit");
+    if (call_circuit(&pool.sheet, a.len - 1, &b) != POOL_ROOM)
+        fail("a circuit in too little room");
+    must(call_read_circuit(pool.counts.entries, &a, &counts), "the circuit of a sheet is refused");
+    if (counts.multiplications != pool.counts.multiplications)
+        fail("the circuit's multiplications");
+    for (int k = 0; k < 4; k++) {
+        copy(&b, &a);
+        wild(&b);
+        call_read_circuit(wild32(pool.counts.entries), &b, &counts);
+        copy(&b, &pool.sheet);
+        wild(&b);
+        call_read_sheet(&b, &ignored);
+        call_circuit(&b, wild_room(a.len), &c);
+    }
+}
+
+/* Sound steps, each of them entry 0: too many wires, then too many bytes. */
+static void long_circuit(void)
+{
+    struct circuit_counts counts;
+    a.len = 0;
+    while (a.len < 17920) {
+        append(&a, (const uint8_t[]){2, 0, 0}, 3);
+        if (a.len % 1001 == 0 || a.len > 17900)
+            if (call_read_circuit(1, &a, &counts) != POOL_LIMIT)
+                fail("a circuit without multiplications, or too long");
+    }
+}
+
+/* Making */
+
+/* One random value for each column, added to `sums` in entry order of the published entries. */
+static void new_values(uint32_t *sums)
+{
+    size_t published = 0;
+    pool.values.len = 0;
+    for (size_t at = 0; at < pool.sheet.len; at++) {
+        uint8_t kind = pool.sheet.at[at], value[4];
+        uint32_t size = kind == POOL_YES_NO ? 2 : pool.sheet.at[++at];
+        uint32_t v = random_below(kind == POOL_NUMBER ? UINT32_C(1) << size : size);
+        put_u32(value, v);
+        append(&pool.values, value, 4);
+        sums[published + (kind == POOL_CHOICE ? v : 0)] += kind == POOL_CHOICE ? 1 : v;
+        published += kind == POOL_CHOICE ? size : 1;
+    }
+    if (published != pool.counts.published)
+        fail("the count of published entries");
+}
+
+static void new_random(void)
+{
+    pool.random.len = POOL_RANDOM_BYTES(pool.servers, pool.counts.entries, pool.counts.multiplications);
+    for (size_t at = 0; at < pool.random.len; at += 4)
+        put_u32(pool.random.at + at, random_below(16) ? random_below(POOL_PRIME) : POOL_PRIME - 1);
+}
+
+static size_t share_bytes(void) { return POOL_SHARE_BYTES(pool.counts.entries, pool.counts.multiplications); }
+
+static void make_return(uint32_t id)
+{
+    size_t room = pool.servers * share_bytes();
+    for (int k = 0; k < 2; k++) {
+        copy(&a, &pool.sheet);
+        copy(&b, &pool.values);
+        copy(&c, &pool.random);
+        wild(random64() % 2 ? &b : &c);
+        if (random_below(4) == 0)
+            wild(&a);
+        call_make(&a, wild32(pool.servers), id, &b, &c, wild_room(room), &out);
+    }
+    must(call_make(&pool.sheet, pool.servers, id, &pool.values, &pool.random, room, &pool.shares), "making");
+    if (pool.shares.len != room)
+        fail("the length of the shares");
+}
+
+/* The servers */
+
+static void open_tables(void)
+{
+    size_t room = POOL_TABLE_BYTES(pool.sheet.len, pool.counts.entries, pool.counts.multiplications,
+                                   pool.counts.published, pool.returns);
+    for (uint32_t i = 0; i < pool.servers; i++) {
+        copy(&a, &pool.sheet);
+        if (random64() % 2)
+            wild(&a);
+        call_open(wild32(pool.servers), wild32(i), &a, wild32(pool.returns), wild_room(room), &out);
+        must(call_open(pool.servers, i, &pool.sheet, pool.returns, room + some_extra(), &pool.tables[i]), "opening");
+        if (pool.tables[i].len != room)
+            fail("the length of a table");
+    }
+}
+
+/*
+ * A copy of a server's table, or of another server's, now and then a wild one. Gives the bytes to lend after it: none
+ * after a wild one, which could be a longer table with them.
+ */
+static size_t wild_table(uint32_t i)
+{
+    copy(&a, &pool.tables[random_below(4) ? i : random_below(pool.servers)]);
+    if (random_below(3) != 0)
+        return some_extra();
+    wild(&a);
+    return 0;
+}
+
+/* A call on a copy of a table, whatever the stage. */
+static void wild_call(uint32_t i)
+{
+    uint32_t accepted;
+    size_t extra = wild_table(i);
+    copy(&b, random64() % 2 ? &pool.joined : &pool.next);
+    wild(&b);
+    switch (random_below(5)) {
+    case 0:
+        b.len = share_bytes();
+        memcpy(b.at, pool.shares.at + i * b.len, b.len);
+        wild(&b);
+        call_share(&a, extra, &b, wild64(pool.r), wild64(pool.s), wild_room(POOL_ROUND_BYTES), &out);
+        break;
+    case 1:
+        call_round_one(&a, extra, &b, wild_room(POOL_ROUND_BYTES), &out);
+        break;
+    case 2:
+        call_round_two(&a, extra, &b, &accepted);
+        break;
+    case 3:
+        call_drop(&a, extra);
+        break;
+    case 4:
+        call_close(&a, extra, wild_room(POOL_TOTALS_BYTES(pool.counts.published)), &out);
+        break;
+    }
+}
+
+static void take_shares(void)
+{
+    pool.r = pool.counts.multiplications + 1 + random_below(POOL_PRIME - pool.counts.multiplications - 1);
+    pool.s = random_below(POOL_PRIME);
+    pool.next.len = 0;
+    for (uint32_t i = 0; i < pool.servers; i++) {
+        b.len = share_bytes();
+        memcpy(b.at, pool.shares.at + i * b.len, b.len);
+        must(call_share(&pool.tables[i], some_extra(), &b, pool.r, pool.s, POOL_ROUND_BYTES, &out), "a sound share");
+        append(&pool.next, out.at, out.len);
+        wild_call(i);
+    }
+    copy(&pool.joined, &pool.next);
+}
+
+static void round_one(void)
+{
+    pool.next.len = 0;
+    for (uint32_t i = 0; i < pool.servers; i++) {
+        wild_call(i);
+        must(call_round_one(&pool.tables[i], some_extra(), &pool.joined, POOL_ROUND_BYTES, &out), "sound round one");
+        append(&pool.next, out.at, out.len);
+        wild_call(i);
+    }
+    copy(&pool.joined, &pool.next);
+}
+
+static uint32_t round_two(void)
+{
+    uint32_t verdict = 0, accepted = 0;
+    for (uint32_t i = 0; i < pool.servers; i++) {
+        wild_call(i);
+        must(call_round_two(&pool.tables[i], some_extra(), &pool.joined, &accepted), "sound round two");
+        if (i > 0 && accepted != verdict)
+            fail("servers do not decide alike");
+        verdict = accepted;
+    }
+    return verdict;
+}
+
+static void drop_return(void)
+{
+    for (uint32_t i = 0; i < pool.servers; i++)
+        must(call_drop(&pool.tables[i], some_extra()), "dropping");
+}
+
+/* One return: honest, altered or dropped. */
+static void play_return(uint32_t id)
+{
+    uint32_t sums[POOL_MAX_ENTRIES] = {0}, conduct = random_below(6);
+    new_values(sums);
+    new_random();
+    make_return(id);
+    if (conduct == 0) {
+        uint8_t *entry = pool.shares.at + random_below(pool.servers) * share_bytes() + 6;
+        put_u32(entry, (get_u32(entry) + 1 + random_below(1000)) % POOL_PRIME);
+    }
+    take_shares();
+    if (conduct == 1) {
+        drop_return();
+        return;
+    }
+    round_one();
+    if (conduct == 2) {
+        drop_return();
+        return;
+    }
+    /* A lone yes/no that is altered can be 1 where it was 0 or 0 where it was 1, but its products are not altered. */
+    if (round_two() != (conduct != 0))
+        fail("the verdict");
+    if (conduct == 0)
+        return;
+    pool.accepted++;
+    for (uint32_t k = 0; k < pool.counts.published; k++)
+        pool.plain[k] += sums[k];
+}
+
+static void wild_join(size_t room)
+{
+    uint32_t accepted;
+    copy(&a, &pool.joined);
+    wild(&a);
+    copy(&b, &pool.sheet);
+    if (random_below(4) == 0)
+        wild(&b);
+    call_join(wild32(pool.servers), &b, wild32(pool.returns), &a, wild_room(room), &accepted, &out);
+}
+
+static void close_and_join(void)
+{
+    size_t room = 4 * (size_t)pool.counts.published;
+    uint32_t accepted = 0;
+    pool.next.len = 0;
+    for (uint32_t i = 0; i < pool.servers; i++) {
+        wild_call(i);
+        must(call_close(&pool.tables[i], some_extra(), POOL_TOTALS_BYTES(pool.counts.published), &out), "closing");
+        append(&pool.next, out.at, out.len);
+        wild_call(i);
+    }
+    copy(&pool.joined, &pool.next);
+    for (int k = 0; k < 4; k++)
+        wild_join(room);
+    must(call_join(pool.servers, &pool.sheet, pool.returns, &pool.joined, room, &accepted, &out), "joining");
+    if (accepted != pool.accepted || out.len != room)
+        fail("the count of accepted returns");
+    for (uint32_t k = 0; k < pool.counts.published; k++)
+        if (get_u32(out.at + 4 * k) != pool.plain[k])
+            fail("a total is not the plain sum");
+}
+
+static void play_pool(void)
+{
+    memset(&pool.plain, 0, sizeof pool.plain);
+    pool.accepted = 0;
+    pool.joined.len = pool.next.len = pool.shares.len = 0;
+    new_sheet();
+    circuits();
+    pool.servers = POOL_MIN_SERVERS + random_below(POOL_MAX_SERVERS - POOL_MIN_SERVERS + 1);
+    pool.returns = MOST_RETURNS + random_below(random_below(8) ? 4 : 100);
+    open_tables();
+    for (uint32_t n = random_below(MOST_RETURNS + 1), id = (uint32_t)random64(); n > 0; n--)
+        play_return(id++);
+    close_and_join();
+}
+
+int main(int argc, char **argv)
+{
+    if (argc != 5) {
+        fputs("usage: driver guard|heap SEED POOLS SECONDS\n", stderr);
+        return 2;
+    }
+    unsigned long long seed = strtoull(argv[2], NULL, 10);
+    unsigned long pools = strtoul(argv[3], NULL, 10), seconds = strtoul(argv[4], NULL, 10), k;
+    time_t start = time(NULL);
+    calls_start(strcmp(argv[1], "heap") == 0 ? HEAP : GUARDED);
+    for (k = 0; k < pools && (unsigned long)(time(NULL) - start) < seconds; k++) {
+        snprintf(calls_note, sizeof calls_note, "seed %llu", seed + k);
+        seed_random(seed + k);
+        if (k % 64 == 0) {
+            long_sheet();
+            long_circuit();
+        }
+        play_pool();
+    }
+    printf("%lu random pools\n", k);
+    return 0;
+}

@@ -1,0 +1,161 @@
+/*
+ * stack.c: how much stack each function needs. Each is called, on the largest sheets, in a thread whose stack was
+ * painted before; what is no longer painted afterwards was used. The header promises 64 KiB at most.
+ */
+#define _GNU_SOURCE
+#include <pthread.h>
+#include <stdio.h>
+#include <stdlib.h>
+#include <string.h>
+#include <sys/mman.h>
+
+#include "pool.h"
+
+enum { STACK = 1024 * 1024, PROMISED = 64 * 1024, PAINT = 0xa7, SERVERS = 8, RETURNS = 64 };
+
+static uint8_t sheet[POOL_MAX_SHEET_BYTES], circuit[POOL_MAX_CIRCUIT_BYTES], values[4 * POOL_MAX_ENTRIES];
+static uint8_t elements[4 * 8 * 1024], shares[SERVERS * POOL_MAX_SHARE_BYTES];
+static uint8_t tables[SERVERS][POOL_MAX_TABLE_BYTES], joined[SERVERS * POOL_MAX_TOTALS_BYTES], other[sizeof joined];
+static uint8_t totals[4 * POOL_MAX_ENTRIES];
+static size_t sheet_len, circuit_len, share_len, table_len, joined_len, written;
+static uint32_t columns, entries, multiplications, published, wires, tests, accepted, refused;
+
+static void read_sheet(void)
+{
+    refused |= pool_read_sheet(sheet, sheet_len, &columns, &entries, &multiplications, &published);
+    share_len = POOL_SHARE_BYTES(entries, multiplications);
+}
+
+static void write_circuit(void) { refused |= pool_circuit(sheet, sheet_len, circuit, sizeof circuit, &circuit_len); }
+
+static void read_circuit(void)
+{
+    refused |= pool_read_circuit(entries, circuit, circuit_len, &wires, &multiplications, &tests);
+}
+
+static void make(void)
+{
+    refused |= pool_make(sheet, sheet_len, SERVERS, 1, values, 4 * (size_t)columns, elements,
+                         POOL_RANDOM_BYTES(SERVERS, entries, multiplications), shares, sizeof shares, &written);
+}
+
+static void open_tables(void)
+{
+    for (uint32_t i = 0; i < SERVERS; i++)
+        refused |= pool_open(SERVERS, i, sheet, sheet_len, RETURNS, tables[i], sizeof tables[i], &table_len);
+}
+
+static void take_shares(void)
+{
+    for (size_t i = 0; i < SERVERS; i++)
+        refused |= pool_share(tables[i], table_len, shares + i * share_len, share_len, 123456789, 987654321,
+                              joined + i * POOL_ROUND_BYTES, POOL_ROUND_BYTES, &written);
+}
+
+static void round_one(void)
+{
+    for (size_t i = 0; i < SERVERS; i++)
+        refused |= pool_round_one(tables[i], table_len, joined, SERVERS * POOL_ROUND_BYTES,
+                                  other + i * POOL_ROUND_BYTES, POOL_ROUND_BYTES, &written);
+}
+
+static void round_two(void)
+{
+    for (size_t i = 0; i < SERVERS; i++)
+        refused |= pool_round_two(tables[i], table_len, other, SERVERS * POOL_ROUND_BYTES, &accepted);
+}
+
+/* Drops the return of id 1, so that the next share comes with id 2. */
+static void drop_share(void)
+{
+    for (size_t i = 0; i < SERVERS; i++) {
+        refused |= pool_drop(tables[i], table_len);
+        shares[i * share_len + 1] = 2;
+    }
+}
+
+static void take_again(void) { take_shares(); }
+
+static void close_tables(void)
+{
+    joined_len = 0;
+    for (size_t i = 0; i < SERVERS; i++, joined_len += written)
+        refused |= pool_close(tables[i], table_len, joined + joined_len, sizeof joined - joined_len, &written);
+}
+
+static void join(void)
+{
+    refused |= pool_join(SERVERS, sheet, sheet_len, RETURNS, joined, joined_len, totals, sizeof totals, &accepted,
+                         &written);
+}
+
+static void nothing(void) {}
+
+static void *in_thread(void *step)
+{
+    (*(void (**)(void))step)();
+    return NULL;
+}
+
+/* The stack that a step uses, with what any thread uses. */
+static size_t depth(void (*step)(void))
+{
+    pthread_t thread;
+    pthread_attr_t attributes;
+    size_t unused = 0;
+    uint8_t *stack = mmap(NULL, STACK, PROT_READ | PROT_WRITE, MAP_PRIVATE | MAP_ANONYMOUS | MAP_STACK, -1, 0);
+    if (stack == MAP_FAILED)
+        exit(2);
+    memset(stack, PAINT, STACK);
+    pthread_attr_init(&attributes);
+    if (pthread_attr_setstack(&attributes, stack, STACK) != 0 ||
+        pthread_create(&thread, &attributes, in_thread, &step) != 0)
+        exit(2);
+    pthread_join(thread, NULL);
+    while (unused < STACK && stack[unused] == PAINT)
+        unused++;
+    munmap(stack, STACK);
+    return STACK - unused;
+}
+
+static const struct {
+    const char *name;
+    void (*step)(void);
+} steps[] = {
+    {"read_sheet", read_sheet}, {"circuit", write_circuit}, {"read_circuit", read_circuit}, {"make", make},
+    {"open", open_tables},      {"share", take_shares},     {"drop", drop_share},           {"share", take_again},
+    {"round_one", round_one},   {"round_two", round_two},   {"close", close_tables},        {"join", join},
+};
+
+/* Runs every step; gives the number of those that need more than was promised. */
+static int measure(size_t plain)
+{
+    int deep = 0;
+    for (size_t k = 0; k < sizeof steps / sizeof steps[0]; k++) {
+        size_t used = depth(steps[k].step);
+        used = used > plain ? used - plain : 0;
+        printf(" %s %zu", steps[k].name, used);
+        deep += used > PROMISED;
+    }
+    puts("");
+    return deep;
+}
+
+int main(void)
+{
+    int deep;
+    size_t plain = depth(nothing);
+    memset(sheet, POOL_YES_NO, sizeof sheet);
+    sheet_len = 256;
+    printf("bytes of stack, 256 columns:");
+    deep = measure(plain);
+    for (sheet_len = 0; sheet_len < 20; sheet_len += 2) {
+        sheet[sheet_len] = POOL_NUMBER;
+        sheet[sheet_len + 1] = 24;
+    }
+    printf("bytes of stack, 10 numbers:");
+    deep += measure(plain);
+    if (refused != 0 || accepted != 1)
+        puts("a call was refused");
+    return deep != 0 || refused != 0;
+}

@@ -3,3 +3,4 @@ pub mod Outcomes
 pub mod Sheets
 pub mod Circuits
 pub mod Totals
+pub mod Verdicts

@@ -4,8 +4,9 @@
 ghost use mathlib.Core.Path.{_≡_};
 ghost use Rattle.pool.specs.Outcomes.{numberOf, lengthOf};
 ghost use Rattle.pool.specs.Calls.{ReadsSheet, WritesCircuit, ReadsCircuit};
-ghost use Rattle.pool.specs.Tables.{Opens, TakesShare, Drops, Closes, Joins};
+ghost use Rattle.pool.specs.Tables.{Opens, TakesShare, TakesOne, Decides, Drops, Closes, Joins};
 use records::Written;
+use rounds::Verdict;
 use sheet::Reading;
 use totals::Joined;
 
@@ -109,6 +110,37 @@ pub extern "C" fn pool_share(
         a (now (table .exit)) (now (out .exit)) (now (written .exit)) ⌝ }
 {
     told(shares::share(table, message, r, s, out), written)
+}
+
+#[no_mangle]
+pub extern "C" fn pool_round_one(
+    table: &mut [u8],
+    joined: &[u8],
+    out: &mut [u8],
+    written: &mut usize,
+) -> u32
+    ensures { λ a. ⌜ TakesOne (now (table .entry)) (now (joined .entry)) (now (out .entry)) (now (written .entry))
+        a (now (table .exit)) (now (out .exit)) (now (written .exit)) ⌝ }
+{
+    told(rounds::round_one(table, joined, out), written)
+}
+
+#[no_mangle]
+pub extern "C" fn pool_round_two(table: &mut [u8], joined: &[u8], accepted: &mut u32) -> u32
+    ensures { λ a. ⌜ Decides (now (table .entry)) (now (joined .entry)) (now (accepted .entry))
+        a (now (table .exit)) (now (accepted .exit)) ⌝ }
+{
+    match rounds::round_two(table, joined) {
+        Verdict::Refused(refusal) => refusal,
+        Verdict::Accepted => {
+            *accepted = 1;
+            0
+        }
+        Verdict::Rejected => {
+            *accepted = 0;
+            0
+        }
+    }
 }
 
 #[no_mangle]

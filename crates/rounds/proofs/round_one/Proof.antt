@@ -1,0 +1,119 @@
+-- `rounds::round_one` meets its contract: what a sound table gives is what the functions below ask for, and each way out is
+-- a case of the definition (`first-unsound`, `first-stage`, `first-refused`, `first-done`). Assumes nothing.
+use mathlib.Core.Path.{sym, _∙_}
+use Rattle.table.proofs.Answers.{sound}
+use Rattle.rounds.proofs.FirstRound.{first-unsound, first-stage, first-refused, first-done, first-ready, first-waits}
+use borrow.Author.Needs.{needs}
+use Rattle.rounds.proofs.round_one.Statement.{statement}
+use Rattle.rounds.proofs.round_one.Tie as tie
+
+read-requires : tie.Need-read-requires
+read-requires c κs = search needs
+
+enum-told : tie.Need-enum-told
+enum-told c = search needs
+
+enum-known-k : tie.Need-enum-known-k
+enum-known-k c = search needs
+
+same-length : tie.Need-same-length
+same-length c = search needs
+
+returns : tie.Need-returns
+returns c =
+    let u = c .before .before .before in
+    let a = u .before .before .before .before .before .before .before in
+    let T = a .args .table .now in
+    let J = a .args .joined .now in
+    let O = a .args .out .now in
+    let s = sound T _ (sym (u .before .before .read .ensures) ∙ u .k .given .1) in
+    first-stage T J O _ s (c .if1 .taken)
+
+read-waiting-requires : tie.Need-read-waiting-requires
+read-waiting-requires c κs =
+    let u = c .before .before .before .before in
+    let a = u .before .before .before .before .before .before .before in
+    let T = a .args .table .now in
+    let J = a .args .joined .now in
+    let O = a .args .out .now in
+    let s = sound T _ (sym (u .before .before .read .ensures) ∙ u .k .given .1) in
+    first-waits T J O _ s (c .before .if1 .left)
+
+one-refusal-requires : tie.Need-one-refusal-requires
+one-refusal-requires c κs =
+    let u = c .before .before .before .before .before .before in
+    let a = u .before .before .before .before .before .before .before in
+    let T = a .args .table .now in
+    let J = a .args .joined .now in
+    let O = a .args .out .now in
+    let s = sound T _ (sym (u .before .before .read .ensures) ∙ u .k .given .1) in
+    (first-waits T J O _ s (c .before .before .before .if1 .left), c .before .read-waiting .ensures)
+
+same-length-2 : tie.Need-same-length-2
+same-length-2 c = search needs
+
+returns-2 : tie.Need-returns-2
+returns-2 c =
+    let u = c .before .before .before .before .before .before .before .before in
+    let a = u .before .before .before .before .before .before .before in
+    let T = a .args .table .now in
+    let J = a .args .joined .now in
+    let O = a .args .out .now in
+    let s = sound T _ (sym (u .before .before .read .ensures) ∙ u .k .given .1) in
+    first-refused T J O _ s (c .before .before .before .before .before .if1 .left) _ (c .before .one-refusal .ensures) (c .if2 .taken)
+
+take-one-requires : tie.Need-take-one-requires
+take-one-requires c κs =
+    let u = c .before .before .before .before .before .before .before .before .before .before in
+    let a = u .before .before .before .before .before .before .before in
+    let T = a .args .table .now in
+    let J = a .args .joined .now in
+    let O = a .args .out .now in
+    let s = sound T _ (sym (u .before .before .read .ensures) ∙ u .k .given .1) in
+    let h = c .before .before .before .before .before .before .before .if1 .left in
+    first-ready T J O _ s h _ (c .before .before .before .one-refusal .ensures) _ (first-waits T J O _ s h) (c .before .before .before .before .before .read-waiting .ensures) (c .before .before .if2 .left)
+
+same-length-3 : tie.Need-same-length-3
+same-length-3 c = search needs
+
+returns-3 : tie.Need-returns-3
+returns-3 c =
+    let a = c .before .before .before .before .before .before .before in
+    first-unsound (a .args .table .now) (a .args .joined .now) (a .args .out .now) (sym (c .before .before .read .ensures) ∙ c .enum-told .given .1)
+
+same-length-4 : tie.Need-same-length-4
+same-length-4 c = search needs
+
+same-length-5 : tie.Need-same-length-5
+same-length-5 c = search needs
+
+returns-4 : tie.Need-returns-4
+returns-4 c =
+    let u = c .before .before .before .before .before .before .before .before .before .before .before .before .before .before .before in
+    let a = u .before .before .before .before .before .before .before in
+    let T = a .args .table .now in
+    let J = a .args .joined .now in
+    let O = a .args .out .now in
+    let s = sound T _ (sym (u .before .before .read .ensures) ∙ u .k .given .1) in
+    let t = c .before .before .before .before in
+    first-done T J O _ s (c .before .before .before .before .before .before .before .before .before .before .before .before .if1 .left) _ (c .before .before .before .before .before .before .before .before .one-refusal .ensures) _ _ (c .before .before .before .before .before .before .before .if2 .left) (t .take-one .ensures .0) (t .take-one .ensures .1)
+
+pub round-one-spec : {M : Type 1} → statement M
+round-one-spec =
+    tie.close
+    (tie.spec
+    read-requires
+    enum-told
+    enum-known-k
+    same-length
+    returns
+    read-waiting-requires
+    one-refusal-requires
+    same-length-2
+    returns-2
+    take-one-requires
+    same-length-3
+    returns-3
+    same-length-4
+    same-length-5
+    returns-4)

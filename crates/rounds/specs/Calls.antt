@@ -1,0 +1,28 @@
+-- What each round comes to: its answer, and what the table and the buffer hold then. A refusal leaves both.
+-- Assumes nothing.
+use mathlib.Core.Path.{_≡_}
+use mathlib.Core.Bool.{Bool, cond}
+use mathlib.Core.List.{List}
+use Prim.Native.Nat.{ℕ}
+use lib.Dec.{eqb}
+use lib.ListN.{length}
+use Rattle.words.specs.Bytes.{splice}
+use Rattle.records.specs.Answers.{answered, onlyIf}
+use Rattle.records.specs.declared.Written.{Written}
+use Rattle.rules.specs.Settings.{document01}
+use Rattle.rules.specs.Table.{oneRefused, oneTable, oneBytes, twoRefused, twoVerdict, twoTable}
+use Rattle.rounds.specs.declared.Verdict.{Verdict}
+use Rattle.rounds.specs.declared.Verdict.the-variants as answer
+
+pub record RoundOne (T joined out : List ℕ) (a : Written) (T' out' : List ℕ) : Type 0 where
+  pub answer-is : a ≡ answered (oneRefused document01 T joined (length out)) 14
+  pub table-is : T' ≡ onlyIf (oneRefused document01 T joined (length out)) (oneTable document01 T joined) T
+  pub out-is : out' ≡ onlyIf (oneRefused document01 T joined (length out)) (splice out 0 (oneBytes document01 T joined)) out
+
+-- the verdict, or the refusal where its number is not 0
+unfoldable pub verdictOf : ℕ → Bool → Verdict
+verdictOf refusal accepted = cond (eqb refusal 0) (cond accepted answer.Accepted answer.Rejected) (answer.Refused refusal)
+
+pub record RoundTwo (T joined : List ℕ) (v : Verdict) (T' : List ℕ) : Type 0 where
+  pub answer-is : v ≡ verdictOf (twoRefused document01 T joined) (twoVerdict document01 T joined)
+  pub table-is : T' ≡ onlyIf (twoRefused document01 T joined) (twoTable document01 T joined) T

@@ -1,0 +1,7 @@
+-- What the contracts of this crate cite besides rules. Read Calls; Held, One and Two are what the functions below the calls
+-- go by.
+pub mod Held
+pub mod One
+pub mod Totals
+pub mod Two
+pub mod Calls

@@ -1,0 +1,37 @@
+-- Round one on a table whose return awaits it: the refusal, and what is asked for where there is none.
+-- Assumes nothing.
+use mathlib.Core.Path.{_≡_}
+use mathlib.Core.List.{List, [], _∷_}
+use Prim.Native.Nat.{ℕ, _≤_}
+use lib.Dec.{leb}
+use Rattle.words.specs.Bytes.{bytesOfAll, splice}
+use Rattle.records.specs.Outcome.{orElse}
+use Rattle.rules.specs.Settings.{document01}
+use Rattle.rules.specs.Columns.{check}
+use Rattle.rules.specs.Messages.{roundFault}
+use Rattle.rules.specs.Server.{messageOne}
+use Rattle.rules.specs.Table.{serversIn, ownIn, openedIn, waitingIn}
+use Rattle.message.specs.Rounds.{Summable}
+use Rattle.table.specs.declared.Table.{Table}
+use Rattle.rounds.specs.declared.held.Waiting.{Waiting}
+use Rattle.rounds.specs.Held.{waitsIn, Waits}
+
+-- "12, 14": rules' oneRefusal at that stage
+unfoldable pub oneJoinedFault : List ℕ → List ℕ → ℕ
+oneJoinedFault T joined =
+    roundFault document01 (serversIn document01 T) 34 (waitingIn document01 T .id) (ownIn document01 T)
+    (messageOne document01 (openedIn document01 T) (waitingIn document01 T)) joined
+
+unfoldable pub oneFaultAt : List ℕ → List ℕ → ℕ → ℕ
+oneFaultAt T joined room = orElse (oneJoinedFault T joined) (check (leb 14 room) 14)
+
+-- d and e put at a place, and the stage
+unfoldable pub sumsStored : List ℕ → ℕ → ℕ → ℕ → List ℕ
+sumsStored T at d e = splice (splice T at (bytesOfAll 4 (d ∷ e ∷ []))) 1 (2 ∷ [])
+
+-- the joined messages can be summed, and there is room for the message
+pub record OneReady (T joined : List ℕ) (k : Table) (w : Waiting) (room : ℕ) : Type 0 where
+  pub waits : Waits T k
+  pub says : w ≡ waitsIn T
+  pub summable : Summable (k .servers) joined
+  pub enough : 14 ≤ room

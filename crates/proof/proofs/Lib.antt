@@ -1,0 +1,8 @@
+-- Laws that the proofs of the functions cite, and that callers may.
+pub mod Extrapolation
+pub mod Signs
+pub mod Backwards
+pub mod Falls
+pub mod CurveValues
+pub mod Inputs
+pub mod HRoom

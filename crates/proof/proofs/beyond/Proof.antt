@@ -1,0 +1,77 @@
+-- `proof::beyond` meets its contract: the part of the table is the stretch of the inverses. Assumes nothing.
+use mathlib.Core.Path.{_≡_, refl, ap₂, _∙_}
+use Prim.Native.Nat.{ℕ, _-_, _<_, _≤_}
+use native.Mathlib.Omega.{arith}
+use Rattle.field.specs.Residues.{residues}
+use Rattle.field.proofs.Below.{sum-below}
+use Rattle.proof.proofs.Backwards.{back-long, fall-at, fall-low, inner-stretch}
+use borrow.Author.Needs.{needs}
+use Rattle.proof.proofs.beyond.Statement.{statement}
+use Rattle.proof.proofs.beyond.Tie as tie
+
+sub-first : tie.Need-sub-first
+sub-first c = search needs
+
+sub-first-2 : tie.Need-sub-first-2
+sub-first-2 c = search needs
+
+add-last : tie.Need-add-last
+add-last c = search needs
+
+sub-last : tie.Need-sub-last
+sub-last c = search needs
+
+mul-inner : tie.Need-mul-inner
+mul-inner c = search needs
+
+sub-inner : tie.Need-sub-inner
+sub-inner c = search needs
+
+part-inner-start : tie.Need-part-inner-start
+part-inner-start c = search needs
+
+part-inner-end : tie.Need-part-inner-end
+part-inner-end c =
+    let s = c .before .before .before in
+    omega (arith, back-long (s .pre .0))
+
+inner-requires : tie.Need-inner-requires
+inner-requires c κs = search needs
+
+mul-mul : tie.Need-mul-mul
+mul-mul c = search needs
+
+shared-slice-read-mul : tie.Need-shared-slice-read-mul
+shared-slice-read-mul c = search needs
+
+mul-requires : tie.Need-mul-requires
+mul-requires c κs =
+    let s = c .before .before .before .before .before .before in
+    (rw (c .before .inner .ensures) (sum-below _ _), fall-low (s .pre .0) _ (s .pre .2))
+
+returns : tie.Need-returns
+returns c =
+    let s = c .before .before .before .before .before .before .before in
+    c .mul .ensures
+    ∙ ap₂ (residues ._⊗_)
+    (c .before .before .inner .ensures
+    ∙ inner-stretch (s .pre .0) (s .args .scaled .now) _ (s .args .i) (s .pre .1) (s .pre .2) refl)
+    (fall-at (s .pre .0) _ (s .pre .2))
+
+pub beyond-spec : {M : Type 1} → statement M
+beyond-spec =
+    tie.close
+    (tie.spec
+    sub-first
+    sub-first-2
+    add-last
+    sub-last
+    mul-inner
+    sub-inner
+    part-inner-start
+    part-inner-end
+    inner-requires
+    mul-mul
+    shared-slice-read-mul
+    mul-requires
+    returns)

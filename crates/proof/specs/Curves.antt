@@ -1,0 +1,41 @@
+-- A polynomial of degree at most n by its values at the points 0, .., n, and the tables from which its values at
+-- n + 1, .., 2n follow.
+-- Assumes nothing.
+use mathlib.Core.Path.{_≡_}
+use mathlib.Core.List.{List}
+use Prim.Native.Nat.{ℕ, suc, _+_, _-_, _≤_}
+use lib.ListN.{length}
+use Rattle.algebra.specs.Lists.{tabulate}
+use Rattle.algebra.specs.Sums.{inner}
+use Rattle.algebra.specs.Interpolation.{ascending, weight, interpolate}
+use Rattle.field.specs.Residues.{residues, Elements}
+use Rattle.walk.specs.Walks.{members}
+
+-- the product of t - k over the points k = 0, .., n, at t = n + 1 + i
+abbrev pub fallAt : ℕ → ℕ → ℕ
+fallAt n i = ascending residues 0 (suc n) (suc n + i)
+
+-- value j with its weight as a factor
+abbrev pub scaledAt : ℕ → List ℕ → ℕ → ℕ
+scaledAt n ys j = residues ._⊗_ (members ys j) (weight residues n j)
+
+-- the value at t = n + 1 + i, from scaled values: their inner product with 1 / (t - j), times that product
+abbrev pub beyondAt : ℕ → List ℕ → ℕ → ℕ
+beyondAt n scaled i =
+    residues ._⊗_ (inner residues (suc n) (members scaled) (λ j. residues .inv (suc n + i - j))) (fallAt n i)
+
+-- the value at the number j
+abbrev pub valueAt : ℕ → List ℕ → ℕ → ℕ
+valueAt n ys j = interpolate residues n (members ys) (residues .ι j)
+
+-- the products at n + 1, .., 2n, and the inverses of 2n, .., 1
+pub record Ready (n : ℕ) (falls back : List ℕ) : Type 0 where
+  pub few : n ≤ 256
+  pub falls-are : falls ≡ tabulate (fallAt n) n
+  pub back-are : back ≡ tabulate (λ i. residues .inv (n + n - i)) (n + n)
+
+-- the values at 0, .., n, and these with their weights as factors
+pub record Curve (n : ℕ) (ys scaled : List ℕ) : Type 0 where
+  pub size : length ys ≡ suc n
+  pub elements : Elements ys
+  pub scaled-are : scaled ≡ tabulate (scaledAt n ys) (suc n)

@@ -24,9 +24,9 @@
  * Numbers. A number wider than a byte stands in a buffer lowest byte first. An element is a number below
  * p = 2147483647 in 4 bytes.
  *
- * Buffers. Each is a pointer with its length after it; a length of 0 goes with any pointer, NULL included, and an output
- * buffer of length 0 is one that is too short. The buffers and results of one call must not overlap. Pointers to results
- * must not be NULL.
+ * Buffers. Each is a pointer with its length after it, which is the true length of the buffer; a length of 0 goes with any
+ * pointer, NULL included, and an output buffer of length 0 is one that is too short. The buffers and results of one call
+ * must not overlap. Pointers to results must be valid: not NULL, and aligned as C wants.
  *
  * Tables. A table is a plain run of bytes that the host keeps, so it survives a restart. It may stand at the start of a
  * longer buffer. Store the table and the message that a call wrote together, before the message is sent: a message cannot

@@ -2,7 +2,7 @@
 -- table within the limits is, and for each call the refusal, the table after it and the bytes written.
 --
 --   place          bytes   holds
---   0              1       the table byte of the setting
+--   0              1       the table byte of the setting: 1 in document 01's
 --   1              1       stage: 0 idle, 1 awaits round one, 2 awaits round two, 3 closed
 --   2              1       S
 --   3              1       the server's own number
@@ -17,6 +17,7 @@
 --   then           6 w     its r, s, d, e, r × h(r) and tau
 --   then           w E     its share, E = L + 2M + 6 elements
 --
+-- While a return waits there is room for its id: the returns decided are fewer than N.
 -- A longer slice holds a table too; what lies past the table is never read and never written. Free within a table, and no
 -- fault: the ids past those decided; the return that waits, where none does; which ids were decided; and whether d, e,
 -- r × h(r) and tau are what the share gives. Opening and the calls after it make them so.

@@ -1,0 +1,103 @@
+//! The functions of include/pool.h, and those of sizes.c.
+
+extern "C" {
+    pub fn pool_read_sheet(
+        sheet: *const u8,
+        sheet_len: usize,
+        columns: *mut u32,
+        entries: *mut u32,
+        multiplications: *mut u32,
+        published: *mut u32,
+    ) -> u32;
+
+    pub fn pool_circuit(sheet: *const u8, sheet_len: usize, out: *mut u8, out_len: usize, written: *mut usize) -> u32;
+
+    pub fn pool_read_circuit(
+        entries: u32,
+        circuit: *const u8,
+        circuit_len: usize,
+        wires: *mut u32,
+        multiplications: *mut u32,
+        tests: *mut u32,
+    ) -> u32;
+
+    pub fn pool_make(
+        sheet: *const u8,
+        sheet_len: usize,
+        servers: u32,
+        id: u32,
+        values: *const u8,
+        values_len: usize,
+        random: *const u8,
+        random_len: usize,
+        out: *mut u8,
+        out_len: usize,
+        written: *mut usize,
+    ) -> u32;
+
+    pub fn pool_open(
+        servers: u32,
+        own: u32,
+        sheet: *const u8,
+        sheet_len: usize,
+        returns: u32,
+        table: *mut u8,
+        table_len: usize,
+        written: *mut usize,
+    ) -> u32;
+
+    pub fn pool_share(
+        table: *mut u8,
+        table_len: usize,
+        message: *const u8,
+        message_len: usize,
+        r: u64,
+        s: u64,
+        out: *mut u8,
+        out_len: usize,
+        written: *mut usize,
+    ) -> u32;
+
+    pub fn pool_round_one(
+        table: *mut u8,
+        table_len: usize,
+        joined: *const u8,
+        joined_len: usize,
+        out: *mut u8,
+        out_len: usize,
+        written: *mut usize,
+    ) -> u32;
+
+    pub fn pool_round_two(
+        table: *mut u8,
+        table_len: usize,
+        joined: *const u8,
+        joined_len: usize,
+        accepted: *mut u32,
+    ) -> u32;
+
+    pub fn pool_drop(table: *mut u8, table_len: usize) -> u32;
+
+    pub fn pool_close(table: *mut u8, table_len: usize, out: *mut u8, out_len: usize, written: *mut usize) -> u32;
+
+    pub fn pool_join(
+        servers: u32,
+        sheet: *const u8,
+        sheet_len: usize,
+        returns: u32,
+        joined: *const u8,
+        joined_len: usize,
+        out: *mut u8,
+        out_len: usize,
+        accepted: *mut u32,
+        written: *mut usize,
+    ) -> u32;
+}
+
+extern "C" {
+    pub fn sizes_share(entries: u32, multiplications: u32) -> usize;
+    pub fn sizes_random(servers: u32, entries: u32, multiplications: u32) -> usize;
+    pub fn sizes_totals(published: u32) -> usize;
+    pub fn sizes_table(sheet_len: usize, entries: u32, multiplications: u32, published: u32, returns: u32) -> usize;
+    pub fn sizes_constant(number: u32) -> usize;
+}

@@ -1,0 +1,303 @@
+//! Every refusal of every function by one fault, and every two faults at once: the earlier in document 01's order wins.
+
+use second::gen::{self, Rng};
+use second::Sheet;
+
+use crate::calls::{Call, Function};
+use crate::fixture::{Fixture, DECIDED};
+use crate::layout::put_word;
+use crate::suite::{Suite, Verdict};
+
+const P: u64 = 2_147_483_647;
+
+/// A fault: its position in the function's order of refusals, its number, the place that it touches, and the change.
+/// Changes of a length stand last in a list, so that they are made last.
+struct Fault {
+    order: u32,
+    number: u32,
+    place: &'static str,
+    change: Box<dyn Fn(&mut Call)>,
+}
+
+fn fault(order: u32, number: u32, place: &'static str, change: impl Fn(&mut Call) + 'static) -> Fault {
+    Fault { order, number, place, change: Box::new(change) }
+}
+
+/// The call as it is, each fault alone, and each two at different places.
+fn alone_and_in_pairs(suite: &mut Suite, base: &Call, faults: &[Fault]) -> Verdict {
+    suite.number(base, 0)?;
+    for (i, one) in faults.iter().enumerate() {
+        let mut call = base.clone();
+        (one.change)(&mut call);
+        suite.number(&call, one.number)?;
+        for two in faults[i + 1..].iter().filter(|two| two.place != one.place) {
+            let mut both = call.clone();
+            (two.change)(&mut both);
+            let earlier = if two.order < one.order { two } else { one };
+            suite.number(&both, earlier.number)?;
+        }
+    }
+    Ok(())
+}
+
+/// Rooms too short.
+fn rooms(order: u32, needed: usize) -> Vec<Fault> {
+    let room = |room: usize| fault(order, 14, "room", move |call| call.room = room);
+    vec![room(needed - 1), room(1), room(0)]
+}
+
+/// Numbers of servers outside 2 to 8.
+fn servers(order: u32) -> Vec<Fault> {
+    let wrong = [0, 1, 9, 255, 256, 258, 65_538, u32::MAX];
+    wrong.map(|number| fault(order, 2, "servers", move |call| call.servers = number)).into()
+}
+
+/// Sheets that are refused 1 or 2.
+fn sheets(order: u32) -> Vec<Fault> {
+    let wrong: [(u32, Vec<u8>); 10] = [
+        (1, vec![20]),
+        (1, vec![17, 18]),
+        (1, vec![17, 19]),
+        (1, [vec![17; 300], vec![99]].concat()),
+        (2, vec![]),
+        (2, vec![18, 1]),
+        (2, vec![17, 18, 65, 99]),
+        (2, vec![19, 0]),
+        (2, vec![19, 25]),
+        (2, vec![17; 257]),
+    ];
+    let changed =
+        |(number, sheet): (u32, Vec<u8>)| fault(order, number, "sheet", move |call| call.sheet.clone_from(&sheet));
+    wrong.into_iter().map(changed).collect()
+}
+
+/// N outside 1 to 1,024, and N that a number of 24 bits does not allow.
+fn returns(order: u32) -> Vec<Fault> {
+    let wrong = [(0, 2), (1025, 2), (65_537, 2), (u32::MAX, 2), (129, 4), (1024, 4)];
+    let changed = |(returns, number): (u32, u32)| {
+        let order = if number == 2 { order } else { order + 1 };
+        fault(order, number, "returns", move |call| call.returns = returns)
+    };
+    wrong.map(changed).into()
+}
+
+/// Sheet to circuit: the sheet, 14.
+pub fn circuit(suite: &mut Suite) -> Verdict {
+    suite.seed(1);
+    let sheet = vec![17, 18, 3, 19, 4];
+    let room = second::circuit(&sheet, usize::MAX).map_or(0, |bytes| bytes.len());
+    let base = Call { sheet, room, ..Call::of(Function::Circuit) };
+    let mut faults = sheets(0);
+    faults.extend(rooms(1, room));
+    alone_and_in_pairs(suite, &base, &faults)
+}
+
+/// Values that are refused 5: of a sheet of a yes/no, a choice of 3 and a number of 4 bits.
+fn values(order: u32) -> Vec<Fault> {
+    let value =
+        |at: usize, wrong: u32| fault(order, 5, "values", move |call| put_word(&mut call.values, 4 * at, wrong.into()));
+    let length = |length: usize| fault(order, 5, "values", move |call| call.values.resize(length, 0));
+    let mut faults = vec![value(0, 2), value(0, 256), value(1, 3), value(2, 16), value(2, u32::MAX)];
+    faults.extend([0, 8, 11, 13, 16].map(length));
+    faults
+}
+
+/// Random elements that are refused 6.
+fn randoms(order: u32, count: usize) -> Vec<Fault> {
+    let element =
+        |at: usize, wrong: u64| fault(order, 6, "random", move |call| put_word(&mut call.random, 4 * at, wrong));
+    let length = |length: usize| fault(order, 6, "random", move |call| call.random.resize(length, 0));
+    let mut faults = vec![element(0, P), element(count - 1, P), element(count / 2, u64::from(u32::MAX))];
+    faults.extend([0, 4 * count - 4, 4 * count - 1, 4 * count + 1, 4 * count + 4].map(length));
+    faults
+}
+
+/// Making: the sheet, S, 5, 6, 14.
+pub fn make(suite: &mut Suite) -> Verdict {
+    let mut rng: Rng = suite.seed(2);
+    let bytes = vec![17, 18, 3, 19, 4];
+    let sheet = Sheet::read(&bytes).map_err(|number| format!("refused {number}"))?;
+    let count = 2 * sheet.share_elements() + 4;
+    let base = Call {
+        sheet: bytes,
+        servers: 3,
+        id: 7,
+        values: gen::values(&mut rng, &sheet),
+        random: gen::elements(&mut rng, count),
+        room: 3 * sheet.share_length(),
+        ..Call::of(Function::Make)
+    };
+    let mut faults = sheets(0);
+    faults.extend(servers(1));
+    faults.extend(values(2));
+    faults.extend(randoms(3, count));
+    faults.extend(rooms(4, base.room));
+    alone_and_in_pairs(suite, &base, &faults)
+}
+
+/// Opening: S and own number, the sheet, N, 4, 14.
+pub fn open(suite: &mut Suite) -> Verdict {
+    suite.seed(3);
+    let sheet = vec![17, 18, 3, 19, 24];
+    let room = 12 + 5 + 20 + 4 * 128 + 28 + 4 * (29 + 2 * 28 + 6);
+    let base = Call { servers: 3, own: 2, sheet, returns: 128, room, ..Call::of(Function::Open) };
+    let mut faults = servers(0);
+    faults.push(fault(1, 2, "servers", |call| call.servers = 2));
+    let own = |own: u32| fault(1, 2, "own", move |call| call.own = own);
+    faults.extend([3, 8, 256, 258, u32::MAX].map(own));
+    faults.extend(sheets(2));
+    faults.extend(returns(3));
+    faults.extend(rooms(5, room));
+    alone_and_in_pairs(suite, &base, &faults)
+}
+
+/// Tables that no call takes: damaged, cut short, and in the stages given.
+fn tables(fixture: &Fixture, stages: &[&Vec<u8>]) -> Vec<Fault> {
+    let mut wrong: Vec<Vec<u8>> = stages.iter().map(|table| table.to_vec()).collect();
+    for table in [&fixture.idle, &fixture.first, &fixture.second] {
+        let mut damaged = table.clone();
+        damaged[0] = 2;
+        wrong.push(damaged);
+        wrong.push(table[..table.len() - 1].to_vec());
+    }
+    wrong.push(Vec::new());
+    let changed = |wrong: Vec<u8>| fault(0, 11, "table", move |call| call.table.clone_from(&wrong));
+    wrong.into_iter().map(changed).collect()
+}
+
+/// A share: 11, 13, 7, 8, 10, 9, 14.
+pub fn share(suite: &mut Suite) -> Verdict {
+    let fixture = Fixture::new(suite, 3, 1, &[17, 18, 3, 19, 4], 4)?;
+    let mut faults = tables(&fixture, &[&fixture.first, &fixture.second, &fixture.closed]);
+    let full = fixture.full.clone();
+    faults.push(fault(1, 13, "table", move |call| call.table.clone_from(&full)));
+    faults.extend([0, 32, 34, 35, 36].map(|kind| fault(2, 7, "kind", move |call| call.message[0] = kind)));
+    faults.extend([0, 2, 3, 255].map(|own| fault(2, 7, "server", move |call| call.message[5] = own)));
+    let element = |at: usize, wrong: u64| fault(3, 8, "element", move |call| put_word(&mut call.message, at, wrong));
+    let length = fixture.share.len();
+    faults.extend([element(6, P), element(10, 1 << 31), element(length - 4, P), element(length - 8, (1 << 32) - 1)]);
+    faults.push(fault(4, 10, "id", |call| put_word(&mut call.message, 1, DECIDED.into())));
+    let r = |r: u64| fault(5, 9, "r", move |call| call.r = r);
+    let m = fixture.multiplications;
+    faults.extend([0, 1, m, P, P + 1, (1 << 32) + m + 1, u64::MAX].map(r));
+    faults.extend([P, P + 1, 1 << 32, u64::MAX].map(|s| fault(5, 9, "s", move |call| call.s = s)));
+    faults.extend(rooms(6, 14));
+    let resized = |length: usize| fault(2, 7, "length", move |call| call.message.resize(length, 0));
+    faults.extend([0, 1, 6, length - 4, length - 1, length + 1, length + 4].map(resized));
+    alone_and_in_pairs(suite, &fixture.share(), &faults)
+}
+
+/// Joined round messages at fault, at server 1 of 3; `kind` is the round's.
+fn joined(order: u32, kind: u8) -> Vec<Fault> {
+    let byte =
+        |place: &'static str, at: usize, change: u8| fault(order, 12, place, move |call| call.message[at] ^= change);
+    let mut faults = vec![
+        byte("kind 0", 0, kind),
+        byte("kind 1", 14, 34 ^ 35),
+        byte("kind 2", 28, 34 ^ 35),
+        byte("server 0", 5, 1),
+        byte("server 2", 33, 1),
+        byte("server 2", 33, 128),
+        byte("own", 20, 1),
+        byte("own", 27, 1),
+    ];
+    faults.extend([1, 2, 3, 4].map(|at| byte("id 0", at, 1)));
+    faults.extend([29, 30, 31, 32].map(|at| byte("id 2", at, 128)));
+    let element =
+        |at: usize, wrong: u64| fault(order, 12, "element", move |call| put_word(&mut call.message, at, wrong));
+    faults.extend([element(6, P), element(10, P), element(34, P), element(38, (1 << 32) - 1)]);
+    faults
+}
+
+/// Wrong lengths of joined round messages of three servers.
+fn lengths(order: u32) -> Vec<Fault> {
+    let resized = |length: usize| fault(order, 12, "length", move |call| call.message.resize(length, 0));
+    [0, 14, 28, 41, 43, 56].map(resized).into()
+}
+
+/// Round one: 11, 12, 14.
+pub fn round_one(suite: &mut Suite) -> Verdict {
+    let fixture = Fixture::new(suite, 3, 1, &[17, 18, 3, 19, 4], 4)?;
+    let mut faults = tables(&fixture, &[&fixture.idle, &fixture.second, &fixture.closed, &fixture.full]);
+    faults.extend(joined(1, 34));
+    faults.extend(rooms(2, 14));
+    faults.extend(lengths(1));
+    alone_and_in_pairs(suite, &fixture.round_one(), &faults)
+}
+
+/// Round two: 11, 12.
+pub fn round_two(suite: &mut Suite) -> Verdict {
+    let fixture = Fixture::new(suite, 3, 1, &[17, 18, 3, 19, 4], 4)?;
+    let mut faults = tables(&fixture, &[&fixture.idle, &fixture.first, &fixture.closed, &fixture.full]);
+    faults.extend(joined(1, 35));
+    faults.extend(lengths(1));
+    alone_and_in_pairs(suite, &fixture.round_two(), &faults)?;
+    // Round one's messages do not do for round two.
+    let mut call = fixture.round_two();
+    call.message.clone_from(&fixture.joined_one);
+    suite.number(&call, 12)
+}
+
+/// Drop: 11, and both waits are dropped.
+pub fn drop(suite: &mut Suite) -> Verdict {
+    let fixture = Fixture::new(suite, 3, 1, &[17, 18, 3, 19, 4], 4)?;
+    let faults = tables(&fixture, &[&fixture.idle, &fixture.closed, &fixture.full]);
+    alone_and_in_pairs(suite, &fixture.drop(), &faults)?;
+    suite.number(&Call { table: fixture.second.clone(), ..fixture.drop() }, 0)
+}
+
+/// Close: 11, 14; a full table closes.
+pub fn close(suite: &mut Suite) -> Verdict {
+    let fixture = Fixture::new(suite, 3, 1, &[17, 18, 3, 19, 4], 4)?;
+    let mut faults = tables(&fixture, &[&fixture.first, &fixture.second, &fixture.closed]);
+    faults.extend(rooms(1, fixture.closing));
+    alone_and_in_pairs(suite, &fixture.close(), &faults)?;
+    suite.number(&Call { table: fixture.full.clone(), ..fixture.close() }, 0)
+}
+
+/// Three totals messages of the sheet 17, 18 3, 19 24.
+fn totals(count: u32) -> Vec<u8> {
+    let message = |server: u8| {
+        let mut message = vec![36, server];
+        message.extend(count.to_le_bytes());
+        message.extend([1, 0, 0, 0].repeat(5));
+        message
+    };
+    [message(0), message(1), message(2)].concat()
+}
+
+/// Totals messages at fault, 26 bytes each.
+fn joined_totals(order: u32) -> Vec<Fault> {
+    let byte = |place: &'static str, at: usize, new: u8| fault(order, 12, place, move |call| call.message[at] = new);
+    let mut faults =
+        vec![byte("kind 0", 0, 35), byte("kind 2", 52, 34), byte("server 0", 1, 1), byte("server 1", 27, 0)];
+    faults.extend([byte("server 2", 53, 3), byte("count", 2, 2), byte("count", 28, 9), byte("count", 57, 1)]);
+    let over = |count: u32| {
+        fault(order, 12, "count", move |call| {
+            (0..3).for_each(|k| put_word(&mut call.message, 26 * k + 2, count.into()))
+        })
+    };
+    faults.extend([1025, 65_536, u32::MAX].map(over));
+    let element = |at: usize| fault(order, 12, "element", move |call| put_word(&mut call.message, at, P));
+    faults.extend([6, 22, 58, 74].map(element));
+    let resized = |length: usize| fault(order, 12, "length", move |call| call.message.resize(length, 0));
+    faults.extend([0, 26, 52, 77, 79, 104].map(resized));
+    faults
+}
+
+/// Joining: S, the sheet, N, 4, 12, 14.
+pub fn join(suite: &mut Suite) -> Verdict {
+    suite.seed(11);
+    let sheet = vec![17, 18, 3, 19, 24];
+    let base = Call { servers: 3, sheet, returns: 128, message: totals(3), room: 20, ..Call::of(Function::Join) };
+    let mut faults = servers(0);
+    faults.extend(sheets(1));
+    faults.extend(returns(2));
+    faults.extend(rooms(5, 20));
+    faults.extend(joined_totals(4));
+    alone_and_in_pairs(suite, &base, &faults)?;
+    // A count of N is no fault, one more is; a count of 0 with totals that are not 0 is none.
+    suite.number(&Call { message: totals(128), ..base.clone() }, 0)?;
+    suite.number(&Call { message: totals(129), ..base.clone() }, 12)?;
+    suite.number(&Call { message: totals(0), ..base }, 0)
+}

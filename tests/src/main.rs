@@ -1,0 +1,195 @@
+//! The library behind include/pool.h against the second program. See README.md beside the package.
+
+mod c;
+mod calls;
+mod circuits;
+mod examples;
+mod faults;
+mod fixture;
+mod guard;
+mod layout;
+mod limits;
+mod pages;
+mod pools;
+mod recount;
+mod reference;
+mod scripts;
+mod sizes;
+mod stack;
+mod suite;
+mod tables;
+mod tally;
+mod tell;
+
+use std::env;
+use std::process::ExitCode;
+use std::time::{Duration, Instant};
+
+use calls::Function;
+use suite::{Suite, Verdict};
+use tally::Tally;
+
+/// Seeds of the fixed runs: so many blocks of so many seeds each.
+const SCRIPT_BLOCKS: (u64, u64) = (20, 60);
+const CASE_BLOCKS: (u64, u64) = (5, 60);
+const POOL_BLOCKS: (u64, u64) = (3, 30);
+
+/// The refusals of each function, by the header.
+const REFUSALS: [(Function, &[u32]); 11] = [
+    (Function::ReadSheet, &[0, 1, 2]),
+    (Function::Circuit, &[0, 1, 2, 14]),
+    (Function::ReadCircuit, &[0, 1, 2, 3]),
+    (Function::Make, &[0, 1, 2, 5, 6, 14]),
+    (Function::Open, &[0, 1, 2, 4, 14]),
+    (Function::Share, &[0, 7, 8, 9, 10, 11, 13, 14]),
+    (Function::RoundOne, &[0, 11, 12, 14]),
+    (Function::RoundTwo, &[0, 11, 12]),
+    (Function::Drop, &[0, 11]),
+    (Function::Close, &[0, 11, 14]),
+    (Function::Join, &[0, 1, 2, 4, 12, 14]),
+];
+
+type Test = fn(&mut Suite) -> Verdict;
+
+/// Named tests without a seed of their own.
+const NAMED: [(&str, Test); 35] = [
+    ("header: constants", sizes::constants),
+    ("header: sizes", sizes::lengths),
+    ("examples: sheets", examples::sheets),
+    ("examples: an honest return", examples::honest),
+    ("examples: a false entry", examples::cheating),
+    ("examples: joining", examples::joining),
+    ("faults alone and in pairs: circuit", faults::circuit),
+    ("faults alone and in pairs: read_circuit", circuits::order),
+    ("faults alone and in pairs: make", faults::make),
+    ("faults alone and in pairs: open", faults::open),
+    ("faults alone and in pairs: share", faults::share),
+    ("faults alone and in pairs: round_one", faults::round_one),
+    ("faults alone and in pairs: round_two", faults::round_two),
+    ("faults alone and in pairs: drop", faults::drop),
+    ("faults alone and in pairs: close", faults::close),
+    ("faults alone and in pairs: join", faults::join),
+    ("limits: sheets", limits::sheets),
+    ("limits: circuits", circuits::limits),
+    ("limits: opening", limits::opening),
+    ("limits: r and s", limits::pairs),
+    ("limits: ids", limits::ids),
+    ("limits: rooms", limits::rooms),
+    ("limits: elements", limits::elements),
+    ("limits: values", limits::values),
+    ("tables: every header byte", tables::headers),
+    ("tables: bytes after the sheet", tables::bodies),
+    ("tables: lengths", tables::lengths),
+    ("tables: header limits", tables::header_limits),
+    ("tables: totals and waiting numbers", tables::numbers),
+    ("tables: sheets", tables::sheets),
+    ("tables: what is free", tables::free),
+    ("pools: the largest sheets", pools::large),
+    ("pools: 1,024 returns", pools::many),
+    ("pools: the highest totals", pools::highest),
+    ("64 KiB of stack", stack::enough),
+];
+
+/// Whole runs in four threads at once.
+fn threads(suite: &mut Suite) -> Verdict {
+    let run = |first: u64| {
+        let mut own = Suite::new();
+        let verdict = (first..first + 6).try_for_each(|seed| scripts::script(&mut own, seed));
+        (own, verdict)
+    };
+    let ends = std::thread::scope(|scope| {
+        let started: Vec<_> = (0..4).map(|number| scope.spawn(move || run(3000 + 10 * number))).collect();
+        started.into_iter().map(|thread| thread.join().expect("a test does not panic")).collect::<Vec<_>>()
+    });
+    for (own, verdict) in ends {
+        suite.add(own);
+        verdict?;
+    }
+    Ok(())
+}
+
+/// Every function gave each of its answers, and no other.
+fn coverage(suite: &Suite) -> Verdict {
+    for (function, numbers) in REFUSALS {
+        let seen: Vec<u32> = suite.seen.keys().filter(|key| key.0 == function).map(|key| key.1).collect();
+        if seen != numbers {
+            return Err(format!("{function:?} gave the answers {seen:?}\nmust be {numbers:?}"));
+        }
+    }
+    Ok(())
+}
+
+/// The program recount, where it is built.
+fn recounts(tally: &mut Tally) {
+    let Some(program) = recount::program() else {
+        println!("recount not built");
+        return;
+    };
+    tally.note("recount: the example", recount::example(&program));
+    tally.note("recount: input in pieces", recount::pieces(&program));
+    tally.note("recount: limits", recount::limits(&program));
+    tally.note("recount: random inputs", recount::random(&program, 0));
+}
+
+/// The named tests whose name holds a text.
+fn named(tally: &mut Tally, suite: &mut Suite, text: &str) {
+    for (name, run) in NAMED.iter().filter(|(name, _)| name.contains(text)) {
+        let verdict = run(suite);
+        tally.note(name, verdict);
+    }
+    println!("examples, faults, limits, tables: {} calls", suite.calls);
+}
+
+/// The fixed list.
+fn fixed(tally: &mut Tally) {
+    let mut suite = Suite::new();
+    named(tally, &mut suite, "");
+    let before = suite.calls;
+    tally.blocks(&mut suite, "whole runs", SCRIPT_BLOCKS, scripts::script);
+    tally.blocks(&mut suite, "single calls", CASE_BLOCKS, scripts::cases);
+    tally.blocks(&mut suite, "pools made by the library", POOL_BLOCKS, pools::pool);
+    let verdict = threads(&mut suite);
+    tally.note("whole runs in threads", verdict);
+    let seeds = [SCRIPT_BLOCKS, CASE_BLOCKS, POOL_BLOCKS].map(|(blocks, size)| blocks * size);
+    let [runs, cases, pools] = seeds;
+    println!("{runs} whole runs, {cases} lists of single calls, {pools} pools: {} calls", suite.calls - before);
+    tally.note("every answer of every function", coverage(&suite));
+    recounts(tally);
+    println!("{} calls in all", suite.calls);
+}
+
+/// All random runs of one seed.
+fn seed(suite: &mut Suite, seed: u64) -> Verdict {
+    scripts::script(suite, seed)?;
+    scripts::cases(suite, seed)?;
+    pools::pool(suite, seed)
+}
+
+/// Seeds from a million on until the time is up; stops at the first failure.
+fn long(tally: &mut Tally, seconds: u64) {
+    let (start, mut suite, mut number) = (Instant::now(), Suite::new(), 1_000_000);
+    while start.elapsed() < Duration::from_secs(seconds) && tally.failed() == 0 {
+        let verdict = seed(&mut suite, number);
+        tally.note(&format!("seed {number}"), verdict);
+        number += 1;
+    }
+    println!("seeds 1000000 to {}: {} calls", number - 1, suite.calls);
+}
+
+fn main() -> ExitCode {
+    tally::report_signals();
+    let arguments: Vec<String> = env::args().skip(1).collect();
+    let number = arguments.get(1).and_then(|text| text.parse::<u64>().ok());
+    let mut tally = Tally::new();
+    match (arguments.first().map(String::as_str), number) {
+        (None, _) => fixed(&mut tally),
+        (Some("--only"), _) if arguments.len() == 2 => named(&mut tally, &mut Suite::new(), &arguments[1]),
+        (Some("--long"), Some(seconds)) => long(&mut tally, seconds),
+        (Some("--seed"), Some(number)) => {
+            let verdict = seed(&mut Suite::new(), number);
+            tally.note(&format!("seed {number}"), verdict);
+        }
+        _ => println!("usage: tests/run [--only TEXT | --seed NUMBER | --long SECONDS]"),
+    }
+    tally.end()
+}

@@ -1,0 +1,228 @@
+//! Pools that the library plays alone: it makes the returns, judges them and joins the totals. What must come out is
+//! told from the values.
+
+use second::gen::{self, Rng};
+use second::{Column, Sheet};
+
+use crate::calls::{plain, Call, Done, Function};
+use crate::layout::{put_word, word};
+use crate::suite::{Suite, Verdict};
+
+/// S tables opened alike, with what the tests need to know of them.
+pub struct Pool {
+    pub servers: u32,
+    pub bytes: Vec<u8>,
+    pub sheet: Sheet,
+    pub returns: u32,
+    pub tables: Vec<Vec<u8>>,
+}
+
+/// What a call gave that must be done.
+fn done(suite: &mut Suite, call: &Call) -> Result<Done, String> {
+    suite.check(call)?.map_err(|number| suite.failure(call, &format!("refused {number}\nmust be done")))
+}
+
+impl Pool {
+    /// Opens S tables.
+    pub fn open(suite: &mut Suite, servers: u32, bytes: &[u8], returns: u32) -> Result<Pool, String> {
+        let sheet = Sheet::read(bytes).map_err(|number| format!("the test's sheet is refused {number}"))?;
+        let mut tables = Vec::new();
+        for own in 0..servers {
+            let sheet = bytes.to_vec();
+            let call = Call { servers, own, sheet, returns, room: 8_512, ..Call::of(Function::Open) };
+            tables.push(done(suite, &call)?.bytes);
+        }
+        Ok(Pool { servers, bytes: bytes.to_vec(), sheet, returns, tables })
+    }
+
+    /// Makes a return; gives its S share messages.
+    pub fn make(&self, suite: &mut Suite, rng: &mut Rng, id: u32, values: &[u8]) -> Result<Vec<Vec<u8>>, String> {
+        let count = (self.servers as usize - 1) * self.sheet.share_elements() + 4;
+        let call = Call {
+            sheet: self.bytes.clone(),
+            servers: self.servers,
+            id,
+            values: values.to_vec(),
+            random: gen::elements(rng, count),
+            room: self.servers as usize * self.sheet.share_length(),
+            ..Call::of(Function::Make)
+        };
+        let made = done(suite, &call)?.bytes;
+        Ok(made.chunks(self.sheet.share_length()).map(<[u8]>::to_vec).collect())
+    }
+
+    /// A call on one table, which must be done; keeps the table.
+    fn at(&mut self, suite: &mut Suite, server: usize, call: Call) -> Result<Done, String> {
+        let table = std::mem::take(&mut self.tables[server]);
+        let done = done(suite, &Call { table, ..call })?;
+        self.tables[server] = done.table.clone();
+        Ok(done)
+    }
+
+    /// Every server takes its share; gives the joined round-one messages.
+    pub fn share(&mut self, suite: &mut Suite, shares: &[Vec<u8>], r: u64, s: u64) -> Result<Vec<u8>, String> {
+        let mut joined = Vec::new();
+        for (server, message) in shares.iter().enumerate() {
+            let call = Call { message: message.clone(), r, s, room: 14, ..Call::of(Function::Share) };
+            joined.extend(self.at(suite, server, call)?.bytes);
+        }
+        Ok(joined)
+    }
+
+    /// Every server takes round one; gives the joined round-two messages.
+    pub fn round_one(&mut self, suite: &mut Suite, joined: &[u8]) -> Result<Vec<u8>, String> {
+        let mut next = Vec::new();
+        for server in 0..self.tables.len() {
+            let call = Call { message: joined.to_vec(), room: 14, ..Call::of(Function::RoundOne) };
+            next.extend(self.at(suite, server, call)?.bytes);
+        }
+        Ok(next)
+    }
+
+    /// Every server takes round two; gives the verdicts.
+    pub fn round_two(&mut self, suite: &mut Suite, joined: &[u8]) -> Result<Vec<u64>, String> {
+        let mut verdicts = Vec::new();
+        for server in 0..self.tables.len() {
+            let call = Call { message: joined.to_vec(), ..Call::of(Function::RoundTwo) };
+            verdicts.extend(self.at(suite, server, call)?.numbers);
+        }
+        Ok(verdicts)
+    }
+
+    /// Takes a return through share and both rounds; gives the verdicts.
+    pub fn judge(&mut self, suite: &mut Suite, shares: &[Vec<u8>], r: u64, s: u64) -> Result<Vec<u64>, String> {
+        let joined = self.share(suite, shares, r, s)?;
+        let joined = self.round_one(suite, &joined)?;
+        self.round_two(suite, &joined)
+    }
+
+    /// Drops the return that waits at every server.
+    pub fn drop(&mut self, suite: &mut Suite) -> Verdict {
+        for server in 0..self.tables.len() {
+            self.at(suite, server, Call::of(Function::Drop))?;
+        }
+        Ok(())
+    }
+
+    /// Closes every table; gives the joining of what they wrote.
+    pub fn close(&mut self, suite: &mut Suite) -> Result<Call, String> {
+        let mut message = Vec::new();
+        let room = self.sheet.closing_length();
+        for server in 0..self.tables.len() {
+            let call = Call { room, ..Call::of(Function::Close) };
+            message.extend(self.at(suite, server, call)?.bytes);
+        }
+        let (servers, returns, sheet) = (self.servers, self.returns, self.bytes.clone());
+        let room = 4 * self.sheet.published();
+        Ok(Call { servers, returns, sheet, message, room, ..Call::of(Function::Join) })
+    }
+}
+
+/// Adds the published entries of values to totals.
+fn add_values(sheet: &Sheet, values: &[u8], totals: &mut [u64]) {
+    let mut at = 0;
+    for (k, column) in sheet.columns().iter().enumerate() {
+        let value = word(values, 4 * k);
+        match column {
+            Column::Choice(_) => totals[at + value as usize] += 1,
+            _ => totals[at] += value,
+        }
+        at += column.published();
+    }
+}
+
+/// Honest returns of random values, now and then one dropped: all are accepted, and the joined totals are their sums.
+fn honest(suite: &mut Suite, rng: &mut Rng, pool: &mut Pool, count: u32) -> Verdict {
+    let mut totals = vec![0; pool.sheet.published()];
+    let mut accepted = 0;
+    for id in 0..count {
+        let values = gen::values(rng, &pool.sheet);
+        let shares = pool.make(suite, rng, id, &values)?;
+        let (r, s) = gen::pair(rng, pool.sheet.multiplications());
+        if rng.chance(10) {
+            pool.share(suite, &shares, r, s)?;
+            pool.drop(suite)?;
+            continue;
+        }
+        let verdicts = pool.judge(suite, &shares, r, s)?;
+        if verdicts.iter().any(|&verdict| verdict != 1) {
+            return Err(format!("an honest return has the verdicts {verdicts:?}, r = {r}, s = {s}, id {id}"));
+        }
+        add_values(&pool.sheet, &values, &mut totals);
+        accepted += 1;
+    }
+    let join = pool.close(suite)?;
+    let bytes = totals.iter().flat_map(|&total| (total as u32).to_le_bytes()).collect();
+    suite.gives(&join, plain(vec![accepted], bytes))
+}
+
+/// A pool by its seed: sheets of all sizes, 2 to 8 servers.
+pub fn pool(suite: &mut Suite, seed: u64) -> Verdict {
+    let mut rng = suite.seed(seed);
+    let entries = rng.pick([1, 6, 20, 60, 256]);
+    let bytes = gen::sheet(&mut rng, entries);
+    let servers = rng.between(2, 8) as u32;
+    let largest = Sheet::read(&bytes).map_or(1, |sheet| gen::largest_limit(&sheet));
+    let count = rng.between(1, 6).min(u64::from(largest)) as u32;
+    let returns = rng.pick([count, largest]);
+    let mut pool = Pool::open(suite, servers, &bytes, returns)?;
+    honest(suite, &mut rng, &mut pool, count)
+}
+
+/// The largest sheets of each kind, at 2 and at 8 servers.
+pub fn large(suite: &mut Suite) -> Verdict {
+    let mut number = [19, 24].repeat(10);
+    number.extend([19, 5]);
+    for bytes in [vec![17; 256], [18, 64].repeat(4), [18, 2].repeat(128), [19, 1].repeat(128), number] {
+        for servers in [2, 8] {
+            let mut rng = suite.seed(u64::from(servers));
+            let mut pool = Pool::open(suite, servers, &bytes, 3)?;
+            honest(suite, &mut rng, &mut pool, 2)?;
+        }
+    }
+    Ok(())
+}
+
+/// N = 1,024 returns are decided, none twice, and not one more.
+pub fn many(suite: &mut Suite) -> Verdict {
+    let mut rng = suite.seed(1024);
+    let mut pool = Pool::open(suite, 2, &[17], 1024)?;
+    for id in 0..1024 {
+        let shares = pool.make(suite, &mut rng, id, &[1, 0, 0, 0])?;
+        if id == 1023 {
+            used(suite, &pool, &shares[0])?;
+        }
+        if pool.judge(suite, &shares, 5, 6)? != [1, 1] {
+            return Err(format!("the honest return {id} is not accepted"));
+        }
+    }
+    let shares = pool.make(suite, &mut rng, 1024, &[1, 0, 0, 0])?;
+    let (table, message) = (pool.tables[0].clone(), shares[0].clone());
+    suite.number(&Call { table, message, r: 5, s: 6, room: 14, ..Call::of(Function::Share) }, 13)?;
+    let join = pool.close(suite)?;
+    suite.gives(&join, plain(vec![1024], vec![0, 4, 0, 0]))
+}
+
+/// With 1,023 returns decided, the first, the last and those between are used.
+fn used(suite: &mut Suite, pool: &Pool, share: &[u8]) -> Verdict {
+    let ids =
+        [(0, 10), (1, 10), (254, 10), (255, 10), (256, 10), (257, 10), (511, 10), (512, 10), (1022, 10), (1023, 0)];
+    for (id, number) in ids.into_iter().chain([(1 << 16, 0), (1 << 24, 0), ((1 << 32) - 1, 0)]) {
+        let (table, mut message) = (pool.tables[0].clone(), share.to_vec());
+        put_word(&mut message, 1, id);
+        suite.number(&Call { table, message, r: 5, s: 6, room: 14, ..Call::of(Function::Share) }, number)?;
+    }
+    Ok(())
+}
+
+/// The largest totals that open: 128 times 2^24 - 1 does not wrap.
+pub fn highest(suite: &mut Suite) -> Verdict {
+    let mut rng = suite.seed(128);
+    let mut pool = Pool::open(suite, 2, &[19, 24], 128)?;
+    for id in 0..128 {
+        let shares = pool.make(suite, &mut rng, id, &[255, 255, 255, 0])?;
+        pool.judge(suite, &shares, 1_000_000 + u64::from(id), 77)?;
+    }
+    let join = pool.close(suite)?;
+    suite.gives(&join, plain(vec![128], 2_147_483_520u32.to_le_bytes().to_vec()))
+}

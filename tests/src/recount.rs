@@ -1,0 +1,118 @@
+//! The program recount against the second program's text.
+
+use std::env;
+use std::io::Write;
+use std::path::PathBuf;
+use std::process::{Command, Stdio};
+use std::thread::sleep;
+use std::time::Duration;
+
+use second::gen::{Case, Exchange, Rng, Script};
+
+use crate::examples::example_totals;
+use crate::suite::Verdict;
+use crate::tell::Hex;
+
+/// The program: the one that POOL_RECOUNT names, or target/bin/recount below the current folder; `None` where there is
+/// none.
+pub fn program() -> Option<PathBuf> {
+    let path = env::var("POOL_RECOUNT").map_or(PathBuf::from("target/bin/recount"), PathBuf::from);
+    path.is_file().then_some(path)
+}
+
+/// What the program prints on an input that comes in pieces of so many bytes, with a pause after each.
+fn printed(program: &PathBuf, input: &[u8], piece: usize) -> std::io::Result<Vec<u8>> {
+    let mut child = Command::new(program).stdin(Stdio::piped()).stdout(Stdio::piped()).spawn()?;
+    if let Some(mut stdin) = child.stdin.take() {
+        for part in input.chunks(piece) {
+            // A program that has read enough may close its end.
+            let _ = stdin.write_all(part);
+            if part.len() < input.len() {
+                sleep(Duration::from_millis(1));
+            }
+        }
+    }
+    let output = child.wait_with_output()?;
+    match output.status.code() {
+        Some(_) => Ok(output.stdout),
+        None => Err(std::io::Error::other(output.status.to_string())),
+    }
+}
+
+fn check(program: &PathBuf, input: &[u8]) -> Verdict {
+    check_in_pieces(program, input, usize::MAX)
+}
+
+fn check_in_pieces(program: &PathBuf, input: &[u8], piece: usize) -> Verdict {
+    let must = second::recount(input);
+    let is = printed(program, input, piece).map_err(|error| format!("recount {}\n{error}", Hex(input)))?;
+    if is == must.as_bytes() {
+        return Ok(());
+    }
+    let is = String::from_utf8_lossy(&is);
+    Err(format!("recount {}\nprints {is:?}\nmust print {must:?}", Hex(input)))
+}
+
+fn input(servers: u8, sheet: &[u8], returns: u16, joined: &[u8]) -> Vec<u8> {
+    let length = (sheet.len() as u16).to_le_bytes();
+    [&length[..], sheet, &[servers], &returns.to_le_bytes()[..], joined].concat()
+}
+
+/// The example of document 01, cut everywhere and with more behind it.
+pub fn example(program: &PathBuf) -> Verdict {
+    let whole = input(2, &[17, 18, 3], 10, &example_totals());
+    let text = "accepted 3\n1 0 2\n2 0 0\n2 1 2\n2 2 1\n";
+    if second::recount(&whole) != text {
+        return Err("the second program prints another text for the example".to_string());
+    }
+    for length in 0..=whole.len() {
+        check(program, &whole[..length])?;
+    }
+    check(program, &[&whole[..], &[0]].concat())?;
+    check(program, &[&whole[..], &vec![36; 200_000]].concat())
+}
+
+/// The example in pieces, whole and cut.
+pub fn pieces(program: &PathBuf) -> Verdict {
+    let whole = input(2, &[17, 18, 3], 10, &example_totals());
+    for piece in [1, 2, 3, 5, 13, 22] {
+        check_in_pieces(program, &whole, piece)?;
+        check_in_pieces(program, &whole[..whole.len() - 1], piece)?;
+    }
+    check_in_pieces(program, &input(2, &vec![17; 65_535], 1, &[]), 5_000)
+}
+
+/// Long sheets, S and N at their limits, and more input than any joined messages.
+pub fn limits(program: &PathBuf) -> Verdict {
+    let mut long = vec![17; 65_535];
+    for last in [17, 18, 19, 20, 99] {
+        long[65_534] = last;
+        let whole = input(2, &long, 1, &[]);
+        for length in whole.len() - 4..=whole.len() {
+            check(program, &whole[..length])?;
+        }
+        check(program, &[&whole[..], &vec![0; 100_000]].concat())?;
+    }
+    for servers in [0, 1, 2, 8, 9, 255] {
+        for returns in [0, 1, 128, 129, 1024, 1025, 65_535] {
+            for sheet in [&[19, 24][..], &[17], &[], &[20], &[18, 1], &[17; 256], &[17; 257]] {
+                check(program, &input(servers, sheet, returns, &[]))?;
+            }
+        }
+    }
+    Ok(())
+}
+
+/// Random and damaged inputs, and those of whole scripts.
+pub fn random(program: &PathBuf, seed: u64) -> Verdict {
+    let mut rng = Rng::new(seed);
+    let mut inputs: Vec<Case> = (0..300).map(|_| Case::random_recount(&mut rng)).collect();
+    let scripts = (0..20).flat_map(|number| Script::random(seed + number).joins);
+    inputs.extend(scripts.map(|Exchange { case, .. }| case));
+    for case in inputs {
+        if let Case::Recount { input } = case {
+            check(program, &input).map_err(|text| format!("seed {seed}\n{text}"))?;
+        }
+    }
+    Ok(())
+}

@@ -1,0 +1,182 @@
+//! Random runs: the second program's scripts of calls at S servers, and its single calls.
+
+use second::gen::Call as Step;
+use second::gen::{Answer, Case, CaseAnswer, Exchange, Rng, Script};
+use second::Verdict::{Accepted, Rejected};
+
+use crate::calls::{plain, Call, Done, Function, Outcome};
+use crate::suite::{Suite, Verdict};
+
+/// Lengths that are enough for everything, in place of a room without end.
+const MESSAGE_ROOM: usize = 1_100;
+const CIRCUIT_ROOM: usize = 7_100;
+const MAKE_ROOM: usize = 25_000;
+
+/// A script's call on a table.
+fn step_call(step: &Step, table: &[u8]) -> Call {
+    let (function, message, r, s, room): (_, &[u8], _, _, _) = match step {
+        Step::Share { message, r, s, room } => (Function::Share, message, *r, *s, *room),
+        Step::RoundOne { joined, room } => (Function::RoundOne, joined, 0, 0, *room),
+        Step::RoundTwo { joined } => (Function::RoundTwo, joined, 0, 0, 0),
+        Step::Drop => (Function::Drop, &[], 0, 0, 0),
+        Step::Close { room } => (Function::Close, &[], 0, 0, *room),
+    };
+    let (table, message, room) = (table.to_vec(), message.to_vec(), room.min(MESSAGE_ROOM));
+    Call { table, message, r, s, room, ..Call::of(function) }
+}
+
+/// Whether an outcome is the script's answer, but for the table, of which the script does not tell.
+fn same(outcome: &Outcome, answer: &Answer) -> bool {
+    match (outcome, answer) {
+        (Ok(done), Answer::Message(message)) => done.bytes == *message,
+        (Ok(done), Answer::Verdict(Accepted)) => done.numbers == [1],
+        (Ok(done), Answer::Verdict(Rejected)) => done.numbers == [0],
+        (Ok(_), Answer::Dropped) => true,
+        (Err(number), Answer::Refused(expected)) => number == expected,
+        _ => false,
+    }
+}
+
+/// The tables of a script, each at the start of a slice that is sometimes longer.
+fn open_tables(suite: &mut Suite, rng: &mut Rng, script: &Script) -> Result<Vec<Vec<u8>>, String> {
+    let mut tables = Vec::new();
+    for own in 0..script.servers {
+        let extra = rng.pick([0, 0, 1, 40]);
+        let (servers, returns) = (script.servers, script.limit);
+        let room = 10_000;
+        let sheet = script.sheet.clone();
+        let mut call = Call { servers, own, sheet, returns, room, ..Call::of(Function::Open) };
+        let needed = suite.check(&call)?.map_or(0, |done| done.bytes.len());
+        call.room = needed;
+        let mut table = suite.check(&call)?.map_or(Vec::new(), |done| done.bytes);
+        table.extend(rng.bytes(extra));
+        tables.push(table);
+    }
+    Ok(tables)
+}
+
+/// A table with a few bytes changed, mostly in its header, or cut, or longer.
+fn damaged(rng: &mut Rng, table: &[u8]) -> Vec<u8> {
+    let mut damaged = table.to_vec();
+    match rng.below(8) {
+        0 => damaged.truncate(rng.index(table.len())),
+        1 => damaged.truncate(table.len() - 1 - rng.index(4)),
+        2 => damaged.extend(rng.bytes(9)),
+        _ => {
+            for _ in 0..rng.between(1, 3) {
+                let (head, any, byte) = (rng.index(12), rng.index(table.len()), rng.next_u64() as u8);
+                let at = rng.pick([head, any]);
+                damaged[at] = rng.pick([damaged[at] ^ 1, damaged[at] ^ 128, byte]);
+            }
+        }
+    }
+    damaged
+}
+
+/// One script: every answer is that of the second program, and every table that of the layout. Now and then a call is
+/// tried on a damaged copy of the table first.
+pub fn script(suite: &mut Suite, seed: u64) -> Verdict {
+    let mut rng = suite.seed(seed);
+    let script = Script::random(seed);
+    let mut tables = open_tables(suite, &mut rng, &script)?;
+    for step in &script.steps {
+        let table = &mut tables[step.server as usize];
+        let call = step_call(&step.call, table);
+        if rng.chance(15) {
+            suite.agrees(&Call { table: damaged(&mut rng, table), ..call.clone() })?;
+        }
+        let outcome = suite.check(&call)?;
+        if !same(&outcome, &step.answer) {
+            return Err(suite.failure(&call, &format!("as the layout says\nmust be {}", step.answer)));
+        }
+        if let Ok(done) = outcome {
+            *table = done.table;
+        }
+    }
+    for exchange in &script.joins {
+        exchanged(suite, exchange)?;
+    }
+    truth(suite, &script)
+}
+
+/// An orderly script's closing messages join to the sums that its returns add up to.
+fn truth(suite: &mut Suite, script: &Script) -> Verdict {
+    let (Some(truth), Some(first)) = (&script.truth, script.joins.first()) else {
+        return Ok(());
+    };
+    match case_call(&first.case) {
+        Some(call) => suite.gives(&call, plain(vec![truth.count.into()], truth.totals.clone())),
+        None => Ok(()),
+    }
+}
+
+/// A single call of the second program's; `None` for recount.
+fn case_call(case: &Case) -> Option<Call> {
+    Some(match case.clone() {
+        Case::Circuit { sheet, room } => Call { sheet, room: room.min(CIRCUIT_ROOM), ..Call::of(Function::Circuit) },
+        Case::ReadCircuit { entries, bytes } => Call { entries, message: bytes, ..Call::of(Function::ReadCircuit) },
+        Case::Make { sheet, servers, id, values, random, room } => {
+            let room = room.min(MAKE_ROOM);
+            Call { sheet, servers, id, values, random, room, ..Call::of(Function::Make) }
+        }
+        Case::Open { servers, own, sheet, limit } => {
+            Call { servers, own, sheet, returns: limit, room: 8_600, ..Call::of(Function::Open) }
+        }
+        Case::Join { servers, sheet, limit, joined, room } => {
+            let room = room.min(MESSAGE_ROOM);
+            Call { servers, sheet, returns: limit, message: joined, room, ..Call::of(Function::Join) }
+        }
+        Case::Recount { .. } => return None,
+    })
+}
+
+/// Whether an outcome is the answer of a single call.
+fn same_case(outcome: &Outcome, answer: &CaseAnswer) -> bool {
+    let counts = |a: usize, b: usize, c: usize| vec![a as u64, b as u64, c as u64];
+    match (outcome, answer) {
+        (Ok(Done { bytes, .. }), CaseAnswer::Bytes(expected)) => bytes == expected,
+        (Ok(Done { numbers, .. }), CaseAnswer::Counts { wires, multiplications, tests }) => {
+            *numbers == counts(*wires, *multiplications, *tests)
+        }
+        (Ok(_), CaseAnswer::Opened) => true,
+        (Ok(Done { numbers, bytes, .. }), CaseAnswer::Joined(joined)) => {
+            *numbers == [u64::from(joined.count)] && *bytes == joined.totals
+        }
+        (Err(number), CaseAnswer::Refused(expected)) => number == expected,
+        _ => false,
+    }
+}
+
+/// A single call has the answer of the plain form of the second program.
+fn exchanged(suite: &mut Suite, exchange: &Exchange) -> Verdict {
+    let Some(call) = case_call(&exchange.case) else {
+        return Ok(());
+    };
+    let outcome = suite.check(&call)?;
+    if same_case(&outcome, &exchange.answer) {
+        return Ok(());
+    }
+    Err(suite.failure(&call, &format!("as the fast form says\nmust be {:?}", exchange.answer)))
+}
+
+/// Fifty single calls of a seed, and the sheet of each read by itself.
+pub fn cases(suite: &mut Suite, seed: u64) -> Verdict {
+    let mut rng = suite.seed(seed);
+    for _ in 0..50 {
+        let case = match rng.below(9) {
+            0 | 1 => Case::random_circuit(&mut rng),
+            2 | 3 => Case::random_read_circuit(&mut rng),
+            4 => Case::random_make(&mut rng),
+            5 | 6 => Case::random_open(&mut rng),
+            _ => Case::random_join(&mut rng),
+        };
+        let exchange = Exchange::of(case);
+        exchanged(suite, &exchange)?;
+        if let Some(Call { sheet, function, .. }) = case_call(&exchange.case) {
+            if function != Function::ReadCircuit {
+                suite.agrees(&Call { sheet, ..Call::of(Function::ReadSheet) })?;
+            }
+        }
+    }
+    Ok(())
+}

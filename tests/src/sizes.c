@@ -1,0 +1,45 @@
+/* The sizes and numbers that pool.h tells, as functions, and its functions under the types that the tests use. */
+#include "pool.h"
+
+size_t sizes_share(uint32_t entries, uint32_t multiplications) { return POOL_SHARE_BYTES(entries, multiplications); }
+
+size_t sizes_random(uint32_t servers, uint32_t entries, uint32_t multiplications)
+{
+    return POOL_RANDOM_BYTES(servers, entries, multiplications);
+}
+
+size_t sizes_totals(uint32_t published) { return POOL_TOTALS_BYTES(published); }
+
+size_t sizes_table(size_t sheet_len, uint32_t entries, uint32_t multiplications, uint32_t published, uint32_t returns)
+{
+    return POOL_TABLE_BYTES(sheet_len, entries, multiplications, published, returns);
+}
+
+/* The numbered constants, in the order in which the header tells them. */
+size_t sizes_constant(uint32_t number)
+{
+    static const size_t constants[] = {
+        POOL_DONE, POOL_KIND, POOL_LIMIT, POOL_WIRE, POOL_WRAP, POOL_VALUE, POOL_RANDOM, POOL_SHARE,
+        POOL_ELEMENT, POOL_PAIR, POOL_DECIDED, POOL_STAGE, POOL_JOINED, POOL_FULL, POOL_ROOM,
+        POOL_PRIME, POOL_MIN_SERVERS, POOL_MAX_SERVERS, POOL_MAX_RETURNS, POOL_MAX_ENTRIES,
+        POOL_YES_NO, POOL_CHOICE, POOL_NUMBER, POOL_ROUND_BYTES,
+        POOL_MAX_SHEET_BYTES, POOL_MAX_CIRCUIT_BYTES, POOL_MAX_SHARE_BYTES, POOL_MAX_TOTALS_BYTES,
+        POOL_MAX_TABLE_BYTES,
+    };
+    return number < sizeof constants / sizeof constants[0] ? constants[number] : (size_t)-1;
+}
+
+/* A function whose type in the header differs from the one that the tests call it by does not compile here. */
+typedef const uint8_t *in;
+typedef uint8_t *out;
+uint32_t (*const sizes_read_sheet)(in, size_t, uint32_t *, uint32_t *, uint32_t *, uint32_t *) = pool_read_sheet;
+uint32_t (*const sizes_circuit)(in, size_t, out, size_t, size_t *) = pool_circuit;
+uint32_t (*const sizes_read_circuit)(uint32_t, in, size_t, uint32_t *, uint32_t *, uint32_t *) = pool_read_circuit;
+uint32_t (*const sizes_make)(in, size_t, uint32_t, uint32_t, in, size_t, in, size_t, out, size_t, size_t *) = pool_make;
+uint32_t (*const sizes_open)(uint32_t, uint32_t, in, size_t, uint32_t, out, size_t, size_t *) = pool_open;
+uint32_t (*const sizes_take)(out, size_t, in, size_t, uint64_t, uint64_t, out, size_t, size_t *) = pool_share;
+uint32_t (*const sizes_round_one)(out, size_t, in, size_t, out, size_t, size_t *) = pool_round_one;
+uint32_t (*const sizes_round_two)(out, size_t, in, size_t, uint32_t *) = pool_round_two;
+uint32_t (*const sizes_drop)(out, size_t) = pool_drop;
+uint32_t (*const sizes_close)(out, size_t, out, size_t, size_t *) = pool_close;
+uint32_t (*const sizes_join)(uint32_t, in, size_t, uint32_t, in, size_t, out, size_t, uint32_t *, size_t *) = pool_join;

@@ -1,0 +1,65 @@
+//! The header's constants and sizes against document 01 and the lengths that the library writes.
+
+use second::gen;
+use second::Sheet;
+
+use crate::c;
+use crate::calls::{Call, Function};
+use crate::fixture::Fixture;
+use crate::suite::{Suite, Verdict};
+
+/// After the refusals 0 to 14: p, S from and to, the most returns and entries, the column kinds, a round message's
+/// length, and the largest sizes.
+const CONSTANTS: [usize; 14] = [2_147_483_647, 2, 8, 1024, 256, 17, 18, 19, 14, 256, 7008, 3102, 1030, 8512];
+
+pub fn constants(_: &mut Suite) -> Verdict {
+    for (number, must) in (0..15).chain(CONSTANTS).enumerate() {
+        let is = unsafe { c::sizes_constant(number as u32) };
+        if is != must {
+            return Err(format!("constant {number} of pool.h is {is}\nmust be {must}"));
+        }
+    }
+    let largest = largest_circuit();
+    if largest != 7008 {
+        return Err(format!("the largest circuit of a sheet has {largest} bytes"));
+    }
+    Ok(())
+}
+
+/// The length of the longest circuit of a sheet: a best choice of columns for every number of entries.
+fn largest_circuit() -> usize {
+    let length = |sheet: &[u8]| second::circuit(sheet, usize::MAX).map_or(0, |bytes| bytes.len() - 5);
+    let mut columns = vec![(1, length(&[17]))];
+    columns.extend((2..=64).map(|options| (usize::from(options), length(&[18, options]))));
+    columns.extend((1..=24).map(|bits| (usize::from(bits) + 1, length(&[19, bits]))));
+    let mut most = vec![0; 257];
+    for entries in 1..=256 {
+        let ends = columns.iter().filter(|(width, _)| *width <= entries);
+        most[entries] = ends.map(|(width, length)| most[entries - width] + length).max().unwrap_or(0);
+    }
+    5 + most.into_iter().max().unwrap_or(0)
+}
+
+/// The sizes that the header's macros give are the lengths that are read and written.
+pub fn lengths(suite: &mut Suite) -> Verdict {
+    let mut rng = suite.seed(8);
+    for _ in 0..40 {
+        let entries = rng.pick([1, 5, 40, 256]);
+        let bytes = gen::sheet(&mut rng, entries);
+        let sheet = Sheet::read(&bytes).map_err(|number| format!("refused {number}"))?;
+        let (l, m, p) = (sheet.entries() as u32, sheet.multiplications() as u32, sheet.published() as u32);
+        let returns = rng.between(2, u64::from(gen::largest_limit(&sheet)).min(9)) as u32;
+        let servers = rng.between(2, 8) as u32;
+        let fixture = Fixture::new(suite, servers, 0, &bytes, returns)?;
+        let (share, random) = unsafe { (c::sizes_share(l, m), c::sizes_random(servers, l, m)) };
+        let (totals, table) = unsafe { (c::sizes_totals(p), c::sizes_table(bytes.len(), l, m, p, returns)) };
+        let is = (share, totals, table);
+        if is != (fixture.share.len(), fixture.closing, fixture.idle.len()) {
+            return Err(format!("the sizes of a share, totals and a table are {is:?} for the sheet {bytes:?}"));
+        }
+        let (values, random) = (gen::values(&mut rng, &sheet), vec![0; random]);
+        let room = servers as usize * share;
+        suite.number(&Call { sheet: bytes, servers, values, random, room, ..Call::of(Function::Make) }, 0)?;
+    }
+    Ok(())
+}

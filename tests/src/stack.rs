@@ -1,0 +1,88 @@
+//! The stack that a call uses: the memory below is marked before the call and looked over after it.
+
+use second::gen;
+
+use crate::calls::{Call, Function};
+use crate::fixture::Fixture;
+use crate::suite::{Suite, Verdict};
+
+const MARK: u8 = 0x5B;
+/// So much below is marked, from a little below the function that marks it.
+const DEPTH: usize = 256 * 1024;
+const NEAR: usize = 2 * 1024;
+/// What the header allows.
+const ALLOWED: usize = 64 * 1024;
+
+/// Marks the memory below; gives the place from which it counts.
+#[inline(never)]
+fn mark() -> usize {
+    let here = 0u8;
+    let top = std::hint::black_box(&raw const here) as usize;
+    for at in top - DEPTH..top - NEAR {
+        unsafe { (at as *mut u8).write_volatile(MARK) };
+    }
+    top
+}
+
+/// How far below a place the memory is no longer marked.
+#[inline(never)]
+fn depth(top: usize) -> usize {
+    let marked = |at: &usize| unsafe { (*at as *const u8).read_volatile() == MARK };
+    DEPTH - (top - DEPTH..top - NEAR).take_while(marked).count()
+}
+
+/// The stack that a call uses together with what carries it out.
+fn used(suite: &mut Suite, call: &Call) -> Result<usize, String> {
+    let expected = crate::reference::answer(call);
+    let top = mark();
+    suite.gives(call, expected)?;
+    Ok(depth(top))
+}
+
+/// The largest sheets: every function at its most.
+fn measure(suite: &mut Suite) -> Result<usize, String> {
+    let mut rng = suite.seed(64);
+    let own = used(suite, &Call::of(Function::Drop))?;
+    let mut most = own;
+    let mut number = [19, 24].repeat(10);
+    number.extend([19, 5]);
+    for sheet in [vec![17; 256], [18, 64].repeat(4), number] {
+        let fixture = Fixture::new(suite, 8, 7, &sheet, 2)?;
+        let read = second::Sheet::read(&sheet).map_err(|number| format!("refused {number}"))?;
+        let mut calls = fixture.calls();
+        calls.push(Call { sheet: sheet.clone(), ..Call::of(Function::ReadSheet) });
+        calls.push(Call { sheet: sheet.clone(), room: 7_008, ..Call::of(Function::Circuit) });
+        let message = second::circuit(&sheet, 7_008).unwrap_or_default();
+        calls.push(Call { entries: 256, message, ..Call::of(Function::ReadCircuit) });
+        let values = gen::values(&mut rng, &read);
+        let random = gen::elements(&mut rng, 7 * read.share_elements() + 4);
+        calls.push(Call { sheet: sheet.clone(), servers: 8, values, random, room: 25_000, ..Call::of(Function::Make) });
+        calls.push(Call { sheet: sheet.clone(), servers: 8, returns: 2, room: 8_512, ..Call::of(Function::Open) });
+        let length = read.closing_length();
+        let message = (0..8).flat_map(|k| [&[36, k][..], &vec![0; length - 2]].concat()).collect();
+        calls.push(Call { sheet, servers: 8, returns: 2, message, room: 1_024, ..Call::of(Function::Join) });
+        for call in &calls {
+            most = most.max(used(suite, call)?);
+        }
+    }
+    Ok(most - own)
+}
+
+/// No function uses more stack than the header says.
+pub fn enough(suite: &mut Suite) -> Verdict {
+    let mut inner = Suite::new();
+    let run = || {
+        let most = measure(&mut inner);
+        (inner, most)
+    };
+    let started = std::thread::Builder::new().stack_size(2 * 1024 * 1024).spawn(run);
+    let ended = started.map_err(|error| error.to_string())?.join();
+    let (inner, most) = ended.map_err(|_| "the thread panicked".to_string())?;
+    suite.add(inner);
+    let most = most?;
+    println!("the most stack that a call used: {most} bytes");
+    if most > ALLOWED {
+        return Err(format!("{most} bytes of stack used\nmust be at most {ALLOWED}"));
+    }
+    Ok(())
+}

@@ -1,0 +1,106 @@
+//! Carrying out calls, comparing, counting, and telling what failed.
+
+use std::collections::BTreeMap;
+use std::ptr::null_mut;
+use std::sync::atomic::{AtomicPtr, AtomicU64, Ordering};
+
+use second::gen::Rng;
+
+use crate::calls::{Call, Function, Outcome};
+use crate::reference;
+use crate::tell::told;
+
+/// The call that the library is carrying out, for a report when it never comes back.
+static CURRENT: AtomicPtr<Call> = AtomicPtr::new(null_mut());
+static SEED: AtomicU64 = AtomicU64::new(0);
+
+/// A test's answer; the error tells what failed.
+pub type Verdict = Result<(), String>;
+
+pub struct Suite {
+    /// The stream of the guards.
+    rng: Rng,
+    seed: u64,
+    pub calls: u64,
+    /// How often each function gave each answer.
+    pub seen: BTreeMap<(Function, u32), u64>,
+}
+
+impl Suite {
+    pub fn new() -> Suite {
+        Suite { rng: Rng::new(0), seed: 0, calls: 0, seen: BTreeMap::new() }
+    }
+
+    /// Starts over from a seed; gives the stream for the test's own choices.
+    pub fn seed(&mut self, seed: u64) -> Rng {
+        self.seed = seed;
+        self.rng = Rng::new(seed ^ 0x6A4D_0000_0000_0000);
+        SEED.store(seed, Ordering::Relaxed);
+        Rng::new(seed)
+    }
+
+    /// Carries out a call whose answer must be that of the reference; gives it.
+    pub fn check(&mut self, call: &Call) -> Result<Outcome, String> {
+        let expected = reference::answer(call);
+        self.expect(call, expected)
+    }
+
+    /// Carries out a call whose answer must be this; gives it.
+    pub fn expect(&mut self, call: &Call, expected: Outcome) -> Result<Outcome, String> {
+        CURRENT.store((call as *const Call).cast_mut(), Ordering::Relaxed);
+        let actual = call.run(&mut self.rng);
+        CURRENT.store(null_mut(), Ordering::Relaxed);
+        self.calls += 1;
+        match actual {
+            Ok(actual) if actual == expected => {
+                let number = expected.as_ref().err().copied().unwrap_or(0);
+                *self.seen.entry((call.function, number)).or_insert(0) += 1;
+                Ok(actual)
+            }
+            Ok(actual) => Err(self.failure(call, &format!("{}\nmust be {}", told(&actual), told(&expected)))),
+            Err(changed) => Err(self.failure(call, &changed)),
+        }
+    }
+
+    /// A call has the answer of the reference.
+    pub fn agrees(&mut self, call: &Call) -> Verdict {
+        self.check(call).map(|_| ())
+    }
+
+    /// A call has this answer.
+    pub fn gives(&mut self, call: &Call, expected: Outcome) -> Verdict {
+        self.expect(call, expected).map(|_| ())
+    }
+
+    /// Carries out a call that must be refused with this number, or done for 0, by the reference too.
+    pub fn number(&mut self, call: &Call, number: u32) -> Verdict {
+        let expected = reference::answer(call);
+        if expected.as_ref().err().copied().unwrap_or(0) != number {
+            let text = format!("the second program says {}\nmust be {number}", told(&expected));
+            return Err(self.failure(call, &text));
+        }
+        self.gives(call, expected)
+    }
+
+    /// A failure with its seed and its call.
+    pub fn failure(&self, call: &Call, text: &str) -> String {
+        format!("seed {}\n{call}\nis {text}", self.seed)
+    }
+
+    /// Adds the counts of another suite.
+    pub fn add(&mut self, other: Suite) {
+        self.calls += other.calls;
+        for (key, count) in other.seen {
+            *self.seen.entry(key).or_insert(0) += count;
+        }
+    }
+}
+
+/// The seed and the call that is being carried out.
+pub fn current() -> String {
+    let seed = SEED.load(Ordering::Relaxed);
+    match unsafe { CURRENT.load(Ordering::Relaxed).as_ref() } {
+        Some(call) => format!("seed {seed}\n{call}"),
+        None => format!("seed {seed}, outside the library"),
+    }
+}

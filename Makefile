@@ -1,8 +1,9 @@
 # The commands of the README, and what is handy beside them.
 .PHONY: help demo run test fuzz format
 
-# The core as a C library. It is proved and made where it is missing.
+# The core as a C library, and the sources that it is made from.
 ARCHIVE := target/staticlib/libpool.a
+SOURCES := crates.txt $(shell find crates -name '*.rt' -o -name '*.antt')
 
 help:
 	@echo 'make demo    run a whole pool on this machine, from C'
@@ -18,10 +19,11 @@ target/hosts/demo: hosts/c/demo.c hosts/c/host.h include/pool.h $(ARCHIVE)
 	@mkdir -p target/hosts
 	@$(CC) -std=c11 -O2 -Wall -Wextra -Iinclude hosts/c/demo.c $(ARCHIVE) -o $@
 
-$(ARCHIVE):
-	@mkdir -p target
-	@echo 'proving the core and making the C library'
-	@rt staticlib pool >target/staticlib.log 2>&1 || { cat target/staticlib.log; exit 1; }
+target/staticlib/lib%.a: $(SOURCES)
+	@mkdir -p target/staticlib
+	@echo 'proving $* and making the C library'
+	@rt staticlib $* >target/staticlib/$*.log 2>&1 || { cat target/staticlib/$*.log; exit 1; }
+	@touch $@
 
 run:
 	@rt check worked

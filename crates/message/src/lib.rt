@@ -118,7 +118,7 @@ pub fn round_refusal(joined: &[u8], servers: u32, kind: u8, id: u32, own: u32, m
 }
 
 // The sum of n words, of which word i stands at step * i + at.
-fn sum_words(s: &[u8], step: usize, at: usize, n: usize) -> u32
+pub fn sum_words(s: &[u8], step: usize, at: usize, n: usize) -> u32
     requires { ⌜ Words (now s) step at n ⌝ }
     ensures { λ r. ⌜ r ≡ sumOf (now (s .entry)) step at n ⌝ }
 {

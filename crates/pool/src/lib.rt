@@ -4,7 +4,7 @@
 ghost use mathlib.Core.Path.{_≡_};
 ghost use Rattle.pool.specs.Outcomes.{numberOf, lengthOf};
 ghost use Rattle.pool.specs.Calls.{ReadsSheet, WritesCircuit, ReadsCircuit};
-ghost use Rattle.pool.specs.Tables.{Opens, TakesShare, TakesOne, Decides, Drops, Closes, Joins};
+ghost use Rattle.pool.specs.Tables.{Makes, Opens, TakesShare, TakesOne, Decides, Drops, Closes, Joins};
 use records::Written;
 use rounds::Verdict;
 use sheet::Reading;
@@ -78,6 +78,24 @@ pub extern "C" fn pool_read_circuit(
             0
         }
     }
+}
+
+// ---- Returns
+
+#[no_mangle]
+pub extern "C" fn pool_make(
+    sheet: &[u8],
+    servers: u32,
+    id: u32,
+    values: &[u8],
+    random: &[u8],
+    out: &mut [u8],
+    written: &mut usize,
+) -> u32
+    ensures { λ a. ⌜ Makes (now (sheet .entry)) servers id (now (values .entry)) (now (random .entry))
+        (now (out .entry)) (now (written .entry)) a (now (out .exit)) (now (written .exit)) ⌝ }
+{
+    told(client::make(sheet, servers, id, values, random, out), written)
 }
 
 // ---- A server's table

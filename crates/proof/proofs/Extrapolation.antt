@@ -82,7 +82,7 @@ fall-next n i h =
     let t : suc i + n ≡ suc n + i = omega arith in
     let u : suc n + suc i ≡ suc (suc i + n) = omega arith in
     let at : (k : ℕ) → k < prime → values .φ (ascending (𝓕 .ops) 0 (suc n) (𝓕 .ops .ι k)) ≡ ascending residues 0 (suc n) k =
-        λ k l. ascending-hom values 0 (suc n) (𝓕 .ops .ι k) ∙ ap (ascending residues 0 (suc n)) (back l)
+    λ k l. ascending-hom values 0 (suc n) (𝓕 .ops .ι k) ∙ ap (ascending residues 0 (suc n)) (back l)
     in
     ap (ascending residues 0 (suc n)) u
     ∙ sym (at (suc (suc i + n)) (omega arith))

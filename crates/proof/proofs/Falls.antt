@@ -51,7 +51,7 @@ module _ (n : ℕ) where
       let v = fill-turn (fallAt n) acc (filling w) h (w .is) in
       let q : n + 2 + i ≡ suc (suc n + i) = omega arith in
       let inverse : getD invs i 0 ≡ residues .inv (suc i) =
-          ap (λ (l : List ℕ). getD l i 0) e ∙ getD-tabulate (λ i. residues .inv (suc i)) (length invs) i 0 k
+      ap (λ (l : List ℕ). getD l i 0) e ∙ getD-tabulate (λ i. residues .inv (suc i)) (length invs) i 0 k
       in
       record {
         within = v .within;

@@ -122,7 +122,11 @@ fn value(y: &[u32], scaled: &[u32], falls: &[u32], back: &[u32], j: usize) -> u3
         × (j < suc (length (now falls) + length (now falls))) ⌝ }
     ensures { λ r. ⌜ r ≡ valueAt (length (now (falls .entry))) (now (y .entry)) j ⌝ }
 {
-    if j < y.len() { y[j] } else { beyond(scaled, falls, back, j - y.len()) }
+    if j < y.len() {
+        y[j]
+    } else {
+        beyond(scaled, falls, back, j - y.len())
+    }
 }
 
 // The values of f at 0, .., M: u, then the left inputs.
@@ -163,10 +167,7 @@ fn fill_products(
 {
     let mut j = 0;
     while j < out.len() {
-        out[j] = field::mul(
-            value(f, fs, falls, back, j),
-            value(g, gs, falls, back, j),
-        );
+        out[j] = field::mul(value(f, fs, falls, back, j), value(g, gs, falls, back, j));
         j += 1;
     }
 }
@@ -239,6 +240,19 @@ pub fn fill_h(sheet: &[u8], x: &[u32], u: u32, v: u32, out: &mut [u32])
     let n = out.len() / 2;
     let points = n + 1;
     let twice = n + n;
-    fill_tables(&mut factorials[..points], &mut falls[..n], &mut back[..twice]);
-    fill_with(sheet, x, u, v, &factorials[..points], &falls[..n], &back[..twice], out);
+    fill_tables(
+        &mut factorials[..points],
+        &mut falls[..n],
+        &mut back[..twice],
+    );
+    fill_with(
+        sheet,
+        x,
+        u,
+        v,
+        &factorials[..points],
+        &falls[..n],
+        &back[..twice],
+        out,
+    );
 }

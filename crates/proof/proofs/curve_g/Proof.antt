@@ -18,8 +18,7 @@ scale-requires : tie.Need-scale-requires
 scale-requires c κs =
     let s = c .before .before .before .before .before .before .before .before .before .before .before in
     let w = c .before .before .before .before .fill-g in
-    let some : 0 < length (s .args .gs .now) = omega (arith, s .pre .1 .1, s .pre .0 .2) in
-    (
+    let some : 0 < length (s .args .gs .now) = omega (arith, s .pre .1 .1, s .pre .0 .2) in (
       (
         subst (λ (k : ℕ). Tables 0 k (s .args .factorials .now)) (sym (s .pre .1 .1)) (s .pre .1 .0),
         subst Elements (sym (w .ensures)) (g-elements (s .args .x .now) _ (s .pre .0 .1)),

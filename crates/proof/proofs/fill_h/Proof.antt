@@ -113,8 +113,7 @@ fill-with-requires c κs =
     let a = t .kept .0 ∙ length-take-le _ _ (r .some-more) in
     let l = t .kept .1 .0 ∙ length-take-le _ _ (r .few) in
     let b = t .kept .1 .1 .0 ∙ length-take-le _ _ (r .twice) in
-    rw (take-at (t .last .0) _ _ a, take-at (t .last .1 .0) _ _ l, take-at (t .last .1 .1 .0) _ _ b)
-    (
+    rw (take-at (t .last .0) _ _ a, take-at (t .last .1 .0) _ _ l, take-at (t .last .1 .1 .0) _ _ b) (
       (s .pre .0 .0, s .pre .0 .1, s .pre .0 .2, l ∙ r .half),
       (
         subst (λ (k : ℕ). Tables 0 (suc k) (t .last .0)) (sym (t .kept .1 .0)) (t .ensures .0),

@@ -43,8 +43,7 @@ curve-f-requires c κs =
     let s = c .before .before .before .before .before .before .before .before in
     let few : length (s .args .falls .now) + 1 ≤ 257 = omega (arith, s .pre .1 .1 .few) in
     let one : length (s .args .falls .now) + 1 ≡ suc (gatesIn (columnsOf (s .args .sheet .now))) = omega (arith, s .pre .0 .3) in
-    let n = length-take-le _ _ few in
-    (
+    let n = length-take-le _ _ few in (
       (s .pre .0 .0, s .pre .0 .1, n ∙ one),
       (subst (λ (k : ℕ). Tables 0 k (s .args .factorials .now)) (sym (n ∙ add-one _)) (s .pre .1 .0), n ∙ sym n),
     )
@@ -74,8 +73,7 @@ curve-g-requires c κs =
     let s = c .before .before .before .before .before .before .before .before .before .before .before .before .before in
     let few : length (s .args .falls .now) + 1 ≤ 257 = omega (arith, s .pre .1 .1 .few) in
     let one : length (s .args .falls .now) + 1 ≡ suc (gatesIn (columnsOf (s .args .sheet .now))) = omega (arith, s .pre .0 .3) in
-    let n = length-take-le _ _ few in
-    (
+    let n = length-take-le _ _ few in (
       (s .pre .0 .0, s .pre .0 .2, n ∙ one),
       (subst (λ (k : ℕ). Tables 0 k (s .args .factorials .now)) (sym (n ∙ add-one _)) (s .pre .1 .0), n ∙ sym n),
     )
@@ -155,8 +153,7 @@ fill-products-requires c κs =
     let n = length-take-le _ _ few in
     let f = c .before .before .before .before .before .before .before .before .before .before .before .before .curve-f in
     let g = c .before .before .before .before .before .before .before .curve-g in
-    rw (take-at (f .last .1 .1 .1 .1 .0) _ _ (f .kept .1 .1 .1 .1 .0 ∙ n), take-at (f .last .1 .1 .1 .1 .1 .0) _ _ (f .kept .1 .1 .1 .1 .1 .0 ∙ n), take-at (g .last .1 .1 .1 .1 .0) _ _ (g .kept .1 .1 .1 .1 .0 ∙ n), take-at (g .last .1 .1 .1 .1 .1 .0) _ _ (g .kept .1 .1 .1 .1 .1 .0 ∙ n))
-    (
+    rw (take-at (f .last .1 .1 .1 .1 .0) _ _ (f .kept .1 .1 .1 .1 .0 ∙ n), take-at (f .last .1 .1 .1 .1 .1 .0) _ _ (f .kept .1 .1 .1 .1 .1 .0 ∙ n), take-at (g .last .1 .1 .1 .1 .0) _ _ (g .kept .1 .1 .1 .1 .0 ∙ n), take-at (g .last .1 .1 .1 .1 .1 .0) _ _ (g .kept .1 .1 .1 .1 .1 .0 ∙ n)) (
       (
         subst (λ (k : ℕ). Curve k (f .last .1 .1 .1 .1 .0) (f .last .1 .1 .1 .1 .1 .0)) (sym (s .pre .0 .3)) (f .ensures .1),
         subst (λ (k : ℕ). Curve k (g .last .1 .1 .1 .1 .0) (g .last .1 .1 .1 .1 .1 .0)) (sym (s .pre .0 .3)) (g .ensures .1),

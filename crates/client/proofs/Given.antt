@@ -1,0 +1,91 @@
+-- What writing a return is given: room for each message, a whole list of elements, and what each piece asks for.
+-- Assumes nothing.
+use mathlib.Core.Path.{_≡_, sym, _∙_, subst}
+use mathlib.Core.List.{List}
+use Prim.Native.Nat.{ℕ, zero, suc, _+_, _-_, _*_, _≤_, _<_}
+use native.Mathlib.Nat.{mod-lt}
+use native.Mathlib.Omega.{arith}
+use lib.Dec.{lit<}
+use lib.ListN.{length, getD}
+use Rattle.algebra.specs.Lists.{All, all[], all∷}
+use Rattle.algebra.proofs.Members.{all-append, all-tabulate}
+use Rattle.words.specs.Bytes.{elementsOf}
+use Rattle.algebra.proofs.Members.{getD-all}
+use Rattle.field.specs.Residues.{prime, residues, Elements}
+use Rattle.field.proofs.Below.{member-below}
+use Rattle.rules.specs.Settings.{document01}
+use Rattle.rules.specs.Columns.{Column, columnsOf}
+use Rattle.rules.specs.Judging.{shareSize}
+use Rattle.rules.specs.Making.{whole}
+use Rattle.rules.proofs.Whole.{length-whole}
+use Rattle.sheet.specs.declared.Counts.{Counts}
+use Rattle.walk.specs.Walks.{members}
+use Rattle.client.specs.Pieces.{Random, messageBytes, Legal, entriesFrom, wholeOf, Fillable, Makeable}
+use Rattle.client.proofs.Room.{room}
+use Rattle.client.proofs.Legality.{entries-given}
+
+-- the whole list of elements is a list of elements
+elements-of : (cs : List Column) (xs : List ℕ) (u v a b : ℕ) → Elements xs → u < prime → v < prime → a < prime → b < prime
+    → Elements (whole residues document01 cs (members xs) u v a b)
+unfolding whole
+elements-of cs xs u v a b e hu hv ha hb =
+    all-append (all-tabulate (members xs) _ (λ i l. member-below xs i e))
+    (all-append (all∷ hu (all∷ hv all[]))
+    (all-append (all-tabulate _ _ (λ i l. mod-lt _ (lit< tt))) (all∷ ha (all∷ hb (all∷ (mod-lt _ (lit< tt)) all[])))))
+
+-- one message and the others
+spread : (n b : ℕ) → 1 ≤ n → b + b * (n - 1) ≡ n * b
+spread zero b h = absurd (omega arith)
+spread (suc n) b h = let e : suc n - 1 ≡ n = omega arith in rw e (omega arith)
+
+module _ {sheet : List ℕ} {k : Counts} {servers : ℕ} {values random out : List ℕ}
+    (m : Makeable sheet k servers values random out) where
+  abbrev cs : List Column
+  cs = columnsOf sheet
+
+  abbrev zs : List ℕ
+  zs = elementsOf 4 random
+
+  abbrev made : List ℕ
+  made = wholeOf cs (elementsOf 4 values) zs
+
+  pub sized : (n : ℕ) → n ≡ k .entries + (k .gates + k .gates) + 6 → n ≡ shareSize (columnsOf sheet)
+  sized n e = e ∙ room (m .counted) .size-is
+
+  pub fillable : (w : List ℕ) → length w ≡ shareSize (columnsOf sheet) → Fillable sheet k values random w
+  fillable w e = record {
+    counted = m .counted;
+    legal = m .legal;
+    four = omega (arith, m .elements .long);
+    elements = m .elements .elements;
+    long = e;
+  }
+
+  pub length-made : length made ≡ shareSize (columnsOf sheet)
+  length-made = length-whole residues document01 cs _ _ _ _ _
+
+  elements-made : Elements made
+  elements-made =
+      let below : (i : ℕ) → members zs i < prime = λ i. member-below zs i (m .elements .elements) in
+      elements-of cs (entriesFrom sheet values) _ _ _ _
+      (entries-given (record { is-read = m .counted .is-read; legal = m .legal }) .elements) (below 0) (below 1) (below 2) (below 3)
+
+  messages-fit : messageBytes (shareSize (columnsOf sheet)) + messageBytes (shareSize (columnsOf sheet)) * (servers - 1) ≤ length out
+  messages-fit = omega (arith, spread servers (messageBytes (shareSize cs)) (omega (arith, m .some)), m .room)
+
+  pub one-fits : messageBytes (shareSize (columnsOf sheet)) ≤ length out
+  one-fits = omega (arith, messages-fit)
+
+  -- server 0's message
+  pub first-asks : Random random (servers - 1) (length made) × Elements made × (6 + 4 * length made ≤ length out)
+  first-asks =
+      (rw length-made (m .elements), elements-made, rw length-made one-fits)
+
+  -- the others
+  pub others-ask : (n : ℕ) (t : List ℕ) → n ≡ shareSize (columnsOf sheet) → length t ≡ length out
+      → Random random (servers - 1) n × (messageBytes n + messageBytes n * (servers - 1) ≤ length t)
+  others-ask n t e l = rw (e, l) (m .elements, messages-fit)
+
+-- bytes, place by place
+pub all-bytes : (s : List ℕ) → ((i : ℕ) → getD s i 0 < 256) → All (λ b. b < 256) s
+all-bytes s h = getD-all {P = λ b. b < 256} 0 s (λ i l. h i)

@@ -1,0 +1,61 @@
+-- `client::random_refusal` meets its contract: each test that led to a return is put into the definition, which then
+-- computes. Assumes nothing.
+use mathlib.Core.Path.{sym, _∙_}
+use Prim.Native.Nat.{_-_}
+use native.Mathlib.Nat.{mul-le-mul}
+use native.Mathlib.Omega.{arith}
+use borrow.Author.Tests.{eq-eqb, ne-eqb}
+use Rattle.client.specs.Pieces.{randomFaultAt}
+use borrow.Author.Needs.{needs}
+use Rattle.client.proofs.random_refusal.Statement.{statement}
+use Rattle.client.proofs.random_refusal.Tie as tie
+
+sub-others : tie.Need-sub-others
+sub-others c = search needs
+
+cast-others : tie.Need-cast-others
+cast-others c = search needs
+
+mul-if1 : tie.Need-mul-if1
+mul-if1 c =
+    let a = c .before .args in
+    omega (arith, mul-le-mul {n₁ = a .servers - 1} {m₁ = a .size} {n₂ = 7} {m₂ = 774} (omega arith) (omega arith))
+
+add-if1 : tie.Need-add-if1
+add-if1 c =
+    let a = c .before .args in
+    omega (arith, mul-le-mul {n₁ = a .servers - 1} {m₁ = a .size} {n₂ = 7} {m₂ = 774} (omega arith) (omega arith))
+
+mul-if1-2 : tie.Need-mul-if1-2
+mul-if1-2 c =
+    let a = c .before .args in
+    omega (arith, mul-le-mul {n₁ = a .servers - 1} {m₁ = a .size} {n₂ = 7} {m₂ = 774} (omega arith) (omega arith))
+
+returns : tie.Need-returns
+unfolding randomFaultAt
+returns c = rw (ne-eqb _ _ (c .if1 .taken))
+
+elements-below-requires : tie.Need-elements-below-requires
+elements-below-requires c κs = search needs
+
+returns-2 : tie.Need-returns-2
+unfolding randomFaultAt
+returns-2 c = rw (eq-eqb _ _ (c .before .before .if1 .left), sym (c .before .elements-below .ensures) ∙ c .if2 .taken)
+
+returns-3 : tie.Need-returns-3
+unfolding randomFaultAt
+returns-3 c = rw (eq-eqb _ _ (c .before .before .if1 .left), sym (c .before .elements-below .ensures) ∙ c .if2 .left)
+
+pub random-refusal-spec : {M : Type 1} → statement M
+random-refusal-spec =
+    tie.close
+    (tie.spec
+    sub-others
+    cast-others
+    mul-if1
+    add-if1
+    mul-if1-2
+    returns
+    elements-below-requires
+    returns-2
+    returns-3)

@@ -1,0 +1,110 @@
+-- `client::whole::fill_whole` meets its contract: the pieces are put there one after another (`whole-written`).
+-- Assumes nothing.
+use mathlib.Core.Path.{_≡_, sym, ap, _∙_}
+use Prim.Native.Nat.{ℕ, _+_}
+use native.Mathlib.Omega.{arith}
+use Rattle.words.specs.Bytes.{elementsOf}
+use Rattle.field.proofs.Below.{member-below}
+use Rattle.client.proofs.Room.{room}
+use Rattle.client.proofs.Legality.{legal-values, fits, place-of-h, encodable, length-entries}
+use Rattle.client.proofs.Filling.{whole-written}
+use borrow.Author.Needs.{needs}
+use Rattle.client.proofs.whole.fill_whole.Statement.{statement}
+use Rattle.client.proofs.whole.fill_whole.Tie as tie
+
+element-requires : tie.Need-element-requires
+element-requires c κs = search needs
+
+element-requires-2 : tie.Need-element-requires-2
+element-requires-2 c κs = search needs
+
+element-requires-3 : tie.Need-element-requires-3
+element-requires-3 c κs = search needs
+
+element-requires-4 : tie.Need-element-requires-4
+element-requires-4 c κs = search needs
+
+encode-columns-requires : tie.Need-encode-columns-requires
+encode-columns-requires c κs =
+    let s = c .before .before .before .before .before .before .before .before .before in
+    let m = room (s .pre .counted) in
+    encodable (legal-values (s .pre)) (s .args .w .now) (omega (arith, fits (s .pre), m .entries-are))
+
+put-two-requires : tie.Need-put-two-requires
+put-two-requires c κs =
+    let s = c .before .before .before .before .before .before .before .before .before .before .before .before .before in
+    omega (arith, fits (s .pre), c .before .before .before .encode-columns .kept .1 .1 .0)
+
+encode-h-requires : tie.Need-encode-h-requires
+encode-h-requires c κs =
+    let s = c .before .before .before .before .before .before .before .before .before .before .before .before .before .before .before .before .before in
+    let z = elementsOf 4 (s .args .random .now) in (
+      legal-values (s .pre),
+      place-of-h (s .pre) _ (c .before .before .before .put-two .kept .0 ∙ c .before .before .before .before .before .before .before .encode-columns .kept .1 .1 .0),
+      rw (c .before .before .before .before .before .before .before .before .before .before .before .before .element .ensures) (member-below z 0 (s .pre .elements)),
+      rw (c .before .before .before .before .before .before .before .before .before .before .before .element2 .ensures) (member-below z 1 (s .pre .elements)),
+    )
+
+add-put-product : tie.Need-add-put-product
+add-put-product c =
+    let m = room (c .before .before .before .before .before .before .before .before .before .before .before .before .before .before .before .before .before .before .before .before .before .pre .counted) in
+    omega (arith, m .entries-few, m .gates-few)
+
+add-put-product-2 : tie.Need-add-put-product-2
+add-put-product-2 c =
+    let m = room (c .before .before .before .before .before .before .before .before .before .before .before .before .before .before .before .before .before .before .before .before .before .pre .counted) in
+    omega (arith, m .entries-few, m .gates-few)
+
+add-put-product-3 : tie.Need-add-put-product-3
+add-put-product-3 c =
+    let m = room (c .before .before .before .before .before .before .before .before .before .before .before .before .before .before .before .before .before .before .before .before .before .pre .counted) in
+    omega (arith, m .entries-few, m .gates-few)
+
+put-product-requires : tie.Need-put-product-requires
+put-product-requires c κs =
+    let s = c .before .before .before .before .before .before .before .before .before .before .before .before .before .before .before .before .before .before .before .before .before in
+    let z = elementsOf 4 (s .args .random .now) in
+    let e = c .before .before .before .encode-h .kept .1 .1 .1 .1 .1 .1 .0 ∙ c .before .before .before .before .before .before .before .put-two .kept .0 ∙ c .before .before .before .before .before .before .before .before .before .before .before .encode-columns .kept .1 .1 .0 in (
+      omega (arith, e, fits (s .pre)),
+      rw (c .before .before .before .before .before .before .before .before .before .before .before .before .before .before .element3 .ensures) (member-below z 2 (s .pre .elements)),
+      rw (c .before .before .before .before .before .before .before .before .before .before .before .before .before .element4 .ensures) (member-below z 3 (s .pre .elements)),
+    )
+
+same-length : tie.Need-same-length
+same-length c = search needs
+
+returns : tie.Need-returns
+returns c =
+    let s = c .before .before .before .before .before .before .before .before .before .before .before .before .before .before .before .before .before .before .before .before .before .before .before .before in
+    let a = s .args in
+    let m = room (s .pre .counted) in
+    rw (
+      c .before .before .put-product .ensures,
+      c .before .before .before .before .before .before .encode-h .ensures,
+      c .before .before .before .before .before .before .before .before .before .before .put-two .ensures,
+      c .before .before .before .before .before .before .before .before .before .before .before .before .before .before .encode-columns .ensures,
+      c .before .before .before .before .before .before .before .before .before .before .before .before .before .before .before .before .before .before .before .element .ensures,
+      c .before .before .before .before .before .before .before .before .before .before .before .before .before .before .before .before .before .before .element2 .ensures,
+      c .before .before .before .before .before .before .before .before .before .before .before .before .before .before .before .before .before .element3 .ensures,
+      c .before .before .before .before .before .before .before .before .before .before .before .before .before .before .before .before .element4 .ensures,
+    )
+    (whole-written _ _ (length-entries (legal-values (s .pre))) _ _ _ _ (a .w .now) (a .counts .entries) (a .counts .gates)
+    (s .pre .long) (m .entries-are) (m .gates-are))
+
+pub fill-whole-spec : {M : Type 1} → statement M
+fill-whole-spec =
+    tie.close
+    (tie.spec
+    element-requires
+    element-requires-2
+    element-requires-3
+    element-requires-4
+    encode-columns-requires
+    put-two-requires
+    encode-h-requires
+    add-put-product
+    add-put-product-2
+    add-put-product-3
+    put-product-requires
+    same-length
+    returns)

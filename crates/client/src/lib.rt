@@ -1,0 +1,119 @@
+// Making a return: from values and random elements the share messages of all servers, one after another.
+ghost use mathlib.Core.Path.{_≡_};
+ghost use Prim.Native.Nat.{_+_, _≤_};
+ghost use Rattle.words.specs.Bytes.{splice};
+ghost use Rattle.rules.specs.Settings.{document01};
+ghost use Rattle.rules.specs.Making.{makeRefusal, makeBytes};
+ghost use Rattle.client.specs.Calls.{Makes};
+ghost use Rattle.client.specs.Pieces.{randomFaultAt, Few, Counted, Makeable};
+use records::Written;
+use sheet::Counts;
+use sheet::Reading;
+use sheet::read;
+use sheet::values::values_refusal;
+
+mod shares;
+mod whole;
+
+// The elements of a share.
+fn size_of(counts: Counts) -> usize
+    requires { ⌜ (counts .entries ≤ 256) × (counts .gates ≤ 256) ⌝ }
+    ensures { λ r. ⌜ r ≡ counts .entries + (counts .gates + counts .gates) + 6 ⌝ }
+{
+    counts.entries + (counts.gates + counts.gates) + 6
+}
+
+// The refusal of the random elements for S servers and shares of `size` elements: 6, or 0 for none.
+fn random_refusal(random: &[u8], servers: u32, size: usize) -> u32
+    requires { ⌜ Few servers size ⌝ }
+    ensures { λ r. ⌜ r ≡ randomFaultAt servers size (now (random .entry)) ⌝ }
+{
+    let others = (servers - 1) as usize;
+    if random.len() != 4 * (others * size + 4) {
+        return 6;
+    }
+    if words::elements_below(random, field::P) {
+        return 0;
+    }
+    6
+}
+
+// The refusal of making for a sheet that is read: 2 for S, 5, 6, then 14 where the messages do not fit; 0 for none.
+fn make_refusal(
+    sheet: &[u8],
+    counts: Counts,
+    servers: u32,
+    values: &[u8],
+    random: &[u8],
+    room: usize,
+) -> u32
+    requires { ⌜ Counted (now sheet) counts ⌝ }
+    ensures { λ r. ⌜ r ≡ makeRefusal document01 (now (sheet .entry)) servers (now (values .entry)) (now (random .entry)) room ⌝ }
+{
+    if servers < 2 {
+        return 2;
+    }
+    if 8 < servers {
+        return 2;
+    }
+    let unsound = values_refusal(sheet, counts.columns, values);
+    if unsound != 0 {
+        return unsound;
+    }
+    let size = size_of(counts);
+    let fault = random_refusal(random, servers, size);
+    if fault != 0 {
+        return fault;
+    }
+    if room < (servers as usize) * (6 + 4 * size) {
+        return 14;
+    }
+    0
+}
+
+// The messages of all servers, from the front of `out`.
+fn write_return(
+    sheet: &[u8],
+    counts: Counts,
+    servers: u32,
+    id: u32,
+    values: &[u8],
+    random: &[u8],
+    out: &mut [u8],
+)
+    requires { ⌜ Makeable (now sheet) counts servers (now values) (now random) (now out) ⌝ }
+    ensures { λ _. ⌜ now (out .exit) ≡ splice (now (out .entry)) 0
+        (makeBytes document01 (now (sheet .entry)) servers id (now (values .entry)) (now (random .entry))) ⌝ }
+{
+    let size = size_of(counts);
+    let others = (servers - 1) as usize;
+    let mut w = [0u32; 774];
+    whole::fill_whole(sheet, counts, values, random, &mut w[..size]);
+    shares::write_first(&w[..size], random, others, id, out);
+    shares::write_others(random, others, size, id, out);
+}
+
+// Makes a return of the values: the share messages of S servers with this id, one after another from the front of `out`.
+// `random` holds u_0, v_0, a, b and the shares of servers 1 to S - 1. A refusal leaves `out` as it was.
+pub fn make(
+    sheet: &[u8],
+    servers: u32,
+    id: u32,
+    values: &[u8],
+    random: &[u8],
+    out: &mut [u8],
+) -> Written
+    ensures { λ r. ⌜ Makes (now (sheet .entry)) servers id (now (values .entry)) (now (random .entry)) (now (out .entry)) r (now (out .exit)) ⌝ }
+{
+    match read(sheet) {
+        Reading::Refused(n) => Written::Refused(n),
+        Reading::Counts(counts) => {
+            let refusal = make_refusal(sheet, counts, servers, values, random, out.len());
+            if refusal != 0 {
+                return Written::Refused(refusal);
+            }
+            write_return(sheet, counts, servers, id, values, random, out);
+            Written::Done((servers as usize) * (6 + 4 * size_of(counts)))
+        }
+    }
+}

@@ -1,0 +1,71 @@
+// The whole list that the shares add up to: the entries, u_0, v_0, the values of h, a, b and c.
+ghost use mathlib.Core.Path.{_≡_};
+ghost use mathlib.Core.List.{[], _∷_};
+ghost use Prim.Native.Nat.{_+_, _<_, _≤_};
+ghost use lib.ListN.{length};
+ghost use Rattle.words.specs.Bytes.{splice, elementsOf};
+ghost use Rattle.field.specs.Residues.{prime, residues};
+ghost use Rattle.rules.specs.Columns.{columnsOf};
+ghost use Rattle.walk.specs.Walks.{Entries};
+ghost use Rattle.client.specs.Pieces.{hValues, PlaceOfH, Legal, entriesFrom, wholeOf, Fillable};
+use proof::fill_h;
+use sheet::Counts;
+use sheet::values::encode_columns;
+
+// Two elements from `at`.
+fn put_two(w: &mut [u32], at: usize, u: u32, v: u32)
+    requires { ⌜ at + 2 ≤ length (now w) ⌝ }
+    ensures { λ _. ⌜ now (w .exit) ≡ splice (now (w .entry)) at (u ∷ v ∷ []) ⌝ }
+{
+    w[at] = u;
+    w[at + 1] = v;
+}
+
+// a, b and their product from `at`.
+fn put_product(w: &mut [u32], at: usize, a: u32, b: u32)
+    requires { ⌜ (at + 3 ≤ length (now w)) × (a < prime) × (b < prime) ⌝ }
+    ensures { λ _. ⌜ now (w .exit) ≡ splice (now (w .entry)) at (a ∷ b ∷ residues ._⊗_ a b ∷ []) ⌝ }
+{
+    w[at] = a;
+    w[at + 1] = b;
+    w[at + 2] = field::mul(a, b);
+}
+
+// The values of h of the entries x, behind l entries and two elements.
+fn put_h(sheet: &[u8], x: &[u32], l: usize, m: usize, u: u32, v: u32, w: &mut [u32])
+    requires { ⌜ Entries (now sheet) (now x) × PlaceOfH (now sheet) (now w) l m × (u < prime) × (v < prime) ⌝ }
+    ensures { λ _. ⌜ now (w .exit) ≡ splice (now (w .entry)) (l + 2) (hValues (columnsOf (now (sheet .entry))) (now (x .entry)) u v) ⌝ }
+{
+    let first = l + 2;
+    let last = l + 3 + (m + m);
+    fill_h(sheet, x, u, v, &mut w[first..last]);
+}
+
+// The same of the values, whose entries are encoded in a place of their own.
+fn encode_h(sheet: &[u8], values: &[u8], l: usize, m: usize, u: u32, v: u32, w: &mut [u32])
+    requires { ⌜ Legal (now sheet) (now values) × PlaceOfH (now sheet) (now w) l m × (u < prime) × (v < prime) ⌝ }
+    ensures { λ _. ⌜ now (w .exit) ≡ splice (now (w .entry)) (l + 2)
+        (hValues (columnsOf (now (sheet .entry))) (entriesFrom (now (sheet .entry)) (now (values .entry))) u v) ⌝ }
+{
+    let mut x = [0u32; 256];
+    encode_columns(sheet, values, &mut x[..l]);
+    put_h(sheet, &x[..l], l, m, u, v, w);
+}
+
+// The whole list of the values and the first four random elements.
+pub fn fill_whole(sheet: &[u8], counts: Counts, values: &[u8], random: &[u8], w: &mut [u32])
+    requires { ⌜ Fillable (now sheet) counts (now values) (now random) (now w) ⌝ }
+    ensures { λ _. ⌜ now (w .exit)
+        ≡ wholeOf (columnsOf (now (sheet .entry))) (elementsOf 4 (now (values .entry))) (elementsOf 4 (now (random .entry))) ⌝ }
+{
+    let l = counts.entries;
+    let m = counts.gates;
+    let u = words::element(random, 0);
+    let v = words::element(random, 1);
+    let a = words::element(random, 2);
+    let b = words::element(random, 3);
+    encode_columns(sheet, values, w);
+    put_two(w, l, u, v);
+    encode_h(sheet, values, l, m, u, v, w);
+    put_product(w, l + 3 + (m + m), a, b);
+}

@@ -95,7 +95,10 @@ pub extern "C" fn pool_make(
     ensures { λ a. ⌜ Makes (now (sheet .entry)) servers id (now (values .entry)) (now (random .entry))
         (now (out .entry)) (now (written .entry)) a (now (out .exit)) (now (written .exit)) ⌝ }
 {
-    told(client::make(sheet, servers, id, values, random, out), written)
+    told(
+        client::make(sheet, servers, id, values, random, out),
+        written,
+    )
 }
 
 // ---- A server's table

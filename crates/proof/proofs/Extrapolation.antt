@@ -1,10 +1,10 @@
 -- Interpolation with numbers modulo the prime, at the points and beyond them: the value at a point is the given one, and
 -- at t > n it is an inner product with the inverses of t - j, times the product of t - k. That product at t + 1 is the
 -- one at t times t + 1 over t - n. Each law is one of the field of residues. Assumes nothing.
-use mathlib.Core.Path.{_≡_, refl, sym, _∙_, ap, ap₂}
+use mathlib.Core.Path.{_≡_, sym, _∙_, ap, ap₂}
 use mathlib.Core.Logic.{_≢_}
 use Prim.Native.Nat.{ℕ, zero, suc, _+_, _-_, _≤_, _<_}
-use native.Mathlib.Nat.{zero-add, mod-eq-of-lt}
+use native.Mathlib.Nat.{zero-add}
 use native.Mathlib.Omega.{arith}
 use Rattle.algebra.specs.Ops.{Ops, Field, minus}
 use Rattle.algebra.specs.Sums.{inner, product}

@@ -1,6 +1,6 @@
 -- A loop that fills a buffer with the products of t - k at t = n + 1, n + 2, ..: after i turns acc is the product at
 -- n + 1 + i. The first comes from a table of the shorter products. Assumes nothing.
-use mathlib.Core.Path.{_≡_, refl, sym, ap, ap₂, _∙_}
+use mathlib.Core.Path.{_≡_, sym, ap, ap₂, _∙_}
 use mathlib.Core.List.{List, _++_}
 use Prim.Native.Nat.{ℕ, suc, _+_, _≤_, _<_}
 use native.Mathlib.Nat.{add-zero}

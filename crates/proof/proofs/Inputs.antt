@@ -1,11 +1,10 @@
 -- The inputs of the multiplications of a list as the values of f and g: they are elements, and the walk over the columns
 -- is the run of the circuit, in which the constant p - 1 is itself. Assumes nothing.
 use mathlib.Core.Path.{_≡_, refl, sym, ap, ap₂, _∙_}
-use mathlib.Core.List.{List, [], _∷_, _++_}
+use mathlib.Core.List.{List, [], _∷_}
 use Prim.Native.Nat.{ℕ, zero, suc, _+_, _-_, _<_}
 use native.Mathlib.Nat.{mod-lt}
 use lib.Dec.{lit<}
-use lib.ListN.{length}
 use Rattle.algebra.specs.Lists.{all[], all∷, tabulate}
 use Rattle.algebra.specs.Interpolation.{interpolate}
 use Rattle.algebra.proofs.Members.{all-append}
@@ -14,8 +13,8 @@ use Rattle.field.specs.Residues.{prime, residues, Elements}
 use Rattle.field.proofs.Below.{tabulate-below, member-below}
 use Rattle.rules.specs.Settings.{document01}
 use Rattle.rules.specs.Columns.{Column, entriesOf}
-use Rattle.rules.specs.Circuit.{gatesOf, gatesIn, circuitOf}
-use Rattle.rules.specs.Run.{run, onList}
+use Rattle.rules.specs.Circuit.{gatesOf, gatesIn}
+use Rattle.rules.specs.Run.{onList}
 use Rattle.rules.specs.Walk.{lessOne, columnLefts, columnRights, walkLefts, walkRights}
 use Rattle.rules.specs.Judging.{through}
 use Rattle.rules.specs.Making.{fOf, gOf}
@@ -73,17 +72,20 @@ module _ (xs : List ℕ) where
         ∙ ap (λ (l : List ℕ). interpolate residues (gatesIn cs) (through residues v l) (residues .ι j))
         (sym (walk-is-run document01 (onList residues (members xs)) cs .rights-are ∙ list-rights (members xs) cs))
 
-    -- their products, at n = M
-    pub h-table : (fs gs : List ℕ) (n m u v : ℕ) → n ≡ gatesIn cs → m ≡ suc (n + n) → fs ≡ u ∷ lefts cs → gs ≡ v ∷ rights cs
-        → tabulate (λ j. residues ._⊗_ (valueAt n fs j) (valueAt n gs j)) m
+    -- their products, at n = M: fs and gs are what stands in the buffers ft and gt
+    pub h-from : {out fs gs ft gt : List ℕ} {n m : ℕ} (u v : ℕ)
+        → out ≡ tabulate (λ j. residues ._⊗_ (valueAt n ft j) (valueAt n gt j)) m → n ≡ gatesIn cs → m ≡ suc (n + n)
+        → ft ≡ fs → fs ≡ u ∷ lefts cs → gt ≡ gs → gs ≡ v ∷ rights cs
+        → out
         ≡ tabulate
         (λ j. residues ._⊗_ (fOf residues document01 cs (members xs) u (residues .ι j))
         (gOf residues document01 cs (members xs) v (residues .ι j)))
         (suc (gatesIn cs + gatesIn cs))
-    h-table fs gs n m u v q r ef eg =
-        ap (tabulate (λ j. residues ._⊗_ (valueAt n fs j) (valueAt n gs j))) r
-        ∙ ap (λ k. tabulate (λ j. residues ._⊗_ (valueAt k fs j) (valueAt k gs j)) (suc (k + k))) q
+    h-from {out} {fs} {gs} {ft} {gt} {n} {m} u v e q r pf ef pg eg =
+        e
+        ∙ ap (tabulate (λ j. residues ._⊗_ (valueAt n ft j) (valueAt n gt j))) r
+        ∙ ap (λ k. tabulate (λ j. residues ._⊗_ (valueAt k ft j) (valueAt k gt j)) (suc (k + k))) q
         ∙ tabulate-cong _ _ (suc (gatesIn cs + gatesIn cs))
         (λ j l. ap₂ (residues ._⊗_)
-        (ap (λ (l : List ℕ). valueAt (gatesIn cs) l j) ef ∙ f-value u j)
-        (ap (λ (l : List ℕ). valueAt (gatesIn cs) l j) eg ∙ g-value v j))
+        (ap (λ (l : List ℕ). valueAt (gatesIn cs) l j) (pf ∙ ef) ∙ f-value u j)
+        (ap (λ (l : List ℕ). valueAt (gatesIn cs) l j) (pg ∙ eg) ∙ g-value v j))

@@ -4,11 +4,10 @@
 ghost use mathlib.Core.Path.{_≡_};
 ghost use mathlib.Core.List.{_∷_};
 ghost use Prim.Native.Nat.{suc, _+_, _-_, _<_, _≤_};
-ghost use lib.ListN.{length, getD};
+ghost use lib.ListN.{length};
 ghost use Rattle.algebra.specs.Lists.{tabulate};
 ghost use Rattle.algebra.specs.Interpolation.{sign as Interpolation·sign, weight as Interpolation·weight};
 ghost use Rattle.field.specs.Residues.{prime, residues, Elements};
-ghost use Rattle.proof.specs.Curves.{scaledAt, fallAt, beyondAt, valueAt, Ready, Curve};
 ghost use Rattle.rules.specs.Settings.{document01};
 ghost use Rattle.rules.specs.Columns.{columnsOf};
 ghost use Rattle.rules.specs.Circuit.{gatesIn};
@@ -16,6 +15,7 @@ ghost use Rattle.rules.specs.Walk.{walkLefts, walkRights};
 ghost use Rattle.rules.specs.Making.{fOf, gOf};
 ghost use Rattle.walk.specs.Walks.{plain, members, Entries};
 ghost use Rattle.snip.specs.Factorials.{Tables};
+ghost use Rattle.proof.specs.Curves.{scaledAt, fallAt, beyondAt, valueAt, Ready, Curve};
 
 // (- 1) to the power k
 fn sign(k: usize) -> u32

@@ -19,22 +19,22 @@ use Rattle.rules.specs.Server.{publishedShares}
 use Rattle.rules.specs.Table.{sheetIn, columnsIn, openedIn, totalsIn, waitingIn, totalsPlace, addedTotals}
 use Rattle.rules.proofs.Limits.{limits}
 use Rattle.rules.proofs.ClosingBytes.{getD-map}
-use Rattle.message.proofs.Parts.{span}
 use Rattle.sheet.specs.declared.columns.Cursor.{Cursor}
 use Rattle.sheet.specs.declared.columns.Step.{Step}
-use Rattle.sheet.specs.Cursor.{begin, Stands, stepAt, cursorAt}
+use Rattle.sheet.specs.Cursor.{begin, Stands, stepAt}
 use Rattle.sheet.specs.Reading.{bytesOfKind}
 use Rattle.sheet.proofs.Sums.{entries, published, total-most}
 use Rattle.sheet.proofs.Cursors.{place}
 use Rattle.sheet.proofs.Walks.{Walks, walk-start, stands-by-place, walk-end, walk-done, walk-next}
-use Rattle.table.specs.Places.{totalsAt, shareAt, sizeOf}
+use Rattle.message.proofs.Parts.{span}
+use Rattle.table.specs.Places.{totalsAt, shareAt}
 use Rattle.table.specs.Reading.{Sound}
 use Rattle.table.specs.declared.Table.{Table}
 use Rattle.rounds.specs.Held.{Waits}
 use Rattle.rounds.specs.Totals.{wordAt, wordsAdded, Addable, totalWith, withPublished}
 use Rattle.rounds.proofs.AddedWords.{length-run, run-none, run-more, run-behind, length-run-put}
 use Rattle.rounds.proofs.PublishedEntries.{published-first, published-at}
-use Rattle.rounds.proofs.PublishedSums.{Says, says, total-word, total-below, share-word, sheet-reads, sheet-long}
+use Rattle.rounds.proofs.PublishedSums.{says, total-word, total-below, share-word, sheet-reads, sheet-long}
 
 pub record Added (T : List ℕ) (k : Table) (t : List ℕ) (c : Cursor) : Type 0 where
   pub walks : Walks (sheetIn document01 T) c

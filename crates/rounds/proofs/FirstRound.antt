@@ -1,6 +1,6 @@
 -- Round one: the refusal, the table and the message in the numbers of code are those of rules. Assumes nothing.
-use mathlib.Core.Path.{_≡_, refl, sym, ap, _∙_}
-use mathlib.Core.Bool.{true, false, cond}
+use mathlib.Core.Path.{_≡_, refl, sym, _∙_}
+use mathlib.Core.Bool.{false}
 use mathlib.Core.List.{List, [], _∷_, _++_}
 use Prim.Native.Nat.{ℕ, zero, suc, _+_, _≤_, _<_}
 use native.Mathlib.Omega.{arith}
@@ -20,7 +20,7 @@ use Rattle.rules.specs.Settings.{document01}
 use Rattle.rules.specs.Columns.{check}
 use Rattle.rules.specs.Messages.{roundFault, roundMessage, firstSum, secondSum}
 use Rattle.rules.specs.Server as rules
-use Rattle.rules.specs.Server.{Stage, idle, awaitsOne, awaitsTwo, closed, whileOne, oneRefusal}
+use Rattle.rules.specs.Server.{whileOne, oneRefusal}
 use Rattle.rules.specs.Server.{messageOne, messageTwo, sigmaIn, summed}
 use Rattle.rules.specs.Table.{stageByte, serversIn, ownIn, openedIn, waitingIn, stageIn, known, tableFault, waitPlace}
 use Rattle.rules.specs.Table.{oneRefused, oneTable, oneBytes}
@@ -36,7 +36,7 @@ use Rattle.rounds.specs.declared.held.Waiting.{Waiting}
 use Rattle.rounds.specs.Held.{waitsIn, Waits, sigmaAt}
 use Rattle.rounds.specs.One.{oneJoinedFault, oneFaultAt, sumsStored, OneReady}
 use Rattle.rounds.specs.Calls.{RoundOne}
-use Rattle.rounds.proofs.Holding.{waits-in}
+use Rattle.rounds.proofs.Holding.{waits-in, stageOf, sound-fault}
 
 -- ---- the refusal
 joined-at : (T joined : List ℕ)
@@ -47,7 +47,8 @@ unfolding oneJoinedFault messageOne tableOf waitsIn
 joined-at T joined = refl
 
 module _ (T joined : List ℕ) (k : Table) (w : Waiting) (s : k ≡ tableOf T) (q : w ≡ waitsIn T) (f : ℕ)
-    (e : f ≡ roundFault document01 (k .servers) 34 (w .id) (k .own) (roundMessage document01 34 (w .id) (k .own) (w .d) (w .e)) joined) where
+    (e : f ≡ roundFault document01 (k .servers) 34 (w .id) (k .own)
+    (roundMessage document01 34 (w .id) (k .own) (w .d) (w .e)) joined) where
   joined-is : f ≡ oneJoinedFault T joined
   joined-is = rw (s, q, joined-at T joined) at e
 
@@ -84,7 +85,7 @@ unfolding sumsStored
 sums-stored T a d e l h =
     let both : List ℕ = bytesOfAll 4 (d ∷ e ∷ []) in
     let split : bytesOf 4 d ++ bytesOf 4 e ≡ both
-    = sym (bytes-all-append 4 (d ∷ []) (e ∷ []) ∙ rw (bytes-all-one, bytes-all-one)) in
+    = sym (bytes-all-append 4 (d ∷ []) (e ∷ []) ∙ rw (bytes-all-one 4 d, bytes-all-one 4 e)) in
     let eight : length both ≡ 8 = length-bytes-all 4 (d ∷ e ∷ []) in
     let m : length (splice T a both) ≡ length T = length-splice T a both (omega arith) in
     rw (grow T a (bytesOf 4 d) (bytesOf 4 e) 4 (length-bytes 4 d) (omega arith), split)
@@ -113,9 +114,6 @@ module _ (T joined : List ℕ) (k : Table) (s : k ≡ tableOf T) (d e : ℕ) (ed
   one-bytes w q = rw (ed, ee, s, q) (bytes-at T joined)
 
 -- ---- the stage
-abbrev stageOf : ℕ → rules.Waiting → Stage
-stageOf b w = cond (eqb b 0) idle (cond (eqb b 1) (awaitsOne w) (cond (eqb b 2) (awaitsTwo w) closed))
-
 stage-not : (b : ℕ) (w : rules.Waiting) (f : rules.Waiting → ℕ) → (b ≡ 1 → ⊥) → whileOne (stageOf b w) f ≡ 11
 unfolding whileOne
 stage-not zero w f h = refl
@@ -150,16 +148,12 @@ module _ (T joined out : List ℕ) where
   first-unsound e = refused-by 11 (rw (unsound T e)) (λ z. omega arith)
 
   module _ (k : Table) (s : Sound T k) where
-    fault-none : tableFault document01 T ≡ 0
-    unfolding tableFault
-    fault-none = rw (s .is-sound)
-
     pub first-stage : (k .stage ≡ 1 → ⊥) → RoundOne T joined out (answer.Refused 11) T out
-    first-stage h = refused-by 11 (other-at T joined (length out) fault-none (rw (s .says) at h)) (λ z. omega arith)
+    first-stage h = refused-by 11 (other-at T joined (length out) (sound-fault T k s) (rw (s .says) at h)) (λ z. omega arith)
 
     module _ (h : k .stage ≡ 1) (f : ℕ) (e : f ≡ oneFaultAt T joined (length out)) where
       refused-is : oneRefused document01 T joined (length out) ≡ f
-      refused-is = refusal-at T joined (length out) fault-none (rw (s .says) at h) ∙ sym e
+      refused-is = refusal-at T joined (length out) (sound-fault T k s) (rw (s .says) at h) ∙ sym e
 
       pub first-refused : (f ≡ 0 → ⊥) → RoundOne T joined out (answer.Refused f) T out
       first-refused = refused-by f refused-is

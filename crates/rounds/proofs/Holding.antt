@@ -1,10 +1,10 @@
 -- The return that waits in a sound table: its numbers stand where rules says, and are elements. Assumes nothing.
-use mathlib.Core.Path.{_≡_, refl, sym, ap, _∙_}
+use mathlib.Core.Path.{_≡_, sym, ap, _∙_}
 use mathlib.Core.Bool.{Bool, true, false, not, cond, _&&_, _||_}
 use mathlib.Core.List.{List}
 use Prim.Native.Nat.{ℕ, _+_, _-_, _*_, _≤_, _<_}
 use native.Mathlib.Omega.{arith}
-use lib.Dec.{lit<}
+use lib.Dec.{eqb, lit<}
 use lib.ListN.{length, getD, take, drop}
 use Rattle.algebra.specs.Lists.{tabulate}
 use Rattle.algebra.proofs.Members.{and-left, and-right}
@@ -14,14 +14,16 @@ use Rattle.words.proofs.Splice.{splice-all, length-part}
 use Rattle.words.proofs.Below.{all-of-below}
 use Rattle.field.specs.Residues.{prime, residues}
 use Rattle.field.proofs.Below.{member-below}
-use Rattle.rules.specs.Messages.{roundMessage}
-use Rattle.message.proofs.Writing.{length-round}
 use Rattle.rules.specs.Settings.{document01}
 use Rattle.rules.specs.Columns.{within, entriesIn}
 use Rattle.rules.specs.Circuit.{gatesIn}
 use Rattle.rules.specs.Judging.{shareSize, allowedPair, firstOnly, aOf, bOf, cOf, sigmaFrom}
+use Rattle.rules.specs.Messages.{roundMessage}
+use Rattle.rules.specs.Server as rules
+use Rattle.rules.specs.Server.{Stage, idle, awaitsOne, awaitsTwo, closed}
 use Rattle.rules.specs.Table.{sheetSize, columnsIn, returnsIn, wordIn, waitingIn, totalsIn, waits, waitPlace, sharePlace}
-use Rattle.rules.specs.Table.{headerSound, countsSound, waitingSound, tableSound}
+use Rattle.rules.specs.Table.{headerSound, countsSound, waitingSound, tableSound, tableFault}
+use Rattle.message.proofs.Writing.{length-round}
 use Rattle.message.proofs.Parts.{span}
 use Rattle.table.specs.Places.{waitAt, shareAt, sizeOf}
 use Rattle.table.specs.Reading.{tableOf, Sound}
@@ -29,6 +31,7 @@ use Rattle.table.specs.declared.Table.{Table}
 use Rattle.rounds.specs.declared.held.Waiting.{Waiting}
 use Rattle.rounds.specs.Held.{waitsIn, Waits, sigmaAt}
 
+-- ---- its numbers, from its place w
 numbers-at : (T : List ℕ) (w : ℕ) → w ≡ waitAt (tableOf T .sheet) (tableOf T .published) (tableOf T .returns)
     → record {
       id = valueOf (part w 4 T);
@@ -60,7 +63,10 @@ message-alone s m kind id own x y h e =
 
 -- ---- the share of the return that waits, as the code cuts it out from p, with z elements
 share-at : (T : List ℕ) (p z : ℕ) → p ≡ shareAt (tableOf T .sheet) (tableOf T .published) (tableOf T .returns)
-    → z ≡ sizeOf (tableOf T .entries) (tableOf T .gates) → part p (4 * z) T ≡ part (sharePlace document01 (sheetSize document01 T) (columnsIn document01 T) (returnsIn document01 T)) (4 * shareSize (columnsIn document01 T)) T
+    → z ≡ sizeOf (tableOf T .entries) (tableOf T .gates)
+    → part p (4 * z) T
+    ≡ part (sharePlace document01 (sheetSize document01 T) (columnsIn document01 T) (returnsIn document01 T))
+    (4 * shareSize (columnsIn document01 T)) T
 unfolding tableOf sharePlace shareSize
 share-at T p z ep ez = rw (ep, ez)
 
@@ -77,7 +83,8 @@ module _ (T : List ℕ) (k : Table) (p z : ℕ) (s : Sound T k) (ep : p ≡ shar
 
 -- sigma from the elements
 sigma-at : (T xs : List ℕ) (d e : ℕ) → xs ≡ waitingIn document01 T .elements
-    → sigmaFrom residues (firstOnly residues (tableOf T .own)) d e (getD xs (tableOf T .entries + 3 + (tableOf T .gates + tableOf T .gates)) 0)
+    → sigmaFrom residues (firstOnly residues (tableOf T .own)) d e
+    (getD xs (tableOf T .entries + 3 + (tableOf T .gates + tableOf T .gates)) 0)
     (getD xs (tableOf T .entries + 3 + (tableOf T .gates + tableOf T .gates) + 1) 0)
     (getD xs (tableOf T .entries + 3 + (tableOf T .gates + tableOf T .gates) + 2) 0) (waitsIn T .rh)
     ≡ sigmaAt T d e
@@ -99,6 +106,14 @@ sigma-is T xs k w d e s q x = rw (s, q) (sigma-at T xs d e x)
 pub rh-element : (T : List ℕ) (k : Table) (w : Waiting) → Waits T k → w ≡ waitsIn T → w .rh < prime
 unfolding waitsIn
 rh-element T k w h e = rw e (h .rh-below)
+
+pub d-element : (T : List ℕ) (k : Table) (w : Waiting) → Waits T k → w ≡ waitsIn T → w .d < prime
+unfolding waitsIn
+d-element T k w h e = rw e (h .d-below)
+
+pub e-element : (T : List ℕ) (k : Table) (w : Waiting) → Waits T k → w ≡ waitsIn T → w .e < prime
+unfolding waitsIn
+e-element T k w h e = rw e (h .e-below)
 
 -- ---- a sound table whose return waits
 waits-at : (T : List ℕ) → Sound T (tableOf T) → within 1 2 (tableOf T .stage) ≡ true → Waits T (tableOf T)
@@ -134,10 +149,10 @@ waits-at T s w =
 pub waits-in : (T : List ℕ) (k : Table) → Sound T k → within 1 2 (k .stage) ≡ true → Waits T k
 waits-in T k s w = rw (s .says) (waits-at T (rw (s .says) at s) (rw (s .says) at w))
 
-pub d-element : (T : List ℕ) (k : Table) (w : Waiting) → Waits T k → w ≡ waitsIn T → w .d < prime
-unfolding waitsIn
-d-element T k w h e = rw e (h .d-below)
+-- ---- the stage, from its byte
+abbrev pub stageOf : ℕ → rules.Waiting → Stage
+stageOf b w = cond (eqb b 0) idle (cond (eqb b 1) (awaitsOne w) (cond (eqb b 2) (awaitsTwo w) closed))
 
-pub e-element : (T : List ℕ) (k : Table) (w : Waiting) → Waits T k → w ≡ waitsIn T → w .e < prime
-unfolding waitsIn
-e-element T k w h e = rw e (h .e-below)
+pub sound-fault : (T : List ℕ) (k : Table) → Sound T k → tableFault document01 T ≡ 0
+unfolding tableFault
+sound-fault T k s = rw (s .is-sound)

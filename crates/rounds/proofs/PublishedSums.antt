@@ -1,37 +1,34 @@
 -- The totals and the share of a table, word by word, and what the loop over the columns keeps: the totals below the cursor's
 -- published place have the share added, the rest are as they were. Assumes nothing.
-use mathlib.Core.Path.{_≡_, refl, sym, ap, ap₂, _∙_}
-use mathlib.Core.Bool.{Bool, true, not, _&&_, _||_}
-use mathlib.Core.List.{List, [], _∷_, _++_}
-use Prim.Native.Nat.{ℕ, suc, _+_, _-_, _*_, _≤_, _<_}
+use mathlib.Core.Path.{_≡_, refl, sym, ap, _∙_}
+use mathlib.Core.Bool.{true, not, _&&_, _||_}
+use mathlib.Core.List.{List}
+use Prim.Native.Nat.{ℕ, _+_, _*_, _≤_, _<_}
 use native.Mathlib.Omega.{arith}
 use borrow.Author.Tests.{eqb-true}
 use lib.Dec.{eqb, lit<}
-use lib.ListN.{length, getD, take, drop}
-use Rattle.algebra.specs.Lists.{tabulate}
+use lib.ListN.{length, getD}
 use Rattle.algebra.proofs.Members.{and-left, and-right}
-use Rattle.algebra.proofs.Tables.{tabulate-cong}
-use Rattle.words.specs.Bytes.{valueOf, bytesOfAll, part, splice, elementsOf, allBelow}
+use Rattle.words.specs.Bytes.{valueOf, part, elementsOf, allBelow}
 use Rattle.words.proofs.Splice.{length-part}
 use Rattle.words.proofs.Elements.{element-within}
 use Rattle.words.proofs.Below.{all-of-below}
 use Rattle.records.specs.Outcome.{ok}
-use Rattle.field.specs.Residues.{prime, residues}
+use Rattle.field.specs.Residues.{prime}
 use Rattle.field.proofs.Below.{member-below}
 use Rattle.rules.specs.Settings.{document01}
-use Rattle.rules.specs.Columns.{sheetFault, readSheet, columnsOf, entriesIn, publishedIn}
+use Rattle.rules.specs.Columns.{sheetFault, readSheet, entriesIn, publishedIn}
 use Rattle.rules.specs.Circuit.{gatesIn}
 use Rattle.rules.specs.Judging.{shareSize}
 use Rattle.rules.specs.Table.{returnsIn, sheetSize, sheetIn, columnsIn, totalsIn, waitingIn, waits, totalsPlace, sharePlace}
-use Rattle.rules.specs.Table.{headerSound, countsSound, waitingSound, tableSound, addedTotals}
+use Rattle.rules.specs.Table.{headerSound, countsSound, waitingSound, tableSound}
 use Rattle.rules.proofs.Refusals.{sheet-read}
 use Rattle.message.proofs.Parts.{part-of-part}
 use Rattle.table.specs.Places.{totalsAt, shareAt, sizeOf}
 use Rattle.table.specs.Reading.{tableOf, startSound, Sound}
 use Rattle.table.specs.declared.Table.{Table}
 use Rattle.table.proofs.Header.{header-is}
-use Rattle.rounds.specs.Held.{Waits}
-use Rattle.rounds.specs.Totals.{wordAt, totalWith, withPublished}
+use Rattle.rounds.specs.Totals.{wordAt}
 
 -- ---- what a sound table says, in the numbers of code
 pub record Says (T : List ℕ) (k : Table) : Type 0 where

@@ -1,10 +1,10 @@
 -- Round two: the refusal, the verdict and the table in the numbers of code are those of rules. Assumes nothing.
 use mathlib.Core.Path.{_≡_, refl, sym, ap, _∙_}
 use mathlib.Core.Bool.{Bool, true, false, cond}
-use mathlib.Core.List.{List, [], _∷_, _++_}
-use Prim.Native.Nat.{ℕ, zero, suc, _+_, _≤_, _<_}
+use mathlib.Core.List.{List}
+use Prim.Native.Nat.{ℕ, zero, suc}
 use native.Mathlib.Omega.{arith}
-use borrow.Author.Tests.{ne-eqb, eq-eqb}
+use borrow.Author.Tests.{ne-eqb}
 use lib.Dec.{eqb}
 use lib.ListN.{length}
 use Rattle.records.specs.Outcome.{orElse}
@@ -14,7 +14,7 @@ use Rattle.rules.specs.Settings.{document01}
 use Rattle.rules.specs.Columns.{within}
 use Rattle.rules.specs.Messages.{roundFault, roundMessage, firstSum, secondSum, bothZero}
 use Rattle.rules.specs.Server as rules
-use Rattle.rules.specs.Server.{Stage, idle, awaitsOne, awaitsTwo, closed, whileTwo, twoRefusal, messageTwo, sigmaIn}
+use Rattle.rules.specs.Server.{whileTwo, twoRefusal, messageTwo, sigmaIn}
 use Rattle.rules.specs.Table.{stageByte, serversIn, ownIn, openedIn, waitingIn, stageIn, known, tableFault, idsPlace}
 use Rattle.rules.specs.Table.{decidedTable, twoRefused, twoVerdict, twoTable}
 use Rattle.rules.proofs.Limits.{within-is}
@@ -30,7 +30,7 @@ use Rattle.rounds.specs.Totals.{withPublished}
 use Rattle.rounds.specs.Two.{twoFaultAt, TwoReady}
 use Rattle.rounds.specs.Calls.{verdictOf, RoundTwo}
 use Rattle.rounds.specs.declared.Verdict.the-variants as answer
-use Rattle.rounds.proofs.Holding.{waits-in}
+use Rattle.rounds.proofs.Holding.{waits-in, stageOf, sound-fault}
 
 -- ---- the refusal
 joined-at : (T joined : List ℕ)
@@ -98,9 +98,6 @@ waits-decides T k w t h =
     }
 
 -- ---- the stage
-abbrev stageOf : ℕ → rules.Waiting → Stage
-stageOf b w = cond (eqb b 0) idle (cond (eqb b 1) (awaitsOne w) (cond (eqb b 2) (awaitsTwo w) closed))
-
 stage-not : (b : ℕ) (w : rules.Waiting) (f : rules.Waiting → ℕ) → (b ≡ 2 → ⊥) → whileTwo (stageOf b w) f ≡ 11
 unfolding whileTwo
 stage-not zero w f h = refl
@@ -146,19 +143,15 @@ module _ (T joined : List ℕ) where
   second-unsound e = refused-by 11 (rw (unsound T e)) (λ z. omega arith)
 
   module _ (k : Table) (s : Sound T k) where
-    fault-none : tableFault document01 T ≡ 0
-    unfolding tableFault
-    fault-none = rw (s .is-sound)
-
     pub second-stage : (k .stage ≡ 2 → ⊥) → RoundTwo T joined (answer.Refused 11) T
-    second-stage h = refused-by 11 (other-at T joined fault-none (rw (s .says) at h)) (λ z. omega arith)
+    second-stage h = refused-by 11 (other-at T joined (sound-fault T k s) (rw (s .says) at h)) (λ z. omega arith)
 
     pub second-waits : k .stage ≡ 2 → Waits T k
     second-waits h = waits-in T k s (within-is 1 2 (k .stage) (omega arith) (omega arith))
 
     module _ (h : k .stage ≡ 2) (f : ℕ) (e : f ≡ twoFaultAt T joined) where
       refused-is : twoRefused document01 T joined ≡ f
-      refused-is = refusal-at T joined fault-none (rw (s .says) at h) ∙ sym e
+      refused-is = refusal-at T joined (sound-fault T k s) (rw (s .says) at h) ∙ sym e
 
       pub second-refused : (f ≡ 0 → ⊥) → RoundTwo T joined (answer.Refused f) T
       second-refused = refused-by f refused-is

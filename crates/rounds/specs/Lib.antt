@@ -1,5 +1,5 @@
--- What the contracts of this crate cite besides rules. Read Calls; Held, One and Two are what the functions below the calls
--- go by.
+-- What the contracts of this crate cite besides rules. Read Calls; Held, One, Totals and Two are what the functions below the
+-- calls go by.
 pub mod Held
 pub mod One
 pub mod Totals

@@ -16,12 +16,13 @@ use Rattle.table.specs.declared.Table.{Table}
 use Rattle.rounds.specs.declared.held.Waiting.{Waiting}
 use Rattle.rounds.specs.Held.{waitsIn, Waits}
 
--- "12, 14": rules' oneRefusal at that stage
+-- "12": the messages of round one, of which the own one is that of the return that waits
 unfoldable pub oneJoinedFault : List ℕ → List ℕ → ℕ
 oneJoinedFault T joined =
     roundFault document01 (serversIn document01 T) 34 (waitingIn document01 T .id) (ownIn document01 T)
     (messageOne document01 (openedIn document01 T) (waitingIn document01 T)) joined
 
+-- "12, 14": rules' oneRefusal at that stage
 unfoldable pub oneFaultAt : List ℕ → List ℕ → ℕ → ℕ
 oneFaultAt T joined room = orElse (oneJoinedFault T joined) (check (leb 14 room) 14)
 

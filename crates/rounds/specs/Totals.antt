@@ -1,6 +1,5 @@
 -- The published entries of a share added to the totals, as the code does it: a run of words to another run of words.
 -- Assumes nothing.
-use mathlib.Core.Path.{_≡_}
 use mathlib.Core.List.{List}
 use Prim.Native.Nat.{ℕ, _+_, _*_, _≤_, _<_}
 use lib.ListN.{length, getD}

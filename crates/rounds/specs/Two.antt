@@ -3,11 +3,10 @@
 use mathlib.Core.Path.{_≡_}
 use mathlib.Core.List.{List}
 use Prim.Native.Nat.{ℕ}
-use Rattle.words.specs.Bytes.{bytesOfAll, splice}
 use Rattle.rules.specs.Settings.{document01}
 use Rattle.rules.specs.Messages.{roundFault}
 use Rattle.rules.specs.Server.{messageTwo}
-use Rattle.rules.specs.Table.{serversIn, ownIn, returnsIn, sheetSize, columnsIn, openedIn, waitingIn, totalsPlace, addedTotals}
+use Rattle.rules.specs.Table.{serversIn, ownIn, openedIn, waitingIn}
 use Rattle.message.specs.Rounds.{Summable}
 use Rattle.table.specs.declared.Table.{Table}
 use Rattle.rounds.specs.Held.{Waits}

@@ -10,10 +10,10 @@ use table::read;
 use two::settle;
 use two::two_refusal;
 
-pub mod adding;
-pub mod held;
-pub mod one;
-pub mod two;
+mod adding;
+mod held;
+mod one;
+mod two;
 
 // The verdict on a return, or the number of the refusal.
 pub enum Verdict {

@@ -1,12 +1,12 @@
 -- A close: refused where the table is unsound, not idle, or the buffer too short; else the closing message is written and
 -- the stage stored. The totals of a table are whole elements, so the bytes of what they say are those that stand there.
 -- Assumes that the members of the table are bytes, where it is said.
-use mathlib.Core.Path.{_≡_, refl, sym, ap, _∙_}
-use mathlib.Core.List.{List, [], _∷_, _++_}
+use mathlib.Core.Path.{_≡_, _∙_}
+use mathlib.Core.List.{List, [], _∷_}
 use Prim.Native.Nat.{ℕ, _+_, _*_, _≤_, _<_}
 use native.Mathlib.Omega.{arith}
 use borrow.Author.Tests.{le-leb, lt-leb, ne-eqb}
-use lib.Dec.{leb, lit<}
+use lib.Dec.{lit<}
 use lib.ListN.{length, set}
 use Rattle.algebra.specs.Lists.{All}
 use Rattle.words.specs.Bytes.{part, splice, bytesOfAll, elementsOf}
@@ -19,9 +19,8 @@ use Rattle.records.specs.Answers.{answered, onlyIf}
 use Rattle.records.specs.declared.Written.the-variants as written
 use Rattle.message.specs.Totals.{totalsHeader}
 use Rattle.rules.specs.Settings.{document01}
-use Rattle.rules.specs.Columns.{publishedIn}
 use Rattle.rules.specs.Server.{closeRefusal, totalsLength, totalsMessage}
-use Rattle.rules.specs.Table.{stageByte, waitingIn, stageIn, sheetSize, columnsIn, openedIn, known, tableFault, totalsPlace}
+use Rattle.rules.specs.Table.{stageByte, waitingIn, stageIn, known, tableFault, totalsPlace}
 use Rattle.rules.specs.Table.{closeRefused, closeTable, closeBytes}
 use Rattle.table.specs.Places.{totalsAt}
 use Rattle.table.specs.Reading.{tableOf, foundIn, Sound}

@@ -38,7 +38,8 @@ module _ (T : List ℕ) where
       → Drops T 0 (decidedAs (tableOf T) 0 (valueOf (part (waitAt (tableOf T .sheet) (tableOf T .published) (tableOf T .returns)) 4 T)) T)
   unfolding dropRefused orElse dropRefusal known stageIn tableOf onlyIf dropTable decidedTable decidedAs idsPlace waitPlace
   done-at f w =
-      let r : dropRefused document01 T ≡ 0 = rw f (one-waits (stageByte document01 T) (waitingIn document01 T) (within-both 1 2 (stageByte document01 T) w)) in
+      let b = stageByte document01 T in
+      let r : dropRefused document01 T ≡ 0 = rw f (one-waits b (waitingIn document01 T) (within-both 1 2 b w)) in
       record { answer-is = sym r; table-is = rw r }
 
 module _ (T : List ℕ) (k : Table) (s : Sound T k) where

@@ -4,3 +4,4 @@ pub mod Dropping
 pub mod Closing
 pub mod FreshTable
 pub mod Opening
+pub mod OpenRows

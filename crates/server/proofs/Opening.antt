@@ -1,7 +1,7 @@
 -- Opening: the refusals in their order, each where those before it do not hold, and the length of the table where none does.
 -- What the answer tells is what the writing asks for, and a refusal leaves the buffer.
 -- Assumes nothing.
-use mathlib.Core.Path.{_≡_, refl, sym, ap, _∙_}
+use mathlib.Core.Path.{_≡_, refl, sym, _∙_}
 use mathlib.Core.List.{List}
 use Prim.Native.Nat.{ℕ, zero, suc, _≤_, _<_}
 use native.Mathlib.Omega.{arith}

@@ -1,6 +1,5 @@
 -- `proof::beyond` meets its contract: the part of the table is the stretch of the inverses. Assumes nothing.
-use mathlib.Core.Path.{_≡_, refl, ap₂, _∙_}
-use Prim.Native.Nat.{ℕ, _-_, _<_, _≤_}
+use mathlib.Core.Path.{refl, ap₂, _∙_}
 use native.Mathlib.Omega.{arith}
 use Rattle.field.specs.Residues.{residues}
 use Rattle.field.proofs.Below.{sum-below}

@@ -1,11 +1,10 @@
 -- `proof::fill_falls` meets its contract: a turn stores one product and works out the next. Assumes nothing.
-use mathlib.Core.Path.{_≡_, ap, _∙_}
-use Prim.Native.Nat.{ℕ, suc, _+_, _-_, _<_, _≤_}
+use Prim.Native.Nat.{suc, _+_, _-_, _<_}
 use native.Mathlib.Nat.{mod-lt}
 use native.Mathlib.Omega.{arith}
 use lib.Dec.{lit<}
-use lib.ListN.{length, getD}
-use Rattle.field.specs.Residues.{prime, residues}
+use lib.ListN.{length}
+use Rattle.field.specs.Residues.{prime}
 use Rattle.proof.proofs.Backwards.{inverse-low}
 use Rattle.proof.proofs.Falls.{Falling, fall-below, start, turn, finish}
 use borrow.Author.Needs.{needs}
@@ -67,7 +66,8 @@ loop-again c =
     let s = c .before .before .before .before .before .before .before .before in
     let h : l .i < length (s .args .out .now) = omega (arith, l .inv .same) in
     let small : suc (suc (length (s .args .out .now)) + l .i) < prime = omega (arith, s .pre .0) in
-    turn _ (s .args .inverses .now) _ _ (l .inv) h small (omega (arith, s .pre .1)) (s .pre .2) (c .before .mul .ensures) (c .mul2 .ensures)
+    turn _ (s .args .inverses .now) _ _ (l .inv) h small (omega (arith, s .pre .1))
+    (s .pre .2) (c .before .mul .ensures) (c .mul2 .ensures)
 
 same-length : tie.Need-same-length Inv-loop μ-loop
 same-length c = omega (arith, c .before .loop .inv .same)

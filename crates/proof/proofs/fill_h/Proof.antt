@@ -1,8 +1,8 @@
 -- `proof::fill_h` meets its contract: with the tables that it makes. Assumes nothing.
-use mathlib.Core.Path.{_≡_, sym, _∙_, subst}
-use Prim.Native.Nat.{ℕ, suc, _+_, _/_, _≤_}
+use mathlib.Core.Path.{sym, _∙_, subst}
+use Prim.Native.Nat.{ℕ, suc}
 use native.Mathlib.Omega.{arith}
-use lib.ListN.{length, length-append}
+use lib.ListN.{length-append}
 use lib.Seq.{length-take-le, take-at}
 use Rattle.snip.specs.Factorials.{Tables}
 use Rattle.proof.specs.Curves.{Ready}

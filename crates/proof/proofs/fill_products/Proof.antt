@@ -1,6 +1,6 @@
 -- `proof::fill_products` meets its contract: its loop fills the buffer by the rule of its products. Assumes nothing.
-use mathlib.Core.Path.{_≡_, ap₂, _∙_}
-use Prim.Native.Nat.{ℕ, suc, _+_, _-_, _<_}
+use mathlib.Core.Path.{ap₂, _∙_}
+use Prim.Native.Nat.{_-_}
 use native.Mathlib.Omega.{arith}
 use lib.ListN.{length}
 use Rattle.field.specs.Residues.{residues}
@@ -12,7 +12,8 @@ use Rattle.proof.proofs.fill_products.Statement.{statement}
 use Rattle.proof.proofs.fill_products.Tie as tie
 
 abbrev Inv-loop : tie.InvT-loop
-Inv-loop f fs g gs falls back out₀ j₀ out j = Filling (λ j. residues ._⊗_ (valueAt (length falls) f j) (valueAt (length falls) g j)) out₀ out j
+Inv-loop f fs g gs falls back out₀ j₀ out j =
+    Filling (λ j. residues ._⊗_ (valueAt (length falls) f j) (valueAt (length falls) g j)) out₀ out j
 
 abbrev μ-loop : tie.MeasureT-loop
 μ-loop f fs g gs falls back out₀ j₀ out j = length out₀ - j

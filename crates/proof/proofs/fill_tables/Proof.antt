@@ -84,10 +84,11 @@ slice-aggregate-fill-falls c =
 
 fill-falls-requires : tie.Need-fill-falls-requires
 fill-falls-requires c κs =
-    let s = c .before .before .before .before .before .before .before .before .before .before .before .before .before .before .before .before in
+    let p = c .before .before .before .before .before .before .before .before .before .before in
+    let fs = p .fill-inverse-factorials in
+    let s = p .before .before .before .before .before .before in
     let few : length (s .args .back .now) ≤ 512 = omega (arith, s .pre .0, s .pre .2) in
     let n = length-take-le _ _ few in
-    let fs = c .before .before .before .before .before .before .before .before .before .before .fill-inverse-factorials in
     let l = fs .kept .0 ∙ n in
     rw (take-at _ _ _ l)
     (s .pre .0, fewer (l ∙ s .pre .2), fs .ensures .0 ∙ ap (tabulate (λ (i : ℕ). residues .inv (suc i))) (sym (fs .kept .0)))
@@ -103,8 +104,9 @@ same-length-3 c = search needs
 
 returns : tie.Need-returns
 returns c =
-    let s = c .before .before .before .before .before .before .before .before .before .before .before .before .before .before .before .before .before .before .before in
-    let fs = c .before .before .before .before .before .before .before .before .before .before .before .before .before .fill-inverse-factorials in (
+    let p = c .before .before .before .before .before .before .before .before .before .before .before .before .before in
+    let fs = p .fill-inverse-factorials in
+    let s = p .before .before .before .before .before .before in (
       record {
         element = lit< tt;
         enough = omega (arith, fs .kept .1 .0, s .pre .1);
@@ -114,7 +116,9 @@ returns c =
       record {
         few = s .pre .0;
         falls-are = c .before .before .fill-falls .ensures;
-        back-are = c .before .before .before .before .before .before .before .fill-back .ensures ∙ ap (λ (k : ℕ). tabulate (λ i. residues .inv (k - i)) k) (s .pre .2);
+        back-are =
+            c .before .before .before .before .before .before .before .fill-back .ensures
+            ∙ ap (λ (k : ℕ). tabulate (λ i. residues .inv (k - i)) k) (s .pre .2);
       },
     )
 

@@ -1,6 +1,5 @@
 -- `proof::fill_with` meets its contract: f and g by their values, then the products. Assumes nothing.
-use mathlib.Core.Path.{_≡_, sym, ap, _∙_, subst}
-use mathlib.Core.List.{List}
+use mathlib.Core.Path.{_≡_, sym, _∙_, subst}
 use Prim.Native.Nat.{ℕ, suc, _+_, _≤_}
 use native.Mathlib.Numerals.{add-one}
 use native.Mathlib.Omega.{arith}
@@ -10,7 +9,7 @@ use Rattle.rules.specs.Columns.{columnsOf}
 use Rattle.rules.specs.Circuit.{gatesIn}
 use Rattle.snip.specs.Factorials.{Tables}
 use Rattle.proof.specs.Curves.{Curve}
-use Rattle.proof.proofs.Inputs.{h-table}
+use Rattle.proof.proofs.Inputs.{h-from}
 use borrow.Author.Needs.{needs}
 use Rattle.proof.proofs.fill_with.Statement.{statement}
 use Rattle.proof.proofs.fill_with.Tie as tie
@@ -80,80 +79,95 @@ curve-g-requires c κs =
 
 array-share-prefix-f : tie.Need-array-share-prefix-f
 array-share-prefix-f c =
-    let s = c .before .before .before .before .before .before .before .before .before .before .before .before .before .before .before .before in
+    let p = c .before .before .before .before .before .before .before in
+    let f = p .curve-f in
+    let s = p .before .before .before .before .before .before .before .before .before in
     let few : length (s .args .falls .now) + 1 ≤ 257 = omega (arith, s .pre .1 .1 .few) in
     let n = length-take-le _ _ few in
-    let f = c .before .before .before .before .before .before .before .curve-f in
     rw (length-append, f .kept .1 .1 .1 .1 .0 ∙ n) (omega arith)
 
 slice-aggregate-fill-products : tie.Need-slice-aggregate-fill-products
 slice-aggregate-fill-products c =
-    let s = c .before .before .before .before .before .before .before .before .before .before .before .before .before .before .before .before .before in
+    let p = c .before .before .before .before .before .before .before .before in
+    let f = p .curve-f in
+    let s = p .before .before .before .before .before .before .before .before .before in
     let few : length (s .args .falls .now) + 1 ≤ 257 = omega (arith, s .pre .1 .1 .few) in
     let n = length-take-le _ _ few in
-    let f = c .before .before .before .before .before .before .before .before .curve-f in
     let l = f .kept .1 .1 .1 .1 .0 ∙ n in
     rw (take-at _ _ _ l) (sym l)
 
 array-share-prefix-fs : tie.Need-array-share-prefix-fs
 array-share-prefix-fs c =
-    let s = c .before .before .before .before .before .before .before .before .before .before .before .before .before .before .before .before .before in
+    let p = c .before .before .before .before .before .before .before .before in
+    let f = p .curve-f in
+    let s = p .before .before .before .before .before .before .before .before .before in
     let few : length (s .args .falls .now) + 1 ≤ 257 = omega (arith, s .pre .1 .1 .few) in
     let n = length-take-le _ _ few in
-    let f = c .before .before .before .before .before .before .before .before .curve-f in
     rw (length-append, f .kept .1 .1 .1 .1 .1 .0 ∙ n) (omega arith)
 
 slice-aggregate-fill-products-2 : tie.Need-slice-aggregate-fill-products-2
 slice-aggregate-fill-products-2 c =
-    let s = c .before .before .before .before .before .before .before .before .before .before .before .before .before .before .before .before .before .before in
+    let p = c .before .before .before .before .before .before .before .before .before in
+    let f = p .curve-f in
+    let s = p .before .before .before .before .before .before .before .before .before in
     let few : length (s .args .falls .now) + 1 ≤ 257 = omega (arith, s .pre .1 .1 .few) in
     let n = length-take-le _ _ few in
-    let f = c .before .before .before .before .before .before .before .before .before .curve-f in
     let l = f .kept .1 .1 .1 .1 .1 .0 ∙ n in
     rw (take-at _ _ _ l) (sym l)
 
 array-share-prefix-g : tie.Need-array-share-prefix-g
 array-share-prefix-g c =
-    let s = c .before .before .before .before .before .before .before .before .before .before .before .before .before .before .before .before .before .before in
+    let p = c .before .before .before .before in
+    let g = p .curve-g in
+    let s = p .before .before .before .before .before .before .before .before .before .before .before .before .before .before in
     let few : length (s .args .falls .now) + 1 ≤ 257 = omega (arith, s .pre .1 .1 .few) in
     let n = length-take-le _ _ few in
-    let g = c .before .before .before .before .curve-g in
     rw (length-append, g .kept .1 .1 .1 .1 .0 ∙ n) (omega arith)
 
 slice-aggregate-fill-products-3 : tie.Need-slice-aggregate-fill-products-3
 slice-aggregate-fill-products-3 c =
-    let s = c .before .before .before .before .before .before .before .before .before .before .before .before .before .before .before .before .before .before .before in
+    let p = c .before .before .before .before .before in
+    let g = p .curve-g in
+    let s = p .before .before .before .before .before .before .before .before .before .before .before .before .before .before in
     let few : length (s .args .falls .now) + 1 ≤ 257 = omega (arith, s .pre .1 .1 .few) in
     let n = length-take-le _ _ few in
-    let g = c .before .before .before .before .before .curve-g in
     let l = g .kept .1 .1 .1 .1 .0 ∙ n in
     rw (take-at _ _ _ l) (sym l)
 
 array-share-prefix-gs : tie.Need-array-share-prefix-gs
 array-share-prefix-gs c =
-    let s = c .before .before .before .before .before .before .before .before .before .before .before .before .before .before .before .before .before .before .before in
+    let p = c .before .before .before .before .before in
+    let g = p .curve-g in
+    let s = p .before .before .before .before .before .before .before .before .before .before .before .before .before .before in
     let few : length (s .args .falls .now) + 1 ≤ 257 = omega (arith, s .pre .1 .1 .few) in
     let n = length-take-le _ _ few in
-    let g = c .before .before .before .before .before .curve-g in
     rw (length-append, g .kept .1 .1 .1 .1 .1 .0 ∙ n) (omega arith)
 
 slice-aggregate-fill-products-4 : tie.Need-slice-aggregate-fill-products-4
 slice-aggregate-fill-products-4 c =
-    let s = c .before .before .before .before .before .before .before .before .before .before .before .before .before .before .before .before .before .before .before .before in
+    let p = c .before .before .before .before .before .before in
+    let g = p .curve-g in
+    let s = p .before .before .before .before .before .before .before .before .before .before .before .before .before .before in
     let few : length (s .args .falls .now) + 1 ≤ 257 = omega (arith, s .pre .1 .1 .few) in
     let n = length-take-le _ _ few in
-    let g = c .before .before .before .before .before .before .curve-g in
     let l = g .kept .1 .1 .1 .1 .1 .0 ∙ n in
     rw (take-at _ _ _ l) (sym l)
 
 fill-products-requires : tie.Need-fill-products-requires
 fill-products-requires c κs =
-    let s = c .before .before .before .before .before .before .before .before .before .before .before .before .before .before .before .before .before .before .before .before .before in
+    let p = c .before .before .before .before .before .before .before in
+    let g = p .curve-g in
+    let q = p .before .before .before .before .before in
+    let f = q .curve-f in
+    let s = q .before .before .before .before .before .before .before .before .before in
     let few : length (s .args .falls .now) + 1 ≤ 257 = omega (arith, s .pre .1 .1 .few) in
     let n = length-take-le _ _ few in
-    let f = c .before .before .before .before .before .before .before .before .before .before .before .before .curve-f in
-    let g = c .before .before .before .before .before .before .before .curve-g in
-    rw (take-at (f .last .1 .1 .1 .1 .0) _ _ (f .kept .1 .1 .1 .1 .0 ∙ n), take-at (f .last .1 .1 .1 .1 .1 .0) _ _ (f .kept .1 .1 .1 .1 .1 .0 ∙ n), take-at (g .last .1 .1 .1 .1 .0) _ _ (g .kept .1 .1 .1 .1 .0 ∙ n), take-at (g .last .1 .1 .1 .1 .1 .0) _ _ (g .kept .1 .1 .1 .1 .1 .0 ∙ n)) (
+    rw (
+      take-at (f .last .1 .1 .1 .1 .0) _ _ (f .kept .1 .1 .1 .1 .0 ∙ n),
+      take-at (f .last .1 .1 .1 .1 .1 .0) _ _ (f .kept .1 .1 .1 .1 .1 .0 ∙ n),
+      take-at (g .last .1 .1 .1 .1 .0) _ _ (g .kept .1 .1 .1 .1 .0 ∙ n),
+      take-at (g .last .1 .1 .1 .1 .1 .0) _ _ (g .kept .1 .1 .1 .1 .1 .0 ∙ n),
+    ) (
       (
         subst (λ (k : ℕ). Curve k (f .last .1 .1 .1 .1 .0) (f .last .1 .1 .1 .1 .1 .0)) (sym (s .pre .0 .3)) (f .ensures .1),
         subst (λ (k : ℕ). Curve k (g .last .1 .1 .1 .1 .0) (g .last .1 .1 .1 .1 .1 .0)) (sym (s .pre .0 .3)) (g .ensures .1),
@@ -166,15 +180,17 @@ same-length c = search needs
 
 returns : tie.Need-returns
 returns c =
-    let s = c .before .before .before .before .before .before .before .before .before .before .before .before .before .before .before .before .before .before .before .before .before .before .before .before in
+    let p = c .before .before .before .before .before .before .before .before .before .before in
+    let g = p .curve-g in
+    let q = p .before .before .before .before .before in
+    let f = q .curve-f in
+    let s = q .before .before .before .before .before .before .before .before .before in
     let few : length (s .args .falls .now) + 1 ≤ 257 = omega (arith, s .pre .1 .1 .few) in
     let n = length-take-le _ _ few in
-    let f = c .before .before .before .before .before .before .before .before .before .before .before .before .before .before .before .curve-f in
-    let g = c .before .before .before .before .before .before .before .before .before .before .curve-g in
-    c .before .before .fill-products .ensures
-    ∙ rw (take-at (f .last .1 .1 .1 .1 .0) _ _ (f .kept .1 .1 .1 .1 .0 ∙ n), take-at (g .last .1 .1 .1 .1 .0) _ _ (g .kept .1 .1 .1 .1 .0 ∙ n))
-    (h-table (s .args .x .now) (columnsOf (s .args .sheet .now)) (f .last .1 .1 .1 .1 .0) (g .last .1 .1 .1 .1 .0) _ _ (s .args .u) (s .args .v)
-    (s .pre .0 .3) (s .pre .1 .2) (f .ensures .0) (g .ensures .0))
+    h-from (s .args .x .now) (columnsOf (s .args .sheet .now)) (s .args .u) (s .args .v)
+    (c .before .before .fill-products .ensures) (s .pre .0 .3) (s .pre .1 .2)
+    (take-at (f .last .1 .1 .1 .1 .0) _ _ (f .kept .1 .1 .1 .1 .0 ∙ n)) (f .ensures .0)
+    (take-at (g .last .1 .1 .1 .1 .0) _ _ (g .kept .1 .1 .1 .1 .0 ∙ n)) (g .ensures .0)
 
 pub fill-with-spec : {M : Type 1} → statement M
 fill-with-spec =

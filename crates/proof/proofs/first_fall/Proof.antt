@@ -1,8 +1,7 @@
 -- `proof::first_fall` meets its contract: the last of a table of products. Assumes nothing.
-use mathlib.Core.Path.{_≡_, sym, _∙_}
-use Prim.Native.Nat.{ℕ, _+_, _≤_, _<_}
+use mathlib.Core.Path.{_≡_, sym}
+use Prim.Native.Nat.{ℕ, _+_, _≤_}
 use native.Mathlib.Omega.{arith}
-use lib.ListN.{length}
 use lib.Seq.{length-take-le}
 use Rattle.field.specs.Residues.{prime}
 use Rattle.proof.proofs.Falls.{fall-first}

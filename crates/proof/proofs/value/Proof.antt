@@ -1,8 +1,6 @@
 -- `proof::value` meets its contract: at a point the given value, beyond them the one that follows. Assumes nothing.
-use mathlib.Core.Path.{_≡_, _∙_}
-use Prim.Native.Nat.{ℕ, _-_, _<_}
+use mathlib.Core.Path.{_∙_}
 use native.Mathlib.Omega.{arith}
-use lib.ListN.{length}
 use Rattle.proof.proofs.CurveValues.{scaled-long, value-given, value-follows}
 use borrow.Author.Needs.{needs}
 use Rattle.proof.proofs.value.Statement.{statement}

@@ -22,64 +22,79 @@ same-length c = search needs
 returns : tie.Need-returns
 returns c =
     let u = c .before .before .before in
-    let a = u .before .before .before .before .before .before .before in
+    let r = u .before .before in
+    let a = r .before .before .before .before .before in
     let T = a .args .table .now in
     let J = a .args .joined .now in
     let O = a .args .out .now in
-    let s = sound T _ (sym (u .before .before .read .ensures) ∙ u .k .given .1) in
+    let s = sound T _ (sym (r .read .ensures) ∙ u .k .given .1) in
     first-stage T J O _ s (c .if1 .taken)
 
 read-waiting-requires : tie.Need-read-waiting-requires
 read-waiting-requires c κs =
-    let u = c .before .before .before .before in
-    let a = u .before .before .before .before .before .before .before in
+    let i = c .before in
+    let u = i .before .before .before in
+    let r = u .before .before in
+    let a = r .before .before .before .before .before in
     let T = a .args .table .now in
     let J = a .args .joined .now in
     let O = a .args .out .now in
-    let s = sound T _ (sym (u .before .before .read .ensures) ∙ u .k .given .1) in
-    first-waits T J O _ s (c .before .if1 .left)
+    let s = sound T _ (sym (r .read .ensures) ∙ u .k .given .1) in
+    first-waits T J O _ s (i .if1 .left)
 
 one-refusal-requires : tie.Need-one-refusal-requires
 one-refusal-requires c κs =
-    let u = c .before .before .before .before .before .before in
-    let a = u .before .before .before .before .before .before .before in
+    let w = c .before in
+    let i = w .before .before in
+    let u = i .before .before .before in
+    let r = u .before .before in
+    let a = r .before .before .before .before .before in
     let T = a .args .table .now in
     let J = a .args .joined .now in
     let O = a .args .out .now in
-    let s = sound T _ (sym (u .before .before .read .ensures) ∙ u .k .given .1) in
-    (first-waits T J O _ s (c .before .before .before .if1 .left), c .before .read-waiting .ensures)
+    let s = sound T _ (sym (r .read .ensures) ∙ u .k .given .1) in
+    (first-waits T J O _ s (i .if1 .left), w .read-waiting .ensures)
 
 same-length-2 : tie.Need-same-length-2
 same-length-2 c = search needs
 
 returns-2 : tie.Need-returns-2
 returns-2 c =
-    let u = c .before .before .before .before .before .before .before .before in
-    let a = u .before .before .before .before .before .before .before in
+    let f = c .before in
+    let i = f .before .before .before .before in
+    let u = i .before .before .before in
+    let r = u .before .before in
+    let a = r .before .before .before .before .before in
     let T = a .args .table .now in
     let J = a .args .joined .now in
     let O = a .args .out .now in
-    let s = sound T _ (sym (u .before .before .read .ensures) ∙ u .k .given .1) in
-    first-refused T J O _ s (c .before .before .before .before .before .if1 .left) _ (c .before .one-refusal .ensures) (c .if2 .taken)
+    let s = sound T _ (sym (r .read .ensures) ∙ u .k .given .1) in
+    first-refused T J O _ s (i .if1 .left) _ (f .one-refusal .ensures) (c .if2 .taken)
 
 take-one-requires : tie.Need-take-one-requires
 take-one-requires c κs =
-    let u = c .before .before .before .before .before .before .before .before .before .before in
-    let a = u .before .before .before .before .before .before .before in
+    let z = c .before .before in
+    let f = z .before in
+    let w = f .before .before in
+    let i = w .before .before in
+    let u = i .before .before .before in
+    let r = u .before .before in
+    let a = r .before .before .before .before .before in
     let T = a .args .table .now in
     let J = a .args .joined .now in
     let O = a .args .out .now in
-    let s = sound T _ (sym (u .before .before .read .ensures) ∙ u .k .given .1) in
-    let h = c .before .before .before .before .before .before .before .if1 .left in
-    first-ready T J O _ s h _ (c .before .before .before .one-refusal .ensures) _ (first-waits T J O _ s h) (c .before .before .before .before .before .read-waiting .ensures) (c .before .before .if2 .left)
+    let s = sound T _ (sym (r .read .ensures) ∙ u .k .given .1) in
+    let v = first-waits T J O _ s (i .if1 .left) in
+    first-ready T J O _ s (i .if1 .left) _ (f .one-refusal .ensures) _ v (w .read-waiting .ensures) (z .if2 .left)
 
 same-length-3 : tie.Need-same-length-3
 same-length-3 c = search needs
 
 returns-3 : tie.Need-returns-3
 returns-3 c =
-    let a = c .before .before .before .before .before .before .before in
-    first-unsound (a .args .table .now) (a .args .joined .now) (a .args .out .now) (sym (c .before .before .read .ensures) ∙ c .enum-told .given .1)
+    let r = c .before .before in
+    let a = r .before .before .before .before .before in
+    first-unsound (a .args .table .now) (a .args .joined .now) (a .args .out .now) (sym (r .read .ensures) ∙ c .enum-told .given .1)
 
 same-length-4 : tie.Need-same-length-4
 same-length-4 c = search needs
@@ -89,14 +104,19 @@ same-length-5 c = search needs
 
 returns-4 : tie.Need-returns-4
 returns-4 c =
-    let u = c .before .before .before .before .before .before .before .before .before .before .before .before .before .before .before in
-    let a = u .before .before .before .before .before .before .before in
+    let t = c .before .before .before .before in
+    let z = t .before .before .before in
+    let f = z .before in
+    let i = f .before .before .before .before in
+    let u = i .before .before .before in
+    let r = u .before .before in
+    let a = r .before .before .before .before .before in
     let T = a .args .table .now in
     let J = a .args .joined .now in
     let O = a .args .out .now in
-    let s = sound T _ (sym (u .before .before .read .ensures) ∙ u .k .given .1) in
-    let t = c .before .before .before .before in
-    first-done T J O _ s (c .before .before .before .before .before .before .before .before .before .before .before .before .if1 .left) _ (c .before .before .before .before .before .before .before .before .one-refusal .ensures) _ _ (c .before .before .before .before .before .before .before .if2 .left) (t .take-one .ensures .0) (t .take-one .ensures .1)
+    let s = sound T _ (sym (r .read .ensures) ∙ u .k .given .1) in
+    first-done T J O _ s (i .if1 .left) _ (f .one-refusal .ensures) _ _ (z .if2 .left) (t .take-one .ensures .0)
+    (t .take-one .ensures .1)
 
 pub round-one-spec : {M : Type 1} → statement M
 round-one-spec =

@@ -24,86 +24,109 @@ same-length c = search needs
 returns : tie.Need-returns
 returns c =
     let u = c .before .before .before in
-    let a = u .before .before .before .before .before .before in
+    let r = u .before .before in
+    let a = r .before .before .before .before in
     let T = a .args .table .now in
     let J = a .args .joined .now in
-    let s = sound T _ (sym (u .before .before .read .ensures) ∙ u .k .given .1) in
+    let s = sound T _ (sym (r .read .ensures) ∙ u .k .given .1) in
     second-stage T J _ s (c .if1 .taken)
 
 read-waiting-requires : tie.Need-read-waiting-requires
 read-waiting-requires c κs =
-    let u = c .before .before .before .before in
-    let a = u .before .before .before .before .before .before in
+    let i = c .before in
+    let u = i .before .before .before in
+    let r = u .before .before in
+    let a = r .before .before .before .before in
     let T = a .args .table .now in
     let J = a .args .joined .now in
-    let s = sound T _ (sym (u .before .before .read .ensures) ∙ u .k .given .1) in
-    second-waits T J _ s (c .before .if1 .left)
+    let s = sound T _ (sym (r .read .ensures) ∙ u .k .given .1) in
+    second-waits T J _ s (i .if1 .left)
 
 two-refusal-requires : tie.Need-two-refusal-requires
 two-refusal-requires c κs =
-    let u = c .before .before .before .before .before .before in
-    let a = u .before .before .before .before .before .before in
+    let w = c .before in
+    let i = w .before .before in
+    let u = i .before .before .before in
+    let r = u .before .before in
+    let a = r .before .before .before .before in
     let T = a .args .table .now in
     let J = a .args .joined .now in
-    let s = sound T _ (sym (u .before .before .read .ensures) ∙ u .k .given .1) in
-    (second-waits T J _ s (c .before .before .before .if1 .left), c .before .read-waiting .ensures)
+    let s = sound T _ (sym (r .read .ensures) ∙ u .k .given .1) in
+    (second-waits T J _ s (i .if1 .left), w .read-waiting .ensures)
 
 same-length-2 : tie.Need-same-length-2
 same-length-2 c = search needs
 
 returns-2 : tie.Need-returns-2
 returns-2 c =
-    let u = c .before .before .before .before .before .before .before .before in
-    let a = u .before .before .before .before .before .before in
+    let f = c .before in
+    let i = f .before .before .before .before in
+    let u = i .before .before .before in
+    let r = u .before .before in
+    let a = r .before .before .before .before in
     let T = a .args .table .now in
     let J = a .args .joined .now in
-    let s = sound T _ (sym (u .before .before .read .ensures) ∙ u .k .given .1) in
-    second-refused T J _ s (c .before .before .before .before .before .if1 .left) _ (c .before .two-refusal .ensures) (c .if2 .taken)
+    let s = sound T _ (sym (r .read .ensures) ∙ u .k .given .1) in
+    second-refused T J _ s (i .if1 .left) _ (f .two-refusal .ensures) (c .if2 .taken)
 
 settle-requires : tie.Need-settle-requires
 settle-requires c κs =
-    let u = c .before .before .before .before .before .before .before .before .before in
-    let a = u .before .before .before .before .before .before in
+    let z = c .before in
+    let f = z .before in
+    let w = f .before .before in
+    let i = w .before .before in
+    let u = i .before .before .before in
+    let r = u .before .before in
+    let a = r .before .before .before .before in
     let T = a .args .table .now in
     let J = a .args .joined .now in
-    let s = sound T _ (sym (u .before .before .read .ensures) ∙ u .k .given .1) in
-    second-ready T J _ s (c .before .before .before .before .before .before .if1 .left) _ (c .before .before .two-refusal .ensures) _ (c .before .before .before .before .read-waiting .ensures) (c .before .if2 .left)
+    let s = sound T _ (sym (r .read .ensures) ∙ u .k .given .1) in
+    second-ready T J _ s (i .if1 .left) _ (f .two-refusal .ensures) _ (w .read-waiting .ensures) (z .if2 .left)
 
 same-length-3 : tie.Need-same-length-3
 same-length-3 c = search needs
 
 returns-3 : tie.Need-returns-3
 returns-3 c =
-    let u = c .before .before .before .before .before .before .before .before .before .before .before .before .before in
-    let a = u .before .before .before .before .before .before in
+    let t = c .before .before .before in
+    let z = t .before .before in
+    let f = z .before in
+    let i = f .before .before .before .before in
+    let u = i .before .before .before in
+    let r = u .before .before in
+    let a = r .before .before .before .before in
     let T = a .args .table .now in
     let J = a .args .joined .now in
-    let s = sound T _ (sym (u .before .before .read .ensures) ∙ u .k .given .1) in
-    let t = c .before .before .before .settle in
-    second-accepted T J _ s (c .before .before .before .before .before .before .before .before .before .before .if1 .left) _ (c .before .before .before .before .before .before .two-refusal .ensures) _ (c .before .before .before .before .before .if2 .left)
-    (sym (c .if3 .taken) ∙ t .ensures .0) (t .ensures .1)
+    let s = sound T _ (sym (r .read .ensures) ∙ u .k .given .1) in
+    second-accepted T J _ s (i .if1 .left) _ (f .two-refusal .ensures) _ (z .if2 .left) (sym (c .if3 .taken) ∙ t .settle .ensures .0)
+    (t .settle .ensures .1)
 
 same-length-4 : tie.Need-same-length-4
 same-length-4 c = search needs
 
 returns-4 : tie.Need-returns-4
 returns-4 c =
-    let a = c .before .before .before .before .before .before in
-    second-unsound (a .args .table .now) (a .args .joined .now) (sym (c .before .before .read .ensures) ∙ c .enum-told .given .1)
+    let r = c .before .before in
+    let a = r .before .before .before .before in
+    second-unsound (a .args .table .now) (a .args .joined .now) (sym (r .read .ensures) ∙ c .enum-told .given .1)
 
 same-length-5 : tie.Need-same-length-5
 same-length-5 c = search needs
 
 returns-5 : tie.Need-returns-5
 returns-5 c =
-    let u = c .before .before .before .before .before .before .before .before .before .before .before .before .before in
-    let a = u .before .before .before .before .before .before in
+    let t = c .before .before .before in
+    let z = t .before .before in
+    let f = z .before in
+    let i = f .before .before .before .before in
+    let u = i .before .before .before in
+    let r = u .before .before in
+    let a = r .before .before .before .before in
     let T = a .args .table .now in
     let J = a .args .joined .now in
-    let s = sound T _ (sym (u .before .before .read .ensures) ∙ u .k .given .1) in
-    let t = c .before .before .before .settle in
-    second-rejected T J _ s (c .before .before .before .before .before .before .before .before .before .before .if1 .left) _ (c .before .before .before .before .before .before .two-refusal .ensures) _ (c .before .before .before .before .before .if2 .left)
-    (sym (c .if3 .left) ∙ t .ensures .0) (t .ensures .1)
+    let s = sound T _ (sym (r .read .ensures) ∙ u .k .given .1) in
+    second-rejected T J _ s (i .if1 .left) _ (f .two-refusal .ensures) _ (z .if2 .left) (sym (c .if3 .left) ∙ t .settle .ensures .0)
+    (t .settle .ensures .1)
 
 pub round-two-spec : {M : Type 1} → statement M
 round-two-spec =

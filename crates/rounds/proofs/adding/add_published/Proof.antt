@@ -1,11 +1,10 @@
 -- `rounds::adding::add_published` meets its contract. The loop's invariant: the totals before the cursor are added (`Added`);
 -- the measure is what is left of the sheet. Assumes nothing.
-use mathlib.Core.Path.{_≡_, sym, _∙_}
-use Prim.Native.Nat.{ℕ, _+_, _*_, _-_, _≤_, _<_}
+use Prim.Native.Nat.{_-_}
 use native.Mathlib.Omega.{arith}
-use lib.ListN.{length}
 use Rattle.rounds.specs.Held.{Waits}
-use Rattle.rounds.proofs.AddedColumns.{Added, added-start, added-stands, next-published, added-less, added-addable, added-turn, added-all}
+use Rattle.rounds.proofs.AddedColumns.{Added, added-start, added-stands, next-published, added-less}
+use Rattle.rounds.proofs.AddedColumns.{added-addable, added-turn, added-all}
 use borrow.Author.Needs.{needs}
 use Rattle.rounds.proofs.adding.add_published.Statement.{statement}
 use Rattle.rounds.proofs.adding.add_published.Tie as tie
@@ -46,72 +45,101 @@ part-next-end c =
 
 next-requires : tie.Need-next-requires Inv-loop μ-loop
 next-requires c κs =
-    let l = c .before .before .before .before .before in
-    let h = l .before .before .share-place in
-    let p = l .before .before .before .totals-place in
-    let a = l .before .before .before .before .before .before in
+    let i = c .before .before in
+    let l = i .before .before .before in
+    let h = l .before .before in
+    let p = h .before in
+    let a = p .before .before .before in
     let T = a .args .t .now in
-    added-stands T (a .args .k) (l .loop .inv .0) (l .loop .t) (l .loop .c) (l .loop .inv .1) (c .before .before .if1 .taken)
+    let v = l .loop .inv .0 in
+    let w = l .loop .inv .1 in
+    added-stands T (a .args .k) v (l .loop .t) (l .loop .c) w (i .if1 .taken)
 
 sub-n : tie.Need-sub-n Inv-loop μ-loop
 sub-n c =
-    let l = c .before .before .before .before .before .before .before .before in
-    let h = l .before .before .share-place in
-    let p = l .before .before .before .totals-place in
-    let a = l .before .before .before .before .before .before in
+    let n = c .before .before in
+    let i = n .before .before .before in
+    let l = i .before .before .before in
+    let h = l .before .before in
+    let p = h .before in
+    let a = p .before .before .before in
     let T = a .args .t .now in
-    omega (arith, next-published T (a .args .k) (l .loop .inv .0) (l .loop .t) (l .loop .c) (l .loop .inv .1) (c .before .before .before .before .before .if1 .taken) (c .before .before .next .result) (c .before .before .next .ensures))
+    let v = l .loop .inv .0 in
+    let w = l .loop .inv .1 in
+    omega (arith, next-published T (a .args .k) v (l .loop .t) (l .loop .c) w (i .if1 .taken) (n .next .result) (n .next .ensures))
 
 mul-add-words : tie.Need-mul-add-words Inv-loop μ-loop
 mul-add-words c =
     let l = c .before .before .before .before .before .before .before .before .before .before in
-    record { fits = omega (arith, l .loop .inv .1 .few, l .loop .inv .0 .sound .limited .published-most) }
+    let m = l .loop .inv .0 .sound .limited in
+    let w = l .loop .inv .1 in
+    record { fits = omega (arith, w .few, m .published-most) }
 
 add-add-words : tie.Need-add-add-words Inv-loop μ-loop
 add-add-words c =
     let l = c .before .before .before .before .before .before .before .before .before .before in
-    record { fits = omega (arith, l .loop .inv .1 .few, l .loop .inv .0 .sound .limited .published-most, l .loop .inv .0 .sound .limited .sheet-most, l .before .before .before .totals-place .ensures) }
+    let p = l .before .before .before in
+    let m = l .loop .inv .0 .sound .limited in
+    let w = l .loop .inv .1 in
+    record { fits = omega (arith, w .few, m .published-most, m .sheet-most, p .totals-place .ensures) }
 
 mul-add-words-2 : tie.Need-mul-add-words-2 Inv-loop μ-loop
 mul-add-words-2 c =
     let l = c .before .before .before .before .before .before .before .before .before .before .before in
-    record { fits = omega (arith, l .loop .inv .1 .entries-few, l .loop .inv .0 .sound .limited .entries-most) }
+    let m = l .loop .inv .0 .sound .limited in
+    let w = l .loop .inv .1 in
+    record { fits = omega (arith, w .entries-few, m .entries-most) }
 
 add-add-words-2 : tie.Need-add-add-words-2 Inv-loop μ-loop
 add-add-words-2 c =
     let l = c .before .before .before .before .before .before .before .before .before .before .before in
+    let h = l .before .before in
     let m = l .loop .inv .0 .sound .limited in
-    record { fits = omega (arith, l .loop .inv .1 .entries-few, m .entries-most, m .sheet-most, m .published-most, m .returns-most, l .before .before .share-place .ensures) }
+    let w = l .loop .inv .1 in
+    let e = h .share-place .ensures in
+    record { fits = omega (arith, w .entries-few, m .entries-most, m .sheet-most, m .published-most, m .returns-most, e) }
 
 add-words-requires : tie.Need-add-words-requires Inv-loop μ-loop
 add-words-requires c κs =
-    let l = c .before .before .before .before .before .before .before .before .before .before .before in
-    let h = l .before .before .share-place in
-    let p = l .before .before .before .totals-place in
-    let a = l .before .before .before .before .before .before in
+    let n = c .before .before .before .before .before in
+    let i = n .before .before .before in
+    let l = i .before .before .before in
+    let h = l .before .before in
+    let p = h .before in
+    let a = p .before .before .before in
     let T = a .args .t .now in
-    rw (p .ensures, h .ensures) (added-addable T (a .args .k) (l .loop .inv .0) (l .loop .t) (l .loop .c) (l .loop .inv .1) (c .before .before .before .before .before .before .before .before .if1 .taken) (c .before .before .before .before .before .next .result) (c .before .before .before .before .before .next .ensures))
+    let v = l .loop .inv .0 in
+    let w = l .loop .inv .1 in
+    rw (p .totals-place .ensures, h .share-place .ensures)
+    (added-addable T (a .args .k) v (l .loop .t) (l .loop .c) w (i .if1 .taken) (n .next .result) (n .next .ensures))
 
 loop-less : tie.Need-loop-less Inv-loop μ-loop
 loop-less c =
-    let l = c .before .before .before .before .before .before .before .before .before .before .before .before .before .before .before in
-    let h = l .before .before .share-place in
-    let p = l .before .before .before .totals-place in
-    let a = l .before .before .before .before .before .before in
+    let n = c .before .before .before .before .before .before .before .before .before in
+    let i = n .before .before .before in
+    let l = i .before .before .before in
+    let h = l .before .before in
+    let p = h .before in
+    let a = p .before .before .before in
     let T = a .args .t .now in
-    added-less T (a .args .k) (l .loop .inv .0) (l .loop .t) (l .loop .c) (l .loop .inv .1) (c .before .before .before .before .before .before .before .before .before .before .before .before .if1 .taken) (c .before .before .before .before .before .before .before .before .before .next .result) (c .before .before .before .before .before .before .before .before .before .next .ensures)
+    let v = l .loop .inv .0 in
+    let w = l .loop .inv .1 in
+    added-less T (a .args .k) v (l .loop .t) (l .loop .c) w (i .if1 .taken) (n .next .result) (n .next .ensures)
 
 loop-again : tie.Need-loop-again Inv-loop μ-loop
 loop-again c =
-    let l = c .before .before .before .before .before .before .before .before .before .before .before .before .before .before .before in
-    let h = l .before .before .share-place in
-    let p = l .before .before .before .totals-place in
-    let a = l .before .before .before .before .before .before in
-    let T = a .args .t .now in (
-      l .loop .inv .0,
-      added-turn T (a .args .k) (l .loop .inv .0) (l .loop .t) (l .loop .c) (l .loop .inv .1) (c .before .before .before .before .before .before .before .before .before .before .before .before .if1 .taken) (c .before .before .before .before .before .before .before .before .before .next .result) (c .before .before .before .before .before .before .before .before .before .next .ensures) _
-          (rw (p .ensures, h .ensures) at (c .before .before .before .add-words .ensures)),
-    )
+    let d = c .before .before .before in
+    let n = d .before .before .before .before .before .before in
+    let i = n .before .before .before in
+    let l = i .before .before .before in
+    let h = l .before .before in
+    let p = h .before in
+    let a = p .before .before .before in
+    let T = a .args .t .now in
+    let v = l .loop .inv .0 in
+    let w = l .loop .inv .1 in
+    let e = rw (p .totals-place .ensures, h .share-place .ensures) at (d .add-words .ensures) in
+    (v, added-turn T (a .args .k) v (l .loop .t) (l .loop .c) w (i .if1 .taken) (n .next .result) (n .next .ensures) _ e)
 
 same-length : tie.Need-same-length Inv-loop μ-loop
 same-length c = c .before .before .before .loop .inv .1 .same
@@ -119,11 +147,13 @@ same-length c = c .before .before .before .loop .inv .1 .same
 returns : tie.Need-returns Inv-loop μ-loop
 returns c =
     let l = c .before .before .before in
-    let h = l .before .before .share-place in
-    let p = l .before .before .before .totals-place in
-    let a = l .before .before .before .before .before .before in
+    let h = l .before .before in
+    let p = h .before in
+    let a = p .before .before .before in
     let T = a .args .t .now in
-    added-all T (a .args .k) (l .loop .inv .0) (l .loop .t) (l .loop .c) (l .loop .inv .1) (c .if1 .left)
+    let v = l .loop .inv .0 in
+    let w = l .loop .inv .1 in
+    added-all T (a .args .k) v (l .loop .t) (l .loop .c) w (c .if1 .left)
 
 pub add-published-spec : {M : Type 1} → statement M
 add-published-spec =

@@ -1,7 +1,7 @@
 -- `rounds::adding::add_words` meets its contract. The loop's invariant: the first i sums are put there (`words-turn`); the
 -- measure is what is left of them. Assumes nothing.
 use mathlib.Core.Path.{_≡_, refl}
-use Prim.Native.Nat.{ℕ, _+_, _*_, _-_, _≤_}
+use Prim.Native.Nat.{_-_, _≤_}
 use native.Mathlib.Omega.{arith}
 use lib.ListN.{length}
 use Rattle.algebra.specs.Lists.{tabulate}
@@ -46,7 +46,8 @@ add-requires : tie.Need-add-requires Inv-loop μ-loop
 add-requires c κs =
     let l = c .before .before .before .before .before in
     let a = l .before .before in
-    words-below (a .args .t .now) (a .args .to) (a .args .from) (a .args .n) (l .loop .i) (a .pre) (c .before .before .before .before .loop-test .taken)
+    let i = c .before .before .before .before .loop-test .taken in
+    words-below (a .args .t .now) (a .args .to) (a .args .from) (a .args .n) (l .loop .i) (a .pre) i
     (l .loop .t) (l .loop .inv .1) _ _ (c .before .before .read-u32 .ensures) (c .read-u322 .ensures)
 
 mul-write-u32 : tie.Need-mul-write-u32 Inv-loop μ-loop
@@ -71,9 +72,10 @@ loop-again c =
     let y = s .before in
     let x = y .before .before in
     let l = x .before .before .before in
+    let i = x .before .before .loop-test .taken in
     let a = l .before .before in (
       search needs,
-      cc (words-turn (a .args .t .now) (a .args .to) (a .args .from) (a .args .n) (l .loop .i) (a .pre) (x .before .before .loop-test .taken)
+      cc (words-turn (a .args .t .now) (a .args .to) (a .args .from) (a .args .n) (l .loop .i) (a .pre) i
           (l .loop .t) (l .loop .inv .1) _ _ _ (x .read-u32 .ensures) (y .read-u322 .ensures) (s .add .ensures)),
       search needs,
     )

@@ -1,5 +1,5 @@
 -- `rounds::held::own_refusal` meets its contract: the buffer holds just the own message (`message-alone`). Assumes nothing.
-use mathlib.Core.Path.{refl, _∙_}
+use mathlib.Core.Path.{refl}
 use Rattle.rounds.proofs.Holding.{message-alone}
 use borrow.Author.Needs.{needs}
 use Rattle.rounds.proofs.held.own_refusal.Statement.{statement}

@@ -3,7 +3,6 @@
 use mathlib.Core.Path.{_∙_}
 use Rattle.field.specs.Residues.{prime}
 use Rattle.words.proofs.Below.{all-of-below}
-use Rattle.rounds.specs.Held.{waitsIn}
 use Rattle.rounds.proofs.Holding.{share-cut, share-long, sigma-is, rh-element}
 use borrow.Author.Needs.{needs}
 use Rattle.rounds.proofs.held.sigma_of.Statement.{statement}

@@ -59,12 +59,14 @@ returns c =
     let d = e .before in
     let a = d .before .before .before .before in
     let T = a .args .t .now in
-    let J = a .args .joined .now in (
-      u .store-sums .ensures
-          ∙ one-table T J (a .args .k) (a .pre .waits .sound .says) _ _ (d .first-sum .ensures) (e .second-sum .ensures) _ (p .wait-place .ensures),
+    let J = a .args .joined .now in
+    let k = a .args .k in
+    let s = a .pre .waits .sound .says in
+    let sum1 = d .first-sum .ensures in
+    let sum2 = e .second-sum .ensures in (
+      u .store-sums .ensures ∙ one-table T J k s _ _ sum1 sum2 _ (p .wait-place .ensures),
       rw (m .write-round .ensures, g .sigma-of .ensures)
-          (ap (splice (a .args .out .now) 0)
-          (one-bytes T J (a .args .k) (a .pre .waits .sound .says) _ _ (d .first-sum .ensures) (e .second-sum .ensures) (a .args .w) (a .pre .says))),
+          (ap (splice (a .args .out .now) 0) (one-bytes T J k s _ _ sum1 sum2 (a .args .w) (a .pre .says))),
     )
 
 pub take-one-spec : {M : Type 1} → statement M

@@ -18,7 +18,8 @@ second-sum-requires c κs = search needs
 returns-2 : tie.Need-returns-2
 returns-2 c =
     let a = c .before .before .before .before in
-    zero-both (a .args .servers) (a .args .joined .now) _ (c .before .before .first-sum .ensures) (c .before .if1 .left) _ (c .second-sum .ensures)
+    zero-both (a .args .servers) (a .args .joined .now) _ (c .before .before .first-sum .ensures) (c .before .if1 .left) _
+    (c .second-sum .ensures)
 
 pub both-zero-spec : {M : Type 1} → statement M
 both-zero-spec = tie.close (tie.spec first-sum-requires returns second-sum-requires returns-2)

@@ -24,10 +24,13 @@ same-length c = search needs
 
 returns : tie.Need-returns
 returns c =
-    let z = c .before .before .before .before .before .before .before .before .before in
+    let d = c .before .before in
+    let p = d .before .before .before .before in
+    let i = p .before .before in
+    let z = i .before in
     let a = z .before .before .before in
     settled-accepted (a .args .t .now) (a .args .joined .now) (a .args .k) (a .args .id) (a .pre) (z .both-zero .result)
-    (z .both-zero .ensures) _ _ (c .before .before .before .before .before .before .before .before .if1 .taken) (c .before .before .before .before .before .before .add-published .ensures) (c .before .before .decide .ensures)
+    (z .both-zero .ensures) _ _ (i .if1 .taken) (p .add-published .ensures) (d .decide .ensures)
 
 decide-requires-2 : tie.Need-decide-requires-2
 decide-requires-2 c κs =
@@ -39,10 +42,12 @@ same-length-2 c = search needs
 
 returns-2 : tie.Need-returns-2
 returns-2 c =
-    let z = c .before .before .before .before .before in
+    let d = c .before .before in
+    let i = d .before .before in
+    let z = i .before in
     let a = z .before .before .before in
     settled-rejected (a .args .t .now) (a .args .joined .now) (a .args .k) (a .args .id) (a .pre) (z .both-zero .result)
-    (z .both-zero .ensures) _ (c .before .before .before .before .if1 .left) (c .before .before .decide2 .ensures)
+    (z .both-zero .ensures) _ (i .if1 .left) (d .decide2 .ensures)
 
 pub settle-spec : {M : Type 1} → statement M
 settle-spec =

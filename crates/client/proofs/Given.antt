@@ -1,6 +1,6 @@
 -- What writing a return is given: room for each message, a whole list of elements, and what each piece asks for.
 -- Assumes nothing.
-use mathlib.Core.Path.{_≡_, sym, _∙_, subst}
+use mathlib.Core.Path.{_≡_, _∙_}
 use mathlib.Core.List.{List}
 use Prim.Native.Nat.{ℕ, zero, suc, _+_, _-_, _*_, _≤_, _<_}
 use native.Mathlib.Nat.{mod-lt}
@@ -20,7 +20,7 @@ use Rattle.rules.specs.Making.{whole}
 use Rattle.rules.proofs.Whole.{length-whole}
 use Rattle.sheet.specs.declared.Counts.{Counts}
 use Rattle.walk.specs.Walks.{members}
-use Rattle.client.specs.Pieces.{Random, messageBytes, Legal, entriesFrom, wholeOf, Fillable, Makeable}
+use Rattle.client.specs.Pieces.{Random, messageBytes, entriesFrom, wholeOf, Fillable, Makeable}
 use Rattle.client.proofs.Room.{room}
 use Rattle.client.proofs.Legality.{entries-given}
 

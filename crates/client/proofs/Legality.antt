@@ -1,9 +1,9 @@
 -- Legal values: there is one for each column, and their entries are as many as the sheet's, each an element.
 -- Assumes nothing.
-use mathlib.Core.Path.{_≡_, refl, sym, ap, _∙_}
-use mathlib.Core.Bool.{Bool, true, false, _&&_}
+use mathlib.Core.Path.{_≡_, sym, _∙_}
+use mathlib.Core.Bool.{true, _&&_}
 use mathlib.Core.List.{List}
-use Prim.Native.Nat.{ℕ, _+_, _*_, _≤_, _<_}
+use Prim.Native.Nat.{ℕ, _+_, _*_, _≤_}
 use native.Mathlib.Omega.{arith}
 use borrow.Author.Tests.{eqb-true}
 use lib.Dec.{eqb}
@@ -11,9 +11,8 @@ use lib.ListN.{length}
 use Rattle.algebra.proofs.Members.{all-map, and-left, and-right}
 use Rattle.words.specs.Bytes.{splice, elementsOf}
 use Rattle.words.proofs.Splice.{splice-all}
-use Rattle.field.specs.Residues.{prime, Elements}
-use Rattle.rules.specs.Columns.{check, entriesIn, columnsOf}
-use Rattle.rules.specs.Values.{legalValues, encoding}
+use Rattle.rules.specs.Columns.{entriesIn, columnsOf}
+use Rattle.rules.specs.Values.{legalValues}
 use Rattle.rules.specs.Making.{valuesFault}
 use Rattle.rules.proofs.Limits.{limits}
 use Rattle.rules.proofs.Encoding.{encoding-length, encoding-below}

@@ -1,9 +1,9 @@
 -- The messages as they are written are those of document 01: server 0's share is the whole less the sum of the others, and
 -- the bytes of the other shares are the random bytes themselves. Assumes that bytes are below 256, where it is said.
 use mathlib.Core.Path.{_≡_, refl, sym, ap, ap₂, _∙_}
-use mathlib.Core.List.{List, [], _∷_, _++_, append-assoc, append-nil}
+use mathlib.Core.List.{List, _++_, append-assoc, append-nil}
 use Prim.Native.Nat.{ℕ, zero, suc, _+_, _-_, _*_, _≤_, _<_}
-use native.Mathlib.Nat.{add-zero, add-suc}
+use native.Mathlib.Nat.{add-zero}
 use native.Mathlib.Omega.{arith}
 use lib.Dec.{lit<}
 use lib.ListN.{length, getD}
@@ -22,12 +22,11 @@ use Rattle.rules.specs.Making.{shareOf, shareMessage, madeShare, madeFrom}
 use Rattle.rules.proofs.Whole.{length-whole}
 use Rattle.rules.proofs.ShareBytes.{length-share}
 use Rattle.message.specs.Shares.{headerBytes}
-use Rattle.message.specs.Words.{sumOf}
 use Rattle.message.proofs.Parts.{part-of-part}
 use Rattle.client.specs.Pieces.{Random, restOf, firstShare, messageBytes, otherMessage, otherMessages, wholeOf}
 use Rattle.client.proofs.RandomWords.{random-word, random-sum}
 use Rattle.client.proofs.Filling.{on}
-use Rattle.client.proofs.Writing.{share-message, share-within, length-others}
+use Rattle.client.proofs.Writing.{share-message, share-within}
 
 -- ---- messages that are made, by their end
 module _ (cs : List Column) (servers : ℕ) (vs zs : List ℕ) (id : ℕ) where

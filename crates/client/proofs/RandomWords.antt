@@ -11,7 +11,7 @@ use Rattle.algebra.specs.Sums.{sum}
 use Rattle.algebra.proofs.Sums.{sum-ext}
 use Rattle.words.specs.Bytes.{valueOf, part, elementsOf}
 use Rattle.words.proofs.Elements.{element-within}
-use Rattle.field.specs.Residues.{prime, residues}
+use Rattle.field.specs.Residues.{residues}
 use Rattle.field.proofs.Below.{member-below}
 use Rattle.message.specs.Words.{wordOf, Words, sumOf}
 use Rattle.client.specs.Pieces.{Random}

@@ -1,7 +1,7 @@
 -- The refusals of making, in their order: by the first check that fails. And what holds where there is none.
 -- Assumes nothing.
-use mathlib.Core.Path.{_≡_, refl, sym, _∙_}
-use mathlib.Core.Bool.{Bool, true, false, _&&_}
+use mathlib.Core.Path.{_≡_, sym, _∙_}
+use mathlib.Core.Bool.{_&&_}
 use mathlib.Core.List.{List}
 use Prim.Native.Nat.{ℕ, _+_, _-_, _*_, _≤_, _<_}
 use native.Mathlib.Omega.{arith}
@@ -12,15 +12,15 @@ use Rattle.algebra.proofs.Members.{and-left, and-right}
 use Rattle.words.specs.Bytes.{splice, elementsOf, allBelow}
 use Rattle.words.proofs.Below.{all-of-below}
 use Rattle.records.specs.Outcome.{ok, orElse}
-use Rattle.records.proofs.Outcome.{or-none, or-first, or-zero}
+use Rattle.records.proofs.Outcome.{or-none, or-first, or-zero, or-assoc}
 use Rattle.records.specs.Answers.{answered, onlyIf}
 use Rattle.records.specs.declared.Written.the-variants as answer
-use Rattle.field.specs.Residues.{prime, Elements}
+use Rattle.field.specs.Residues.{prime}
 use Rattle.rules.specs.Settings.{document01}
 use Rattle.rules.specs.Columns.{check, within, readSheet, sheetFault, columnsOf, serversFault}
 use Rattle.rules.specs.Judging.{shareSize}
 use Rattle.rules.specs.Making.{shareLength, randomCount, valuesFault, randomFault, makeRefusal, makeBytes}
-use Rattle.rules.proofs.Limits.{within-both, within-is}
+use Rattle.rules.proofs.Limits.{within-both}
 use Rattle.rules.proofs.Refusals.{sheet-fault}
 use Rattle.sheet.specs.declared.Counts.{Counts}
 use Rattle.message.proofs.Parts.{check-holds}
@@ -45,41 +45,35 @@ module _ (sheet values random : List ℕ) (servers room : ℕ) where
     unfolding makeRefusal randomFault randomFaultAt randomCount shareLength
     after-sheet = rw (sheet-fault sheet (columnsOf sheet) is-read .0) (or-none _)
 
-    pub servers-low : servers < 2 → refusal ≡ 2
-    servers-low h = after-sheet ∙ rw (lt-leb 2 servers h) (or-first 2 _ (λ z. omega arith))
+    -- S and the values come first
+    pub refused-early : (orElse (serversFault servers) (valuesFault (columnsOf sheet) values) ≡ 0 → ⊥)
+        → refusal ≡ orElse (serversFault servers) (valuesFault (columnsOf sheet) values)
+    refused-early z = after-sheet ∙ sym (or-assoc (serversFault servers) (valuesFault (columnsOf sheet) values) _) ∙ or-first _ _ z
 
-    pub servers-high : 2 ≤ servers → 8 < servers → refusal ≡ 2
-    servers-high h k = after-sheet ∙ rw (le-leb 2 servers h, lt-leb servers 8 k) (or-first 2 _ (λ z. omega arith))
+    module _ (legal : orElse (serversFault servers) (valuesFault (columnsOf sheet) values) ≡ 0) where
+      after-values : refusal
+          ≡ orElse (randomFaultAt servers (shareSize (columnsOf sheet)) random)
+          (check (leb (servers * (6 + 4 * shareSize (columnsOf sheet))) room) 14)
+      after-values =
+          after-sheet ∙ sym (or-assoc (serversFault servers) (valuesFault (columnsOf sheet) values) _) ∙ rw legal (or-none _)
 
-    module _ (some : 2 ≤ servers) (few : servers ≤ 8) where
-      after-servers : refusal
-          ≡ orElse (valuesFault (columnsOf sheet) values)
-          (orElse (randomFaultAt servers (shareSize (columnsOf sheet)) random)
-          (check (leb (servers * (6 + 4 * shareSize (columnsOf sheet))) room) 14))
-      after-servers = after-sheet ∙ rw (le-leb 2 servers some, le-leb servers 8 few) (or-none _)
+      pub refused-random : (randomFaultAt servers (shareSize (columnsOf sheet)) random ≡ 0 → ⊥)
+          → refusal ≡ randomFaultAt servers (shareSize (columnsOf sheet)) random
+      refused-random z = after-values ∙ or-first _ _ z
 
-      pub refused-values : (valuesFault (columnsOf sheet) values ≡ 0 → ⊥) → refusal ≡ valuesFault (columnsOf sheet) values
-      refused-values z = after-servers ∙ or-first _ _ z
+      module _ (sound : randomFaultAt servers (shareSize (columnsOf sheet)) random ≡ 0) where
+        after-random : refusal ≡ check (leb (servers * (6 + 4 * shareSize (columnsOf sheet))) room) 14
+        after-random = after-values ∙ rw sound (or-none _)
 
-      module _ (legal : valuesFault (columnsOf sheet) values ≡ 0) where
-        after-values : refusal
-            ≡ orElse (randomFaultAt servers (shareSize (columnsOf sheet)) random)
-            (check (leb (servers * (6 + 4 * shareSize (columnsOf sheet))) room) 14)
-        after-values = after-servers ∙ rw legal (or-none _)
+        pub refused-room : room < servers * (6 + 4 * shareSize (columnsOf sheet)) → refusal ≡ 14
+        refused-room h = after-random ∙ rw (lt-leb (servers * (6 + 4 * shareSize (columnsOf sheet))) room h)
 
-        pub refused-random : (randomFaultAt servers (shareSize (columnsOf sheet)) random ≡ 0 → ⊥)
-            → refusal ≡ randomFaultAt servers (shareSize (columnsOf sheet)) random
-        refused-random z = after-values ∙ or-first _ _ z
+        pub not-refused : servers * (6 + 4 * shareSize (columnsOf sheet)) ≤ room → refusal ≡ 0
+        not-refused h = after-random ∙ rw (le-leb (servers * (6 + 4 * shareSize (columnsOf sheet))) room h)
 
-        module _ (sound : randomFaultAt servers (shareSize (columnsOf sheet)) random ≡ 0) where
-          after-random : refusal ≡ check (leb (servers * (6 + 4 * shareSize (columnsOf sheet))) room) 14
-          after-random = after-values ∙ rw sound (or-none _)
-
-          pub refused-room : room < servers * (6 + 4 * shareSize (columnsOf sheet)) → refusal ≡ 14
-          refused-room h = after-random ∙ rw (lt-leb (servers * (6 + 4 * shareSize (columnsOf sheet))) room h)
-
-          pub not-refused : servers * (6 + 4 * shareSize (columnsOf sheet)) ≤ room → refusal ≡ 0
-          not-refused h = after-random ∙ rw (le-leb (servers * (6 + 4 * shareSize (columnsOf sheet))) room h)
+-- S is within its limits where neither S nor the values are refused
+pub within-limits : (servers v : ℕ) → orElse (serversFault servers) v ≡ 0 → (2 ≤ servers) × (servers ≤ 8)
+within-limits servers v h = within-both 2 8 servers (check-holds (within 2 8 servers) 1 (or-zero (serversFault servers) v h .0))
 
 -- ---- where nothing is refused
 module _ (sheet values random out : List ℕ) (servers : ℕ) (k : Counts) (counted : Counted sheet k) where

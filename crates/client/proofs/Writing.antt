@@ -1,13 +1,13 @@
 -- Messages written piece after piece, each where the one before ends: the whole is put there as one run (`grow`).
 -- Assumes that the run lies within the buffer.
-use mathlib.Core.Path.{_≡_, refl, sym, ap, _∙_}
-use mathlib.Core.List.{List, [], _∷_, _++_, append-assoc}
+use mathlib.Core.Path.{_≡_, sym, ap, _∙_}
+use mathlib.Core.List.{List, _++_, append-assoc}
 use Prim.Native.Nat.{ℕ, zero, suc, _+_, _-_, _*_, _≤_, _<_}
 use native.Mathlib.Nat.{mul-zero, mul-le-mul-left}
 use native.Mathlib.Numerals.{add-one}
 use native.Mathlib.Omega.{arith}
 use lib.ListN.{length, take, drop, length-append}
-use Rattle.words.specs.Bytes.{bytesOf, bytesOfAll, part, splice}
+use Rattle.words.specs.Bytes.{bytesOfAll, part, splice}
 use Rattle.words.proofs.Splice.{length-part, splice-none}
 use Rattle.words.proofs.Loops.{grow}
 use Rattle.rules.specs.Settings.{document01}
@@ -28,7 +28,8 @@ first-written s id xs h =
     grow s 0 (headerBytes 33 id 0) (bytesOfAll 4 xs) 6 (length-header 33 id 0) h ∙ ap (splice s 0) (share-message id 0 xs)
 
 pub other-written : (s random : List ℕ) (at size id j n : ℕ) → at + 6 ≤ length s → n ≡ j + 1
-    → splice (splice s at (headerBytes 33 id n)) (at + 6) (take (16 + 4 * size * j + 4 * size - (16 + 4 * size * j)) (drop (16 + 4 * size * j) random))
+    → splice (splice s at (headerBytes 33 id n)) (at + 6)
+    (take (16 + 4 * size * j + 4 * size - (16 + 4 * size * j)) (drop (16 + 4 * size * j) random))
     ≡ splice s at (otherMessage random size id j)
 unfolding otherMessage
 other-written s random at size id j n h e =

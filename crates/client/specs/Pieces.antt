@@ -9,7 +9,7 @@ use lib.Dec.{eqb}
 use lib.ListN.{length, getD}
 use Rattle.algebra.specs.Lists.{tabulate}
 use Rattle.algebra.specs.Ops.{minus}
-use Rattle.words.specs.Bytes.{bytesOfAll, part, elementsOf, allBelow}
+use Rattle.words.specs.Bytes.{part, elementsOf, allBelow}
 use Rattle.records.specs.Outcome.{ok}
 use Rattle.field.specs.Residues.{prime, residues, Elements}
 use Rattle.rules.specs.Settings.{document01}

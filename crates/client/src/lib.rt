@@ -2,7 +2,9 @@
 ghost use mathlib.Core.Path.{_≡_};
 ghost use Prim.Native.Nat.{_+_, _≤_};
 ghost use Rattle.words.specs.Bytes.{splice};
+ghost use Rattle.records.specs.Outcome.{orElse};
 ghost use Rattle.rules.specs.Settings.{document01};
+ghost use Rattle.rules.specs.Columns.{serversFault};
 ghost use Rattle.rules.specs.Making.{makeRefusal, makeBytes};
 ghost use Rattle.client.specs.Calls.{Makes};
 ghost use Rattle.client.specs.Pieces.{randomFaultAt, Few, Counted, Makeable};
@@ -23,13 +25,33 @@ fn size_of(counts: Counts) -> usize
     counts.entries + (counts.gates + counts.gates) + 6
 }
 
+// The first of two refusals; 0 is none.
+fn or_else(a: u32, b: u32) -> u32
+    ensures { λ r. ⌜ r ≡ orElse a b ⌝ }
+{
+    if a == 0 { b } else { a }
+}
+
+// The refusal of S: 2, or 0 for none.
+fn servers_refusal(servers: u32) -> u32
+    ensures { λ r. ⌜ r ≡ serversFault servers ⌝ }
+{
+    if servers < 2 {
+        return 2;
+    }
+    if 8 < servers {
+        return 2;
+    }
+    0
+}
+
 // The refusal of the random elements for S servers and shares of `size` elements: 6, or 0 for none.
 fn random_refusal(random: &[u8], servers: u32, size: usize) -> u32
     requires { ⌜ Few servers size ⌝ }
     ensures { λ r. ⌜ r ≡ randomFaultAt servers size (now (random .entry)) ⌝ }
 {
-    let others = (servers - 1) as usize;
-    if random.len() != 4 * (others * size + 4) {
+    let shares = (servers - 1) as usize;
+    if random.len() != 4 * (shares * size + 4) {
         return 6;
     }
     if words::elements_below(random, field::P) {
@@ -50,15 +72,11 @@ fn make_refusal(
     requires { ⌜ Counted (now sheet) counts ⌝ }
     ensures { λ r. ⌜ r ≡ makeRefusal document01 (now (sheet .entry)) servers (now (values .entry)) (now (random .entry)) room ⌝ }
 {
-    if servers < 2 {
-        return 2;
-    }
-    if 8 < servers {
-        return 2;
-    }
+    let limits = servers_refusal(servers);
     let unsound = values_refusal(sheet, counts.columns, values);
-    if unsound != 0 {
-        return unsound;
+    let early = or_else(limits, unsound);
+    if early != 0 {
+        return early;
     }
     let size = size_of(counts);
     let fault = random_refusal(random, servers, size);
@@ -103,7 +121,8 @@ pub fn make(
     random: &[u8],
     out: &mut [u8],
 ) -> Written
-    ensures { λ r. ⌜ Makes (now (sheet .entry)) servers id (now (values .entry)) (now (random .entry)) (now (out .entry)) r (now (out .exit)) ⌝ }
+    ensures { λ r. ⌜ Makes (now (sheet .entry)) servers id (now (values .entry)) (now (random .entry))
+        (now (out .entry)) r (now (out .exit)) ⌝ }
 {
     match read(sheet) {
         Reading::Refused(n) => Written::Refused(n),

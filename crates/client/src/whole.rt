@@ -8,7 +8,6 @@ ghost use Rattle.field.specs.Residues.{prime, residues};
 ghost use Rattle.rules.specs.Columns.{columnsOf};
 ghost use Rattle.walk.specs.Walks.{Entries};
 ghost use Rattle.client.specs.Pieces.{hValues, PlaceOfH, Legal, entriesFrom, wholeOf, Fillable};
-use proof::fill_h;
 use sheet::Counts;
 use sheet::values::encode_columns;
 
@@ -38,7 +37,7 @@ fn put_h(sheet: &[u8], x: &[u32], l: usize, m: usize, u: u32, v: u32, w: &mut [u
 {
     let first = l + 2;
     let last = l + 3 + (m + m);
-    fill_h(sheet, x, u, v, &mut w[first..last]);
+    proof::fill_h(sheet, x, u, v, &mut w[first..last]);
 }
 
 // The same of the values, whose entries are encoded in a place of their own.

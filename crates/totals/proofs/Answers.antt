@@ -1,15 +1,14 @@
 -- What joining answers by what the judge says: a refusal leaves the buffer; messages judged fit have all that the writing of
 -- their totals asks for, and what is written is rules' totals (`join-totals`). Assumes nothing.
-use mathlib.Core.Path.{_≡_, refl, sym, ap, _∙_}
+use mathlib.Core.Path.{_≡_, refl, sym, _∙_}
 use mathlib.Core.Bool.{Bool, true, false, cond}
 use mathlib.Core.List.{List}
-use Prim.Native.Nat.{ℕ, zero, suc, _+_, _*_, _/_, _≤_, _<_}
+use Prim.Native.Nat.{ℕ, _*_, _/_, _≤_, _<_}
 use native.Mathlib.Nat.{mul-le-mul-left}
 use native.Mathlib.Omega.{arith}
 use borrow.Author.Tests.{leb-true, eqb-true, eqb-false, ne-eqb}
 use lib.Dec.{leb, eqb}
 use lib.ListN.{length}
-use Rattle.records.specs.Outcome.{orElse}
 use Rattle.records.specs.Answers.{answered, onlyIf}
 use Rattle.records.specs.declared.Written.the-variants as written
 use Rattle.records.proofs.Outcome.{or-zero}

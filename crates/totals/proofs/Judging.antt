@@ -1,20 +1,18 @@
--- The refusals of joining in their order: each check that passes is put away, and the first that fails is the answer. And
--- messages that are judged fit have all that the writing of their totals asks for. Assumes nothing.
-use mathlib.Core.Path.{_≡_, refl, sym, ap, _∙_}
-use mathlib.Core.Bool.{Bool, true, false, cond}
+-- The refusals of joining in their order: each check that passes is put away, and the first that fails is the answer.
+-- Assumes nothing.
+use mathlib.Core.Path.{_≡_, sym, _∙_}
 use mathlib.Core.List.{List}
 use Prim.Native.Nat.{ℕ, _*_, _≤_, _<_}
 use native.Mathlib.Omega.{arith}
-use borrow.Author.Tests.{lt-leb, le-leb, leb-true, eq-eqb, ne-eqb}
-use lib.Dec.{leb, eqb}
-use lib.ListN.{length}
+use borrow.Author.Tests.{lt-leb, le-leb, ne-eqb}
+use lib.Dec.{leb}
 use Rattle.records.specs.Outcome.{ok, orElse}
 use Rattle.records.specs.Answers.{answered}
 use Rattle.records.specs.declared.Written.the-variants as written
-use Rattle.records.proofs.Outcome.{or-none, or-first, or-zero, or-assoc}
+use Rattle.records.proofs.Outcome.{or-none, or-first, or-assoc}
 use Rattle.rules.specs.Settings.{document01}
-use Rattle.rules.specs.Columns.{within, check, publishedIn, readSheet, sheetFault, columnsOf}
-use Rattle.rules.specs.Columns.{serversFault, returnsFault, totalsFault}
+use Rattle.rules.specs.Columns.{check, publishedIn, readSheet, sheetFault, columnsOf}
+use Rattle.rules.specs.Columns.{returnsFault, totalsFault}
 use Rattle.rules.specs.Joining.{joinedFault, joinRefusal}
 use Rattle.rules.proofs.Refusals.{sheet-fault, sheet-limits}
 use Rattle.message.specs.Totals.{Limited, joinedFaultAt}

@@ -14,7 +14,6 @@ use Rattle.rules.specs.Settings.{document01}
 use Rattle.rules.specs.Columns.{publishedIn, columnsOf}
 use Rattle.rules.specs.Joining.{joinRefusal, joinCount, joinBytes}
 use Rattle.message.specs.Totals.{totalAt, SummableTotals}
-use Rattle.totals.specs.declared.Joining.{Joining}
 use Rattle.totals.specs.declared.Joined.{Joined}
 use Rattle.totals.specs.declared.Joined.the-variants as answer
 

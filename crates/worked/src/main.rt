@@ -1,6 +1,7 @@
 // The worked examples of document 01, run on the code and printed.
 mod forms;
-mod judging;
+mod joining;
+mod returns;
 mod text;
 
 fn sheets() {
@@ -61,10 +62,72 @@ fn circuits() {
     forms::read_circuit(b"entry 1 of 1", 1, &[2, 1, 0]);
 }
 
+// The yes of the examples, and the false entry 2 with h(2) = 2147483645. Server 1's share is all zeros in both.
+fn judging() {
+    let mut nothing = [0u8; 42];
+    nothing[0] = 33;
+    nothing[1] = 9;
+    nothing[5] = 1;
+    returns::judge_made(&mut [0u8; 84], &nothing, 4);
+    let lying = [
+        33,
+        9,
+        0,
+        0,
+        0,
+        0,
+        2,
+        0,
+        0,
+        0,
+        2,
+        0,
+        0,
+        0,
+        3,
+        0,
+        0,
+        0,
+        6,
+        0,
+        0,
+        0,
+        0,
+        0,
+        0,
+        0,
+        253,
+        255,
+        255,
+        127,
+        5,
+        0,
+        0,
+        0,
+        7,
+        0,
+        0,
+        0,
+        35,
+        0,
+        0,
+        0,
+    ];
+    text::write(b"a false entry 2\n");
+    returns::judge(&lying, &nothing, 2);
+    returns::judge(&lying, &nothing, 3);
+    returns::judge(&lying, &nothing, 1);
+    returns::judge(&lying, &nothing, 2147483646);
+    returns::judge(&lying, &nothing, 2147483647);
+}
+
 fn main() {
     sheets();
     late_fault();
     values();
     circuits();
-    judging::show();
+    judging();
+    returns::opens(128);
+    returns::opens(129);
+    joining::show();
 }

@@ -14,8 +14,12 @@ use borrow.Author.Needs.{needs}
 use Rattle.client.proofs.make.Statement.{statement}
 use Rattle.client.proofs.make.Tie as tie
 
+-- the function's entry
+abbrev start : tie.After-counts → tie.Start
+start c = c .before .before .before .before .before .before .before
+
 -- the sheet is read, and the counts are its columns'
-counted : (c : tie.After-counts) → Counted (c .before .before .before .before .before .before .before .args .sheet .now) (c .counts .given .0 .0)
+counted : (c : tie.After-counts) → Counted (start c .args .sheet .now) (c .counts .given .0 .0)
 counted c =
     let t = reading-counts _ _ (sym (c .before .before .read .ensures) ∙ c .counts .given .1) in
     record { is-read = t .0; counts-are = t .1 }
@@ -39,9 +43,12 @@ returns c =
 
 -- where it is not refused, the return can be made
 can : (c : tie.After-write-return-arg)
-    → Makeable (c .before .before .before .before .before .before .before .before .before .before .before .args .sheet .now) (c .before .before .before .before .counts .given .0 .0) (c .before .before .before .before .before .before .before .before .before .before .before .args .servers) (c .before .before .before .before .before .before .before .before .before .before .before .args .values .now)
-    (c .before .before .before .before .before .before .before .before .before .before .before .args .random .now) (c .before .before .before .before .before .before .before .before .before .before .before .args .out .now)
-can c = makeable _ _ _ _ _ _ (counted (c .before .before .before .before)) (sym (c .before .before .make-refusal .ensures) ∙ c .before .if1 .left)
+    → let a = start (c .before .before .before .before) .args in
+    let k = c .before .before .before .before .counts .given .0 .0 in
+    Makeable (a .sheet .now) k (a .servers) (a .values .now) (a .random .now) (a .out .now)
+can c =
+    let c4 = c .before .before .before .before in
+    makeable _ _ _ _ _ _ (counted c4) (sym (c .before .before .make-refusal .ensures) ∙ c .before .if1 .left)
 
 write-return-requires : tie.Need-write-return-requires
 write-return-requires c κs = can c
@@ -51,8 +58,12 @@ size-of-requires c κs =
     let m = room (counted (c .before .before .before .before .before .before .before)) in
     (m .entries-few, m .gates-few)
 
-size-is : (c : tie.After-size-of) → c .size-of .result ≡ shareSize (columnsOf (c .before .before .before .before .before .before .before .before .before .before .before .before .before .before .before .args .sheet .now))
-size-is c = sized (can (c .before .before .before .before)) (c .size-of .result) (c .size-of .ensures)
+size-is : (c : tie.After-size-of)
+    → let s = start (c .before .before .before .before .before .before .before .before) in
+    c .size-of .result ≡ shareSize (columnsOf (s .args .sheet .now))
+size-is c =
+    let c4 = c .before .before .before .before in
+    sized (can c4) (c .size-of .result) (c .size-of .ensures)
 
 small : (c : tie.After-size-of) → c .size-of .result ≤ 774
 small c = omega (arith, size-is c, room (counted (c .before .before .before .before .before .before .before .before)) .size-small)
@@ -65,8 +76,10 @@ add-t19 c = omega (arith, small c)
 
 mul-t20 : tie.Need-mul-t20
 mul-t20 c =
-    let few = can (c .before .before .before .before) .elements .few in
-    omega (arith, messages-small (c .before .before .before .before .before .before .before .before .before .before .before .before .before .before .before .args .servers) (c .size-of .result) (omega (arith, few)) (small c))
+    let c4 = c .before .before .before .before in
+    let c15 = c4 .before .before .before .before .before .before .before .before .before .before .before in
+    let few = can c4 .elements .few in
+    omega (arith, messages-small (c15 .args .servers) (c .size-of .result) (omega (arith, few)) (small c))
 
 returns-2 : tie.Need-returns-2
 returns-2 c =
@@ -78,8 +91,11 @@ same-length c = search needs
 
 returns-3 : tie.Need-returns-3
 returns-3 c =
-    made-done _ _ _ _ _ _ _ (sym (c .before .before .before .before .before .before .make-refusal .ensures) ∙ c .before .before .before .before .before .if1 .left)
-    (ap (λ (n : ℕ). c .before .before .before .before .before .before .before .before .before .before .before .before .before .before .before .args .servers * (6 + 4 * n)) (size-is c)) _ (c .before .before .before .write-return .ensures)
+    let c5 = c .before .before .before .before .before in
+    let c6 = c5 .before in
+    let c15 = c6 .before .before .before .before .before .before .before .before .before in
+    made-done _ _ _ _ _ _ _ (sym (c6 .make-refusal .ensures) ∙ c5 .if1 .left)
+    (ap (λ (n : ℕ). c15 .args .servers * (6 + 4 * n)) (size-is c)) _ (c .before .before .before .write-return .ensures)
 
 pub make-spec : {M : Type 1} → statement M
 make-spec =

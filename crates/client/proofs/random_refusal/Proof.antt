@@ -10,11 +10,11 @@ use borrow.Author.Needs.{needs}
 use Rattle.client.proofs.random_refusal.Statement.{statement}
 use Rattle.client.proofs.random_refusal.Tie as tie
 
-sub-others : tie.Need-sub-others
-sub-others c = search needs
+sub-shares : tie.Need-sub-shares
+sub-shares c = search needs
 
-cast-others : tie.Need-cast-others
-cast-others c = search needs
+cast-shares : tie.Need-cast-shares
+cast-shares c = search needs
 
 mul-if1 : tie.Need-mul-if1
 mul-if1 c =
@@ -50,8 +50,8 @@ pub random-refusal-spec : {M : Type 1} → statement M
 random-refusal-spec =
     tie.close
     (tie.spec
-    sub-others
-    cast-others
+    sub-shares
+    cast-shares
     mul-if1
     add-if1
     mul-if1-2

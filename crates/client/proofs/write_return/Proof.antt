@@ -1,7 +1,7 @@
 -- `client::write_return` meets its contract: the whole list, server 0's message of it, and the others behind that
 -- (`return-written`). Assumes nothing.
-use mathlib.Core.Path.{_≡_, sym, ap, _∙_}
-use Prim.Native.Nat.{ℕ, _≤_}
+use mathlib.Core.Path.{_≡_, sym, _∙_}
+use Prim.Native.Nat.{_≤_}
 use native.Mathlib.Omega.{arith}
 use lib.ListN.{length, length-append}
 use lib.Seq.{length-take-le, take-at}
@@ -9,7 +9,6 @@ use Rattle.words.specs.Bytes.{elementsOf}
 use Rattle.rules.specs.Columns.{columnsOf}
 use Rattle.rules.specs.Judging.{shareSize}
 use Rattle.rules.specs.Making.{makeBytes}
-use Rattle.client.specs.Pieces.{wholeOf}
 use Rattle.client.proofs.Room.{room}
 use Rattle.client.proofs.Given.{sized, fillable, one-fits, first-asks, others-ask, all-bytes}
 use Rattle.client.proofs.Messages.{return-written}
@@ -61,12 +60,15 @@ slice-aggregate-write-first c =
 
 write-first-requires : tie.Need-write-first-requires
 write-first-requires c κs =
+    let c10 = c .before .before .before .before .before .before .before .before .before .before in
     let l = long (c .before .before .before) in
-    rw (take-at _ _ _ l, c .before .before .before .fill-whole .ensures) (first-asks (c .before .before .before .before .before .before .before .before .before .before .pre))
+    rw (take-at _ _ _ l, c .before .before .before .fill-whole .ensures) (first-asks (c10 .pre))
 
 write-others-requires : tie.Need-write-others-requires
 write-others-requires c κs =
-    others-ask (c .before .before .before .before .before .before .before .before .before .before .before .before .before .before .pre) (c .before .before .before .before .before .before .before .before .before .size-of .result) (c .before .before .before .write-first .last .1 .1 .1 .1 .0) (size-is (c .before .before .before .before .before .before .before .before .before))
+    let c9 = c .before .before .before .before .before .before .before .before .before in
+    let c14 = c9 .before .before .before .before .before in
+    others-ask (c14 .pre) (c9 .size-of .result) (c .before .before .before .write-first .last .1 .1 .1 .1 .0) (size-is c9)
     (c .before .before .before .write-first .kept .1 .1 .1 .1 .0)
 
 same-length : tie.Need-same-length
@@ -75,18 +77,23 @@ same-length c = search needs
 returns : tie.Need-returns
 unfolding makeBytes
 returns c =
-    let s = c .before .before .before .before .before .before .before .before .before .before .before .before .before .before .before .before .before in
+    let c6 = c .before .before .before .before .before .before in
+    let c10 = c6 .before .before .before .before in
+    let c12 = c10 .before .before in
+    let c14 = c12 .before .before in
+    let c17 = c14 .before .before .before in
+    let s = c17 in
     let a = s .args in
-    let l = long (c .before .before .before .before .before .before .before .before .before .before) in
+    let l = long c10 in
     rw (
       c .before .before .write-others .ensures,
-      c .before .before .before .before .before .before .write-first .ensures,
+      c6 .write-first .ensures,
       take-at _ _ _ l,
-      c .before .before .before .before .before .before .before .before .before .before .fill-whole .ensures,
-      size-is (c .before .before .before .before .before .before .before .before .before .before .before .before),
+      c10 .fill-whole .ensures,
+      size-is c12,
     )
     (return-written (columnsOf (a .sheet .now)) (a .servers) (elementsOf 4 (a .values .now)) (a .random .now) (s .pre .elements)
-    (all-bytes (a .random .now) (λ i. omega (arith, c .before .before .before .before .before .before .before .before .before .before .before .before .before .before .shared-slice-known3 .given i))) (a .out .now) (a .id) (omega (arith, s .pre .some))
+    (all-bytes (a .random .now) (λ i. omega (arith, c14 .shared-slice-known3 .given i))) (a .out .now) (a .id) (omega (arith, s .pre .some))
     (one-fits (s .pre)))
 
 pub write-return-spec : {M : Type 1} → statement M

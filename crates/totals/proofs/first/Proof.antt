@@ -1,5 +1,5 @@
 -- `totals::first` meets its contract: by the first number, as the definition goes. Assumes nothing.
-use mathlib.Core.Path.{_≡_, sym}
+use mathlib.Core.Path.{sym}
 use Rattle.records.proofs.Outcome.{or-none, or-first}
 use Rattle.totals.proofs.first.Statement.{statement}
 use Rattle.totals.proofs.first.Tie as tie

@@ -1,5 +1,5 @@
 -- `totals::join` meets its contract: the answer of the judge decides (`joins-refused`, `joins-done`). Assumes nothing.
-use mathlib.Core.Path.{_≡_, sym, _∙_}
+use mathlib.Core.Path.{sym, _∙_}
 use borrow.Author.Needs.{needs}
 use Rattle.totals.proofs.Answers.{Fit, judged-fit, joins-refused, joins-done, fit-joinable}
 use Rattle.totals.proofs.join.Statement.{statement}

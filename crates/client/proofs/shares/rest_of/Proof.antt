@@ -1,10 +1,5 @@
 -- `client::shares::rest_of` meets its contract: the words lie within the random bytes and are elements (`random-words`).
 -- Assumes nothing.
-use mathlib.Core.Path.{_∙_, ap, sym}
-use native.Mathlib.Nat.{mod-lt}
-use lib.Dec.{lit<}
-use Rattle.field.proofs.Below.{sum-below}
-use Rattle.message.specs.Words.{sumOf}
 use Rattle.message.proofs.Words.{sum-element}
 use Rattle.client.specs.Pieces.{restOf}
 use Rattle.client.proofs.RandomWords.{random-words}

@@ -1,5 +1,4 @@
 -- `client::shares::write_first` meets its contract: the header, then the elements behind it. Assumes nothing.
-use mathlib.Core.Path.{_∙_, ap}
 use native.Mathlib.Omega.{arith}
 use Rattle.client.proofs.Writing.{first-written}
 use borrow.Author.Needs.{needs}

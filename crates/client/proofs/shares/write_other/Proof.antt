@@ -1,5 +1,5 @@
 -- `client::shares::write_other` meets its contract: the header, then the part of the random bytes. Assumes nothing.
-use mathlib.Core.Path.{refl, _∙_, ap}
+use mathlib.Core.Path.{refl}
 use native.Mathlib.Omega.{arith}
 use Rattle.client.proofs.Writing.{other-written}
 use borrow.Author.Needs.{needs}

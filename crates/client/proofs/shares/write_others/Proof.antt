@@ -12,7 +12,8 @@ use Rattle.client.proofs.shares.write_others.Statement.{statement}
 use Rattle.client.proofs.shares.write_others.Tie as tie
 
 abbrev Inv-loop : tie.InvT-loop
-Inv-loop random others size id out₀ j₀ out j = (j ≤ others) × (out ≡ splice out₀ (messageBytes size) (otherMessages random size id j)) × (length out ≡ length out₀)
+Inv-loop random others size id out₀ j₀ out j =
+    (j ≤ others) × (out ≡ splice out₀ (messageBytes size) (otherMessages random size id j)) × (length out ≡ length out₀)
 
 abbrev μ-loop : tie.MeasureT-loop
 μ-loop random others size id out₀ j₀ out j = others - j
@@ -36,11 +37,14 @@ loop-less c = search needs
 
 loop-again : tie.Need-loop-again Inv-loop μ-loop
 loop-again c =
-    let s = c .before .before .before .before .before .before .before .before in
-    let l = c .before .before .before .before .before .loop in (
+    let c4 = c .before .before .before .before in
+    let c5 = c4 .before in
+    let c8 = c5 .before .before .before in
+    let s = c8 in
+    let l = c5 .loop in (
       search needs,
       c .before .before .write-other .ensures
-          ∙ others-next (s .pre .0) (s .args .out .now) (s .pre .1) (l .j) (c .before .before .before .before .loop-test .taken) (s .args .id) (l .out) (l .inv .1),
+          ∙ others-next (s .pre .0) (s .args .out .now) (s .pre .1) (l .j) (c4 .loop-test .taken) (s .args .id) (l .out) (l .inv .1),
       search needs,
     )
 

@@ -2,7 +2,6 @@
 -- (`one-more`); the measure is what is left of them. Assumes nothing.
 use mathlib.Core.Path.{_≡_, refl, _∙_}
 use Prim.Native.Nat.{_≤_, _-_}
-use native.Mathlib.Omega.{arith}
 use lib.ListN.{length}
 use Rattle.field.proofs.Below.{member-below}
 use Rattle.client.proofs.FirstShare.{upTo, none-yet, one-more, all-there}
@@ -49,12 +48,15 @@ loop-less c = search needs
 
 loop-again : tie.Need-loop-again Inv-loop μ-loop
 loop-again c =
-    let s = c .before .before .before .before .before .before .before .before .before .before .before in
-    let l = c .before .before .before .before .before .before .before .loop in (
+    let c6 = c .before .before .before .before .before .before in
+    let c7 = c6 .before in
+    let c11 = c7 .before .before .before .before in
+    let s = c11 in
+    let l = c7 .loop in (
       search needs,
       c .before .before .write-u32 .ensures
           ∙ one-more (s .args .random .now) (s .args .others) (s .args .w .now) (s .args .out .now) (l .out) (l .e) _
-          (s .pre .2) (c .before .before .before .before .before .before .loop-test .taken) (l .inv .1) (c .before .before .before .rest-of .ensures),
+          (s .pre .2) (c6 .loop-test .taken) (l .inv .1) (c .before .before .before .rest-of .ensures),
       search needs,
     )
 

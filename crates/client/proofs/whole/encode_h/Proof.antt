@@ -1,6 +1,6 @@
 -- `client::whole::encode_h` meets its contract: what is lent to `put_h` are just the entries (`just-entries`).
 -- Assumes nothing.
-use mathlib.Core.Path.{_≡_, sym, ap, _∙_}
+use mathlib.Core.Path.{_≡_, sym, _∙_}
 use native.Mathlib.Omega.{arith}
 use lib.ListN.{length, length-append}
 use lib.Seq.{length-take-le, take-at}
@@ -21,11 +21,17 @@ encode-columns-requires c κs =
     let s = c .before .before .before .before in
     encodable-just (s .pre .0) _ (length-take-le _ _ (s .pre .1 .entries-few) ∙ s .pre .1 .entries-are)
 
+-- the function's entry
+abbrev start : tie.After-encode-columns → tie.Start
+start c = c .before .before .before .before .before
+
 -- what the first l places hold then
 given : (c : tie.After-encode-columns)
-    → c .encode-columns .last .1 .1 .0 ≡ entriesFrom (c .before .before .before .before .before .args .sheet .now) (c .before .before .before .before .before .args .values .now)
+    → c .encode-columns .last .1 .1 .0
+    ≡ entriesFrom (start c .args .sheet .now) (start c .args .values .now)
 given c =
-    let s = c .before .before .before .before .before in
+    let c5 = c .before .before .before .before .before in
+    let s = c5 in
     c .encode-columns .ensures
     ∙ just-entries (s .pre .0) _ (length-take-le _ _ (s .pre .1 .entries-few) ∙ s .pre .1 .entries-are)
 

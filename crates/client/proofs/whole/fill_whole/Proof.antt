@@ -1,7 +1,6 @@
 -- `client::whole::fill_whole` meets its contract: the pieces are put there one after another (`whole-written`).
 -- Assumes nothing.
-use mathlib.Core.Path.{_≡_, sym, ap, _∙_}
-use Prim.Native.Nat.{ℕ, _+_}
+use mathlib.Core.Path.{_∙_}
 use native.Mathlib.Omega.{arith}
 use Rattle.words.specs.Bytes.{elementsOf}
 use Rattle.field.proofs.Below.{member-below}
@@ -37,37 +36,52 @@ put-two-requires c κs =
 
 encode-h-requires : tie.Need-encode-h-requires
 encode-h-requires c κs =
-    let s = c .before .before .before .before .before .before .before .before .before .before .before .before .before .before .before .before .before in
+    let c7 = c .before .before .before .before .before .before .before in
+    let c11 = c7 .before .before .before .before in
+    let c12 = c11 .before in
+    let c17 = c12 .before .before .before .before .before in
+    let s = c17 in
     let z = elementsOf 4 (s .args .random .now) in (
       legal-values (s .pre),
-      place-of-h (s .pre) _ (c .before .before .before .put-two .kept .0 ∙ c .before .before .before .before .before .before .before .encode-columns .kept .1 .1 .0),
-      rw (c .before .before .before .before .before .before .before .before .before .before .before .before .element .ensures) (member-below z 0 (s .pre .elements)),
-      rw (c .before .before .before .before .before .before .before .before .before .before .before .element2 .ensures) (member-below z 1 (s .pre .elements)),
+      place-of-h (s .pre) _ (c .before .before .before .put-two .kept .0 ∙ c7 .encode-columns .kept .1 .1 .0),
+      rw (c12 .element .ensures) (member-below z 0 (s .pre .elements)),
+      rw (c11 .element2 .ensures) (member-below z 1 (s .pre .elements)),
     )
 
 add-put-product : tie.Need-add-put-product
 add-put-product c =
-    let m = room (c .before .before .before .before .before .before .before .before .before .before .before .before .before .before .before .before .before .before .before .before .before .pre .counted) in
+    let c11 = c .before .before .before .before .before .before .before .before .before .before .before in
+    let c21 = c11 .before .before .before .before .before .before .before .before .before .before in
+    let m = room (c21 .pre .counted) in
     omega (arith, m .entries-few, m .gates-few)
 
 add-put-product-2 : tie.Need-add-put-product-2
 add-put-product-2 c =
-    let m = room (c .before .before .before .before .before .before .before .before .before .before .before .before .before .before .before .before .before .before .before .before .before .pre .counted) in
+    let c11 = c .before .before .before .before .before .before .before .before .before .before .before in
+    let c21 = c11 .before .before .before .before .before .before .before .before .before .before in
+    let m = room (c21 .pre .counted) in
     omega (arith, m .entries-few, m .gates-few)
 
 add-put-product-3 : tie.Need-add-put-product-3
 add-put-product-3 c =
-    let m = room (c .before .before .before .before .before .before .before .before .before .before .before .before .before .before .before .before .before .before .before .before .before .pre .counted) in
+    let c11 = c .before .before .before .before .before .before .before .before .before .before .before in
+    let c21 = c11 .before .before .before .before .before .before .before .before .before .before in
+    let m = room (c21 .pre .counted) in
     omega (arith, m .entries-few, m .gates-few)
 
 put-product-requires : tie.Need-put-product-requires
 put-product-requires c κs =
-    let s = c .before .before .before .before .before .before .before .before .before .before .before .before .before .before .before .before .before .before .before .before .before in
+    let c7 = c .before .before .before .before .before .before .before in
+    let c11 = c7 .before .before .before .before in
+    let c13 = c11 .before .before in
+    let c14 = c13 .before in
+    let c21 = c14 .before .before .before .before .before .before .before in
+    let s = c21 in
     let z = elementsOf 4 (s .args .random .now) in
-    let e = c .before .before .before .encode-h .kept .1 .1 .1 .1 .1 .1 .0 ∙ c .before .before .before .before .before .before .before .put-two .kept .0 ∙ c .before .before .before .before .before .before .before .before .before .before .before .encode-columns .kept .1 .1 .0 in (
+    let e = c .before .before .before .encode-h .kept .1 .1 .1 .1 .1 .1 .0 ∙ c7 .put-two .kept .0 ∙ c11 .encode-columns .kept .1 .1 .0 in (
       omega (arith, e, fits (s .pre)),
-      rw (c .before .before .before .before .before .before .before .before .before .before .before .before .before .before .element3 .ensures) (member-below z 2 (s .pre .elements)),
-      rw (c .before .before .before .before .before .before .before .before .before .before .before .before .before .element4 .ensures) (member-below z 3 (s .pre .elements)),
+      rw (c14 .element3 .ensures) (member-below z 2 (s .pre .elements)),
+      rw (c13 .element4 .ensures) (member-below z 3 (s .pre .elements)),
     )
 
 same-length : tie.Need-same-length
@@ -75,18 +89,26 @@ same-length c = search needs
 
 returns : tie.Need-returns
 returns c =
-    let s = c .before .before .before .before .before .before .before .before .before .before .before .before .before .before .before .before .before .before .before .before .before .before .before .before in
+    let c6 = c .before .before .before .before .before .before in
+    let c10 = c6 .before .before .before .before in
+    let c14 = c10 .before .before .before .before in
+    let c16 = c14 .before .before in
+    let c17 = c16 .before in
+    let c18 = c17 .before in
+    let c19 = c18 .before in
+    let c24 = c19 .before .before .before .before .before in
+    let s = c24 in
     let a = s .args in
     let m = room (s .pre .counted) in
     rw (
       c .before .before .put-product .ensures,
-      c .before .before .before .before .before .before .encode-h .ensures,
-      c .before .before .before .before .before .before .before .before .before .before .put-two .ensures,
-      c .before .before .before .before .before .before .before .before .before .before .before .before .before .before .encode-columns .ensures,
-      c .before .before .before .before .before .before .before .before .before .before .before .before .before .before .before .before .before .before .before .element .ensures,
-      c .before .before .before .before .before .before .before .before .before .before .before .before .before .before .before .before .before .before .element2 .ensures,
-      c .before .before .before .before .before .before .before .before .before .before .before .before .before .before .before .before .before .element3 .ensures,
-      c .before .before .before .before .before .before .before .before .before .before .before .before .before .before .before .before .element4 .ensures,
+      c6 .encode-h .ensures,
+      c10 .put-two .ensures,
+      c14 .encode-columns .ensures,
+      c19 .element .ensures,
+      c18 .element2 .ensures,
+      c17 .element3 .ensures,
+      c16 .element4 .ensures,
     )
     (whole-written _ _ (length-entries (legal-values (s .pre))) _ _ _ _ (a .w .now) (a .counts .entries) (a .counts .gates)
     (s .pre .long) (m .entries-are) (m .gates-are))

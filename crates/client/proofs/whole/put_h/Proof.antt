@@ -1,5 +1,5 @@
 -- `client::whole::put_h` meets its contract: the part that was lent is put back filled (`part-put`). Assumes nothing.
-use mathlib.Core.Path.{_≡_, ap, _∙_}
+use mathlib.Core.Path.{ap, _∙_}
 use Prim.Native.Nat.{ℕ, _+_}
 use native.Mathlib.Omega.{arith}
 use borrow.Rule.Slice.PartMut.{mid-len}

@@ -1,0 +1,2 @@
+-- What the functions that write text do to a buffer.
+pub mod Text

@@ -1,15 +1,16 @@
 # The commands of the README, and what is handy beside them.
-.PHONY: help demo run test fuzz format
+.PHONY: help demo run test fuzz bench format
 
 # The core as a C library, and the sources that it is made from.
 ARCHIVE := target/staticlib/libpool.a
 SOURCES := crates.txt $(shell find crates -name '*.rt' -o -name '*.antt')
 
 help:
-	@echo 'make demo    run a whole pool on this machine, from C'
+	@echo 'make demo    prove the core and run a whole pool on this machine, from C'
 	@echo 'make run     prove what is needed, then run the worked examples'
 	@echo 'make test    the merge gate: prove everything from nothing and run every test'
 	@echo 'make fuzz    feed arbitrary bytes to the C functions for a minute (FUZZ_SECONDS=..)'
+	@echo 'make bench   measure the library, with the second program beside it'
 	@echo 'make format  lay out the sources'
 
 demo: target/hosts/demo
@@ -34,6 +35,9 @@ test:
 
 fuzz:
 	@hosts/harden/fuzz
+
+bench:
+	@bench/run
 
 format:
 	@rt fmt

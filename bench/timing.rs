@@ -5,7 +5,7 @@ pub const ROUNDS: usize = 31;
 const ROUND_NS: f64 = 1_000_000.0;
 
 // Nanoseconds for one of `times` calls.
-fn time(call: &mut dyn FnMut(), times: usize) -> f64 {
+pub fn time(call: &mut dyn FnMut(), times: usize) -> f64 {
     let start = Instant::now();
     for _ in 0..times {
         call();
@@ -18,21 +18,26 @@ fn median(mut times: Vec<f64>) -> f64 {
     times[times.len() / 2]
 }
 
+// The medians of both, where each tells its own time.
+pub fn medians(ours: &mut dyn FnMut() -> f64, other: &mut dyn FnMut() -> f64) -> (f64, f64) {
+    let (mut a, mut b) = (Vec::new(), Vec::new());
+    for round in 0..ROUNDS {
+        if round % 2 == 0 {
+            a.push(ours());
+            b.push(other());
+        } else {
+            b.push(other());
+            a.push(ours());
+        }
+    }
+    (median(a), median(b))
+}
+
 // The medians of both, in nanoseconds for a call.
 pub fn compare(ours: &mut dyn FnMut(), other: &mut dyn FnMut()) -> (f64, f64) {
     let once = time(other, 100).max(1.0);
     let times = (ROUND_NS / once) as usize + 1;
-    let (mut a, mut b) = (Vec::new(), Vec::new());
-    for round in 0..ROUNDS {
-        if round % 2 == 0 {
-            a.push(time(ours, times));
-            b.push(time(other, times));
-        } else {
-            b.push(time(other, times));
-            a.push(time(ours, times));
-        }
-    }
-    (median(a), median(b))
+    medians(&mut || time(ours, times), &mut || time(other, times))
 }
 
 pub fn cpu() -> String {

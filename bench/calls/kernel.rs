@@ -1,0 +1,90 @@
+// Sharing and making against the bare kernels: the inverses, products, powers and inner products that the call works
+// with, through libkernels.a, on lent slices of the same lengths. The kernel leaves out the products member by member
+// (three for each point of the bases, and those of h), for which it has no function, and everything on bytes.
+use crate::series::{series, Call, Ours};
+use crate::setting::{Setting, ROOM};
+use crate::{kernels, speed, timing};
+use std::hint::black_box;
+
+// Work space, as long as the largest sheet asks.
+struct Space {
+    inverses: Vec<u32>,
+    products: Vec<u32>,
+    up: Vec<u32>,
+    down: Vec<u32>,
+    given: Vec<u32>,
+}
+
+impl Space {
+    fn new() -> Space {
+        let given = (0..1024u32).map(|i| i.wrapping_mul(0x9e3779b9) % 2147483647).collect();
+        let empty = || vec![0; 1024];
+        Space { inverses: empty(), products: empty(), up: empty(), down: empty(), given }
+    }
+}
+
+fn inner(a: &[u32], b: &[u32]) {
+    let mut out = 0;
+    assert!(kernels::inner(black_box(a), b, &mut out) == 0);
+    black_box(out);
+}
+
+// The inverses of the factorials below n, from the inverses of 1 to m.
+fn factorials(w: &mut Space, m: usize, n: usize) {
+    assert!(kernels::inverses(&mut w.inverses[..m]) == 0);
+    assert!(kernels::running_products(&w.inverses[..m], &mut w.products[..n]) == 0);
+}
+
+// The products before and after each of n points.
+fn basis(w: &mut Space, r: u32, n: usize) {
+    assert!(kernels::ascending(r, &mut w.up[..n]) == 0);
+    assert!(kernels::descending(r, &mut w.down[..n]) == 0);
+}
+
+// Taking a share: f and g through M + 1 points, h through 2M + 1, and K tests.
+fn share(w: &mut Space, m: usize, k: usize, r: u32, s: u32) {
+    factorials(w, 2 * m, 2 * m + 1);
+    basis(w, r, m + 1);
+    inner(&w.given[..m + 1], &w.up[..m + 1]);
+    inner(&w.given[..m + 1], &w.down[..m + 1]);
+    basis(w, r, 2 * m + 1);
+    inner(&w.given[..2 * m + 1], &w.up[..2 * m + 1]);
+    assert!(kernels::powers(s, &mut w.up[..k]) == 0);
+    inner(&w.given[..k], &w.up[..k]);
+}
+
+// Making a return: f and g at the points M + 1 to 2M, an inner product of M + 1 members for each.
+fn make(w: &mut Space, m: usize) {
+    factorials(w, 2 * m, m + 1);
+    assert!(kernels::ascending(m as u32 + 1, &mut w.up[..m + 2]) == 0);
+    for i in 0..m {
+        inner(&w.given[..m + 1], &w.inverses[i..i + m + 1]);
+        inner(&w.given[1..m + 2], &w.inverses[i..i + m + 1]);
+    }
+}
+
+// Nanoseconds of a share, and of its kernel.
+fn of_share(x: &Setting) -> (f64, f64) {
+    let mut w = Space::new();
+    let mut kernel = || share(&mut w, x.gates, x.tests, x.r as u32, x.s as u32);
+    timing::medians(&mut || series::<Ours>(x, Call::Share), &mut || timing::time(&mut kernel, 200))
+}
+
+// Nanoseconds of making, and of its kernel.
+fn of_make(x: &Setting) -> (f64, f64) {
+    let (mut w, mut out) = (Space::new(), vec![0; ROOM]);
+    timing::compare(&mut || speed::our_make(x, &mut out), &mut || make(&mut w, x.gates))
+}
+
+pub fn run(settings: &[Setting]) {
+    println!(
+        "{:<11} {:<14} {:>4} {:>3} {:>11} {:>11} {:>7}",
+        "call", "sheet", "M", "S", "ours, ns", "kernel, ns", "ratio"
+    );
+    let measured: [(&str, fn(&Setting) -> (f64, f64)); 2] = [("share", of_share), ("make", of_make)];
+    for (call, measure) in measured {
+        for x in settings.iter().filter(|x| x.servers == 2) {
+            speed::row(call, x, measure(x));
+        }
+    }
+}

@@ -1,0 +1,154 @@
+// The functions of libpool.a. A slice is passed as a pointer and a length. Each answers what it wrote or handed back,
+// or the number of the refusal.
+mod c {
+    #[link(name = "pool", kind = "static")]
+    extern "C" {
+        pub fn pool_read_sheet(s: *const u8, n: usize, c: *mut u32, e: *mut u32, m: *mut u32, p: *mut u32) -> u32;
+        pub fn pool_circuit(s: *const u8, n: usize, out: *mut u8, room: usize, written: *mut usize) -> u32;
+        pub fn pool_make(
+            sheet: *const u8,
+            sheet_len: usize,
+            servers: u32,
+            id: u32,
+            values: *const u8,
+            values_len: usize,
+            random: *const u8,
+            random_len: usize,
+            out: *mut u8,
+            room: usize,
+            written: *mut usize,
+        ) -> u32;
+        pub fn pool_open(
+            servers: u32,
+            own: u32,
+            sheet: *const u8,
+            sheet_len: usize,
+            returns: u32,
+            table: *mut u8,
+            room: usize,
+            written: *mut usize,
+        ) -> u32;
+        pub fn pool_share(
+            table: *mut u8,
+            table_len: usize,
+            message: *const u8,
+            message_len: usize,
+            r: u64,
+            s: u64,
+            out: *mut u8,
+            room: usize,
+            written: *mut usize,
+        ) -> u32;
+        pub fn pool_round_one(
+            table: *mut u8,
+            table_len: usize,
+            joined: *const u8,
+            joined_len: usize,
+            out: *mut u8,
+            room: usize,
+            written: *mut usize,
+        ) -> u32;
+        pub fn pool_round_two(
+            t: *mut u8,
+            t_len: usize,
+            joined: *const u8,
+            joined_len: usize,
+            accepted: *mut u32,
+        ) -> u32;
+        pub fn pool_drop(table: *mut u8, table_len: usize) -> u32;
+        pub fn pool_close(table: *mut u8, table_len: usize, out: *mut u8, room: usize, written: *mut usize) -> u32;
+        pub fn pool_join(
+            servers: u32,
+            sheet: *const u8,
+            sheet_len: usize,
+            returns: u32,
+            joined: *const u8,
+            joined_len: usize,
+            out: *mut u8,
+            room: usize,
+            accepted: *mut u32,
+            written: *mut usize,
+        ) -> u32;
+    }
+}
+
+fn done<T>(answer: u32, result: T) -> Result<T, u32> {
+    if answer == 0 {
+        Ok(result)
+    } else {
+        Err(answer)
+    }
+}
+
+// Columns, entries, multiplications, published entries.
+pub fn read_sheet(sheet: &[u8]) -> Result<[u32; 4], u32> {
+    let (mut c, mut e, mut m, mut p) = (0, 0, 0, 0);
+    let answer = unsafe { c::pool_read_sheet(sheet.as_ptr(), sheet.len(), &mut c, &mut e, &mut m, &mut p) };
+    done(answer, [c, e, m, p])
+}
+
+pub fn circuit(sheet: &[u8], out: &mut [u8]) -> Result<usize, u32> {
+    let mut written = 0;
+    let answer = unsafe { c::pool_circuit(sheet.as_ptr(), sheet.len(), out.as_mut_ptr(), out.len(), &mut written) };
+    done(answer, written)
+}
+
+pub fn make(sheet: &[u8], servers: u32, id: u32, values: &[u8], random: &[u8], out: &mut [u8]) -> Result<usize, u32> {
+    let (s, v, r) = (sheet, values, random);
+    let (at, room, mut written) = (out.as_mut_ptr(), out.len(), 0);
+    let answer = unsafe {
+        c::pool_make(s.as_ptr(), s.len(), servers, id, v.as_ptr(), v.len(), r.as_ptr(), r.len(), at, room, &mut written)
+    };
+    done(answer, written)
+}
+
+pub fn open(servers: u32, own: u32, sheet: &[u8], returns: u32, table: &mut [u8]) -> Result<usize, u32> {
+    let (at, room, mut written) = (table.as_mut_ptr(), table.len(), 0);
+    let answer = unsafe { c::pool_open(servers, own, sheet.as_ptr(), sheet.len(), returns, at, room, &mut written) };
+    done(answer, written)
+}
+
+pub fn share(table: &mut [u8], message: &[u8], r: u64, s: u64, out: &mut [u8]) -> Result<usize, u32> {
+    let (t, m, mut written) = (table, message, 0);
+    let answer = unsafe {
+        c::pool_share(t.as_mut_ptr(), t.len(), m.as_ptr(), m.len(), r, s, out.as_mut_ptr(), out.len(), &mut written)
+    };
+    done(answer, written)
+}
+
+pub fn round_one(table: &mut [u8], joined: &[u8], out: &mut [u8]) -> Result<usize, u32> {
+    let (t, j, mut written) = (table, joined, 0);
+    let answer = unsafe {
+        c::pool_round_one(t.as_mut_ptr(), t.len(), j.as_ptr(), j.len(), out.as_mut_ptr(), out.len(), &mut written)
+    };
+    done(answer, written)
+}
+
+// Whether the return is accepted.
+pub fn round_two(table: &mut [u8], joined: &[u8]) -> Result<bool, u32> {
+    let mut accepted = 0;
+    let (at, len) = (table.as_mut_ptr(), table.len());
+    let answer = unsafe { c::pool_round_two(at, len, joined.as_ptr(), joined.len(), &mut accepted) };
+    done(answer, accepted == 1)
+}
+
+pub fn drop(table: &mut [u8]) -> Result<(), u32> {
+    done(unsafe { c::pool_drop(table.as_mut_ptr(), table.len()) }, ())
+}
+
+pub fn close(table: &mut [u8], out: &mut [u8]) -> Result<usize, u32> {
+    let mut written = 0;
+    let (at, len) = (table.as_mut_ptr(), table.len());
+    let answer = unsafe { c::pool_close(at, len, out.as_mut_ptr(), out.len(), &mut written) };
+    done(answer, written)
+}
+
+// The count of accepted returns, and the bytes written.
+pub fn join(servers: u32, sheet: &[u8], returns: u32, joined: &[u8], out: &mut [u8]) -> Result<(u32, usize), u32> {
+    let (s, j, at, room) = (sheet, joined, out.as_mut_ptr(), out.len());
+    let (mut accepted, mut written) = (0, 0);
+    let answer = unsafe {
+        c::pool_join(servers, s.as_ptr(), s.len(), returns, j.as_ptr(), j.len(), at, room, &mut accepted, &mut written)
+    };
+    done(answer, (accepted, written))
+}

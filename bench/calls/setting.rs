@@ -1,0 +1,97 @@
+// What the calls are given: a sheet, S and N, one honest return, a pair, and every message of its way to the totals.
+// The second program makes all of it, so both sides get the same.
+use second::gen::{self, Rng};
+use second::{fast, field::P, Sheet};
+
+pub const RETURNS: u32 = 64;
+pub const ROOM: usize = 32768;
+
+pub struct Setting {
+    pub name: &'static str,
+    pub sheet: Vec<u8>,
+    pub servers: u32,
+    pub entries: usize,
+    pub gates: usize,
+    pub tests: usize,
+    pub published: usize,
+    pub values: Vec<u8>,
+    pub random: Vec<u8>,
+    pub r: u64,
+    pub s: u64,
+    // the share messages, one after another
+    pub shares: Vec<u8>,
+    // the joined messages of the rounds, and of closing
+    pub ones: Vec<u8>,
+    pub twos: Vec<u8>,
+    pub closings: Vec<u8>,
+}
+
+pub const ID: u32 = 7;
+
+impl Setting {
+    pub fn new(name: &'static str, sheet: Vec<u8>, servers: u32) -> Setting {
+        let read = Sheet::read(&sheet).expect("a sheet");
+        let mut rng = Rng::new(u64::from(servers));
+        let values = gen::values(&mut rng, &read);
+        let random = gen::elements(&mut rng, (servers as usize - 1) * read.share_elements() + 4);
+        let (r, s) = (rng.between(read.multiplications() as u64 + 1, P - 1), rng.below(P));
+        let shares = fast::make(&sheet, servers, ID, &values, &random, ROOM).expect("a return");
+        let mut tables: Vec<fast::Table> =
+            (0..servers).map(|own| fast::open(servers, own, &sheet, RETURNS).expect("a table")).collect();
+        let messages = shares.chunks(read.share_length());
+        let ones = tables.iter_mut().zip(messages).flat_map(|(t, m)| fast::share(t, m, r, s, 14).expect("round one"));
+        let ones: Vec<u8> = ones.collect();
+        let twos = tables.iter_mut().flat_map(|t| fast::round_one(t, &ones, 14).expect("round two"));
+        let twos: Vec<u8> = twos.collect();
+        let closings = tables.iter_mut().flat_map(|t| {
+            fast::round_two(t, &twos).expect("a verdict");
+            fast::close(t, ROOM).expect("totals")
+        });
+        Setting {
+            closings: closings.collect(),
+            entries: read.entries(),
+            gates: read.multiplications(),
+            tests: read.tests(),
+            published: read.published(),
+            name,
+            sheet,
+            servers,
+            values,
+            random,
+            r,
+            s,
+            shares,
+            ones,
+            twos,
+        }
+    }
+
+    pub fn share_bytes(&self) -> usize {
+        6 + 4 * (self.entries + 2 * self.gates + 6)
+    }
+
+    pub fn table_bytes(&self, returns: usize) -> usize {
+        12 + self.sheet.len() + 4 * self.published + 4 * returns + 28 + self.share_bytes() - 6
+    }
+
+    pub fn totals_bytes(&self) -> usize {
+        6 + 4 * self.published
+    }
+
+    // The share message of server `own`.
+    pub fn share(&self, own: u32) -> &[u8] {
+        &self.shares[own as usize * self.share_bytes()..][..self.share_bytes()]
+    }
+}
+
+// The sheets that are measured: M = 1, 24, 256, and a mixture near 256.
+pub fn settings() -> Vec<Setting> {
+    let sheets = [
+        ("one yes/no", vec![17]),
+        ("number of 24", vec![19, 24]),
+        ("256 yes/no", vec![17; 256]),
+        ("large mixture", [17, 18, 5, 19, 9, 17, 19, 3, 18, 2].repeat(11)),
+    ];
+    let with = |servers| sheets.clone().map(|(name, sheet)| Setting::new(name, sheet, servers));
+    [2, 8].into_iter().flat_map(with).collect()
+}

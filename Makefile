@@ -26,6 +26,10 @@ target/staticlib/lib%.a: $(SOURCES)
 	@rt staticlib $* >target/staticlib/$*.log 2>&1 || { cat target/staticlib/$*.log; exit 1; }
 	@touch $@
 
+target/bin/recount: $(SOURCES)
+	@rt check recount >target/recount.log 2>&1 || { cat target/recount.log; exit 1; }
+	@touch $@
+
 run:
 	@rt check worked
 	@target/bin/worked

@@ -119,10 +119,10 @@ fn coverage(suite: &Suite) -> Verdict {
     Ok(())
 }
 
-/// The program recount, where it is built.
+/// The program recount.
 fn recounts(tally: &mut Tally) {
     let Some(program) = recount::program() else {
-        println!("recount not built");
+        tally.note("recount", Err("the program is not built".to_string()));
         return;
     };
     tally.note("recount: the example", recount::example(&program));

@@ -1,3 +1,2 @@
 -- What the contracts of this crate cite beside rules' definitions.
 pub mod Reading
-pub mod Writing

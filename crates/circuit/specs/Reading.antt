@@ -11,9 +11,9 @@ use Rattle.rules.specs.Settings.{document01}
 use Rattle.rules.specs.Columns.{within}
 use Rattle.rules.specs.Circuit.{Step}
 use Rattle.rules.specs.CircuitReader.{bodyLengths, stepWires, stepGates, stepTests, readCircuit}
-use Rattle.circuit.specs.declared.reader.Counts as counts
-use Rattle.circuit.specs.declared.reader.Reading as reading
-use Rattle.circuit.specs.declared.reader.Reading.the-variants as answer
+use Rattle.circuit.specs.declared.Counts as counts
+use Rattle.circuit.specs.declared.Reading as reading
+use Rattle.circuit.specs.declared.Reading.the-variants as answer
 
 -- a table of body lengths: entry k - 1 is the body length of step kind k
 pub record BodyTable (t : List ℕ) : Type 0 where

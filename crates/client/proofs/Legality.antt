@@ -17,7 +17,7 @@ use Rattle.rules.specs.Making.{valuesFault}
 use Rattle.rules.proofs.Limits.{limits}
 use Rattle.rules.proofs.Encoding.{encoding-length, encoding-below}
 use Rattle.sheet.specs.declared.Counts.{Counts}
-use Rattle.sheet.specs.Encode.{Encodable}
+use Rattle.values.specs.Encode.{Encodable}
 use Rattle.message.proofs.Parts.{check-holds}
 use Rattle.walk.specs.Walks.{Entries}
 use Rattle.client.specs.Pieces.{PlaceOfH, Legal, entriesFrom, Fillable}

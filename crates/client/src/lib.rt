@@ -12,7 +12,7 @@ use records::Written;
 use sheet::Counts;
 use sheet::Reading;
 use sheet::read;
-use sheet::values::values_refusal;
+use values::values_refusal;
 
 mod shares;
 mod whole;

@@ -9,7 +9,7 @@ ghost use Rattle.rules.specs.Columns.{columnsOf};
 ghost use Rattle.walk.specs.Walks.{Entries};
 ghost use Rattle.client.specs.Pieces.{hValues, PlaceOfH, Legal, entriesFrom, wholeOf, Fillable};
 use sheet::Counts;
-use sheet::values::encode_columns;
+use values::encode_columns;
 
 // Two elements from `at`.
 fn put_two(w: &mut [u32], at: usize, u: u32, v: u32)

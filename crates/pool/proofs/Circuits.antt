@@ -10,8 +10,8 @@ use Rattle.rules.specs.Columns.{faultIn, listIn}
 use Rattle.rules.specs.Circuit.{Step}
 use Rattle.rules.specs.CircuitReader.{readCircuit, circuitFault, countIn}
 use Rattle.rules.proofs.Refusals.{circuit-refusals}
-use Rattle.circuit.specs.declared.reader.Counts.{Counts}
-use Rattle.circuit.specs.declared.reader.Reading.the-variants as answer
+use Rattle.circuit.specs.declared.Counts.{Counts}
+use Rattle.circuit.specs.declared.Reading.the-variants as answer
 use Rattle.circuit.specs.Reading.{readingIn, readingOf}
 use Rattle.pool.specs.Outcomes.{ifDone}
 use Rattle.pool.specs.Calls.{ReadsCircuit}

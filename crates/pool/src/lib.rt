@@ -54,7 +54,7 @@ pub extern "C" fn pool_circuit(sheet: &[u8], out: &mut [u8], written: &mut usize
     ensures { λ r. ⌜ WritesCircuit (now (sheet .entry)) (now (out .entry)) (now (written .entry))
         r (now (out .exit)) (now (written .exit)) ⌝ }
 {
-    told(circuit::writer::write(sheet, out), written)
+    told(compile::write(sheet, out), written)
 }
 
 #[no_mangle]
@@ -69,9 +69,9 @@ pub extern "C" fn pool_read_circuit(
         (now (wires .entry)) (now (multiplications .entry)) (now (tests .entry))
         r (now (wires .exit)) (now (multiplications .exit)) (now (tests .exit)) ⌝ }
 {
-    match circuit::reader::read(entries, circuit) {
-        circuit::reader::Reading::Refused(refusal) => refusal,
-        circuit::reader::Reading::Counts(counts) => {
+    match circuit::read(entries, circuit) {
+        circuit::Reading::Refused(refusal) => refusal,
+        circuit::Reading::Counts(counts) => {
             *wires = counts.wires;
             *multiplications = counts.multiplications;
             *tests = counts.tests;

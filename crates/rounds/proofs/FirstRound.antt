@@ -32,11 +32,11 @@ use Rattle.table.specs.Reading.{tableOf, foundIn, Sound}
 use Rattle.table.specs.declared.Table.{Table}
 use Rattle.table.specs.declared.Found.the-variants as found
 use Rattle.table.proofs.Answers.{unsound}
-use Rattle.rounds.specs.declared.held.Waiting.{Waiting}
-use Rattle.rounds.specs.Held.{waitsIn, Waits, sigmaAt}
+use Rattle.waiting.specs.declared.held.Waiting.{Waiting}
+use Rattle.waiting.specs.Held.{waitsIn, Waits, sigmaAt}
 use Rattle.rounds.specs.One.{oneJoinedFault, oneFaultAt, sumsStored, OneReady}
 use Rattle.rounds.specs.Calls.{RoundOne}
-use Rattle.rounds.proofs.Holding.{waits-in, stageOf, sound-fault}
+use Rattle.waiting.proofs.Holding.{waits-in, stageOf, sound-fault}
 
 -- ---- the refusal
 joined-at : (T joined : List ℕ)

@@ -24,13 +24,13 @@ use Rattle.table.specs.Writing.{decidedAs, Decidable}
 use Rattle.table.specs.declared.Table.{Table}
 use Rattle.table.specs.declared.Found.the-variants as found
 use Rattle.table.proofs.Answers.{unsound}
-use Rattle.rounds.specs.declared.held.Waiting.{Waiting}
-use Rattle.rounds.specs.Held.{waitsIn, Waits, sigmaAt}
-use Rattle.rounds.specs.Totals.{withPublished}
+use Rattle.waiting.specs.declared.held.Waiting.{Waiting}
+use Rattle.waiting.specs.Held.{waitsIn, Waits, sigmaAt}
+use Rattle.waiting.specs.Totals.{withPublished}
 use Rattle.rounds.specs.Two.{twoFaultAt, TwoReady}
 use Rattle.rounds.specs.Calls.{verdictOf, RoundTwo}
 use Rattle.rounds.specs.declared.Verdict.the-variants as answer
-use Rattle.rounds.proofs.Holding.{waits-in, stageOf, sound-fault}
+use Rattle.waiting.proofs.Holding.{waits-in, stageOf, sound-fault}
 
 -- ---- the refusal
 joined-at : (T joined : List ℕ)

@@ -1,7 +1,4 @@
--- What the contracts of this crate cite besides rules. Read Calls; Held, One, Totals and Two are what the functions below the
--- calls go by.
-pub mod Held
+-- What the contracts of this crate cite besides rules. Read Calls; One and Two are what the functions below the calls go by.
 pub mod One
-pub mod Totals
 pub mod Two
 pub mod Calls

@@ -13,8 +13,8 @@ use Rattle.rules.specs.Server.{messageOne}
 use Rattle.rules.specs.Table.{serversIn, ownIn, openedIn, waitingIn}
 use Rattle.message.specs.Rounds.{Summable}
 use Rattle.table.specs.declared.Table.{Table}
-use Rattle.rounds.specs.declared.held.Waiting.{Waiting}
-use Rattle.rounds.specs.Held.{waitsIn, Waits}
+use Rattle.waiting.specs.declared.held.Waiting.{Waiting}
+use Rattle.waiting.specs.Held.{waitsIn, Waits}
 
 -- "12": the messages of round one, of which the own one is that of the return that waits
 unfoldable pub oneJoinedFault : List ℕ → List ℕ → ℕ

@@ -9,7 +9,7 @@ use Rattle.rules.specs.Server.{messageTwo}
 use Rattle.rules.specs.Table.{serversIn, ownIn, openedIn, waitingIn}
 use Rattle.message.specs.Rounds.{Summable}
 use Rattle.table.specs.declared.Table.{Table}
-use Rattle.rounds.specs.Held.{Waits}
+use Rattle.waiting.specs.Held.{Waits}
 
 -- "12": rules' twoRefusal at that stage
 unfoldable pub twoFaultAt : List ℕ → List ℕ → ℕ

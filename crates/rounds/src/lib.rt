@@ -1,7 +1,6 @@
 // The two rounds on a server's table. The definitions that the contracts cite are those of the crate rules, at document
 // 01's setting, and of specs/. A refusal leaves the table and every buffer as they were.
 ghost use Rattle.rounds.specs.Calls.{RoundOne, RoundTwo};
-use held::read_waiting;
 use one::one_refusal;
 use one::take_one;
 use records::Written;
@@ -9,9 +8,8 @@ use table::Found;
 use table::read;
 use two::settle;
 use two::two_refusal;
+use waiting::held::read_waiting;
 
-mod adding;
-mod held;
 mod one;
 mod two;
 

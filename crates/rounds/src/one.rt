@@ -5,13 +5,13 @@ ghost use lib.ListN.{length};
 ghost use Rattle.words.specs.Bytes.{splice};
 ghost use Rattle.rules.specs.Settings.{document01};
 ghost use Rattle.rules.specs.Table.{oneTable, oneBytes};
-ghost use Rattle.rounds.specs.Held.{waitsIn, Waits};
+ghost use Rattle.waiting.specs.Held.{waitsIn, Waits};
 ghost use Rattle.rounds.specs.One.{oneFaultAt, sumsStored, OneReady};
-use crate::held::Waiting;
-use crate::held::own_refusal;
-use crate::held::sigma_of;
 use table::Table;
 use table::places::wait_place;
+use waiting::held::Waiting;
+use waiting::held::own_refusal;
+use waiting::held::sigma_of;
 
 // The refusal by the joined messages and by the room for the message that is written: 12, 14, or 0 for none.
 pub fn one_refusal(t: &[u8], joined: &[u8], k: Table, w: Waiting, room: usize) -> u32

@@ -4,14 +4,14 @@ ghost use Rattle.rules.specs.Settings.{document01};
 ghost use Rattle.rules.specs.Messages.{bothZero};
 ghost use Rattle.rules.specs.Table.{twoVerdict, twoTable};
 ghost use Rattle.message.specs.Rounds.{Summable};
-ghost use Rattle.rounds.specs.Held.{waitsIn, Waits};
+ghost use Rattle.waiting.specs.Held.{waitsIn, Waits};
 ghost use Rattle.rounds.specs.Two.{twoFaultAt, TwoReady};
-use crate::adding::add_published;
-use crate::held::Waiting;
-use crate::held::own_refusal;
-use crate::held::sigma_of;
 use table::Table;
 use table::writing::decide;
+use waiting::adding::add_published;
+use waiting::held::Waiting;
+use waiting::held::own_refusal;
+use waiting::held::sigma_of;
 
 // The refusal by the joined messages: 12, or 0 for none.
 pub fn two_refusal(t: &[u8], joined: &[u8], k: Table, w: Waiting) -> u32

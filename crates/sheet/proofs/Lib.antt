@@ -3,5 +3,4 @@ pub mod Reader
 pub mod SheetBytes
 pub mod Cursors
 pub mod Walks
-pub mod Encodings
 pub mod Answers

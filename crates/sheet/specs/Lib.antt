@@ -1,4 +1,3 @@
--- What the crate's code answers, in the numbers of code: the reader, the cursor over columns, the encoding of values.
+-- What the crate's code answers, in the numbers of code: the reader and the cursor over columns.
 pub mod Reading
 pub mod Cursor
-pub mod Encode

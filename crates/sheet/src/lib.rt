@@ -1,5 +1,5 @@
-// The sheet: its reader, a cursor over its columns, the encoding of values, and the limit on returns. The definitions that
-// the contracts cite are those of the crate rules and of specs/.
+// The sheet: its reader, a cursor over its columns, and the limit on returns. The definitions that the contracts cite are
+// those of the crate rules and of specs/.
 ghost use mathlib.Core.Path.{_≡_};
 ghost use mathlib.Core.List.{[], _∷_};
 ghost use Prim.Native.Nat.{_^_, _≤_};
@@ -8,7 +8,6 @@ ghost use Rattle.sheet.specs.Reading.{bytesOfKind, countsOf, alone, Smal
 
 pub mod columns;
 pub mod totals;
-pub mod values;
 
 // What the columns of a sheet come to: entries, published entries, multiplications and tests.
 pub struct Counts {
@@ -97,7 +96,7 @@ fn wide(n: u8) -> usize
 }
 
 // 2 to the n.
-fn power(n: usize) -> u32
+pub fn power(n: usize) -> u32
     requires { ⌜ n ≤ 24 ⌝ }
     ensures { λ r. ⌜ r ≡ 2 ^ n ⌝ }
 {

@@ -24,7 +24,7 @@ pub fn sheet(name: &[u8], s: &[u8]) {
 // The circuit of a sheet: its length, or its refusal.
 pub fn circuit(name: &[u8], s: &[u8], out: &mut [u8]) {
     text::write(name);
-    match circuit::writer::write(s, out) {
+    match compile::write(s, out) {
         records::Written::Done(count) => {
             text::item(b": bytes ", count as u64);
             text::write(b"\n");
@@ -64,14 +64,14 @@ pub fn steps(c: &[u8; 21]) {
 // What a circuit over so many entries comes to.
 pub fn read_circuit(name: &[u8], entries: u32, s: &[u8]) {
     text::write(name);
-    match circuit::reader::read(entries, s) {
-        circuit::reader::Reading::Counts(counts) => {
+    match circuit::read(entries, s) {
+        circuit::Reading::Counts(counts) => {
             text::item(b": wires ", counts.wires as u64);
             text::item(b", M ", counts.multiplications as u64);
             text::item(b", K ", counts.tests as u64);
             text::write(b"\n");
         },
-        circuit::reader::Reading::Refused(number) => refused(number),
+        circuit::Reading::Refused(number) => refused(number),
     }
 }
 
@@ -79,7 +79,7 @@ pub fn read_circuit(name: &[u8], entries: u32, s: &[u8]) {
 pub fn values(name: &[u8], s: &[u8], values: &[u8]) {
     let mut out = [0; 7];
     text::write(name);
-    let number = sheet::values::encode(s, values, &mut out);
+    let number = values::encode(s, values, &mut out);
     if number != 0 {
         refused(number);
         return;

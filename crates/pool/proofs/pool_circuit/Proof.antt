@@ -1,5 +1,5 @@
 -- `pool::pool_circuit` meets its contract: that of the circuit writer. Assumes nothing.
-use Rattle.circuit.specs.Writing.{writtenOf, circuitIn}
+use Rattle.compile.specs.Writing.{writtenOf, circuitIn}
 use Rattle.pool.proofs.Outcomes.{writes}
 use borrow.Author.Needs.{needs}
 use Rattle.pool.proofs.pool_circuit.Statement.{statement}

@@ -1,0 +1,130 @@
+-- The bytes of a column's steps, run by run as they are written, and of a sheet's circuit, column by column; and how many
+-- there are. Assumes that the sheet is read, where it is said.
+use mathlib.Core.Path.{_≡_, refl, ap, ap₂, _∙_}
+use mathlib.Core.List.{List, [], _∷_, _++_, append-assoc, append-nil}
+use Prim.Native.Nat.{ℕ, suc, _+_, _*_, _<_}
+use native.Mathlib.Nat.{add-assoc, add-zero, zero-add}
+use native.Mathlib.Numerals.{add-one}
+use native.Mathlib.Omega.{arith}
+use lib.ListN.{length, getD, take, length-append}
+use lib.Seq.{take-suc}
+use Rattle.words.specs.Bytes.{bytesOf}
+use Rattle.words.proofs.Numbers.{length-bytes}
+use Rattle.rules.specs.Settings.{document01}
+use Rattle.rules.specs.Columns.{Column, yesNo, choice, number, entriesOf, entriesIn, columnsOf}
+use Rattle.rules.specs.Circuit.{Step, entry, scale, test, stepBytes, circuitBytes, bitChecks, optionAdds, optionSum, bitAdds}
+use Rattle.rules.specs.Circuit.{columnSteps, wiresOf, circuitFrom, circuitOf, wiresIn}
+use Rattle.rules.specs.CircuitReader.{sheetCircuit}
+use Rattle.sheet.proofs.Sums.{Total}
+use Rattle.compile.specs.Writing.{columnSize}
+use Rattle.compile.proofs.Runs.{bytes, bytes-none, bytes-append, bytes-one, bytes-more, checks-long, options-long}
+use Rattle.compile.proofs.Runs.{weights-long}
+
+-- ---- a column
+pub choice-is : (n e w : ℕ)
+    → bytes (columnSteps document01 e w (choice n))
+    ≡ bytes (bitChecks n e w) ++ bytes (optionAdds n w (w + 3 * n) ++ (test (optionSum (w + 3 * n) n) ∷ []))
+unfolding columnSteps
+choice-is n e w = bytes-append (bitChecks n e w) _
+
+pub number-is : (n e w : ℕ)
+    → bytes (columnSteps document01 e w (number n))
+    ≡ stepBytes document01 (entry e) ++ bytes (bitChecks n (e + 1) (w + 1)) ++ stepBytes document01 (scale w 2147483646)
+    ++ bytes (bitAdds n (w + 1) (w + 1 + 3 * n) ++ (test (w + 1 + 3 * n + 2 * n) ∷ []))
+unfolding columnSteps
+number-is n e w =
+    simp (add-one, bytes-append, bytes-one, append-assoc)
+
+yes-no-is : (e w : ℕ) → bytes (columnSteps document01 e w yesNo) ≡ bytes (bitChecks 1 e w)
+unfolding columnSteps
+yes-no-is e w = refl
+
+entry-long : (e : ℕ) → length (stepBytes document01 (entry e)) ≡ 3
+unfolding stepBytes
+entry-long e = ap suc (length-bytes 2 e)
+
+test-long : (a : ℕ) → length (stepBytes document01 (test a)) ≡ 3
+unfolding stepBytes
+test-long a = ap suc (length-bytes 2 a)
+
+scale-long : (a c : ℕ) → length (stepBytes document01 (scale a c)) ≡ 7
+unfolding stepBytes
+scale-long a c = ap suc (length-append (bytesOf 2 a) (bytesOf 4 c) ∙ rw (length-bytes 2 a, length-bytes 4 c))
+
+column-long : (c : Column) (e w : ℕ) → length (bytes (columnSteps document01 e w c)) ≡ columnSize c
+unfolding columnSize
+column-long yesNo e w = ap length (yes-no-is e w) ∙ checks-long 1 e w
+column-long (choice n) e w =
+    rw (choice-is, bytes-more) (simp (length-append, test-long, checks-long, options-long) (omega arith))
+column-long (number n) e w =
+    rw (number-is, bytes-more)
+    (simp (length-append, entry-long, scale-long, test-long, checks-long, weights-long) (omega arith))
+
+-- ---- sums over columns
+unfoldable pub sizesIn : List Column → ℕ
+sizesIn [] = 0
+sizesIn (c ∷ cs) = columnSize c + sizesIn cs
+
+pub sizes : Total columnSize sizesIn
+unfolding sizesIn
+sizes = record { nothing = refl; next = λ c cs. refl }
+
+pub wires : Total wiresOf wiresIn
+unfolding wiresIn
+wires = record { nothing = refl; next = λ c cs. refl }
+
+-- the circuit of columns, and one column more
+from-append : (a b : List Column) (e w : ℕ)
+    → circuitFrom document01 e w (a ++ b)
+    ≡ circuitFrom document01 e w a ++ circuitFrom document01 (e + entriesIn a) (w + wiresIn a) b
+unfolding circuitFrom entriesIn wiresIn
+from-append [] b e w = rw (add-zero e, add-zero w)
+from-append (c ∷ a) b e w =
+    rw (from-append a b (e + entriesOf c) (w + wiresOf c), add-assoc e, add-assoc w, append-assoc)
+
+last-column : (e w : ℕ) (c : Column) → circuitFrom document01 e w (c ∷ []) ≡ columnSteps document01 e w c
+unfolding circuitFrom
+last-column e w c = append-nil (columnSteps document01 e w c)
+
+from-more : (a : List Column) (c : Column)
+    → bytes (circuitFrom document01 0 1 (a ++ (c ∷ [])))
+    ≡ bytes (circuitFrom document01 0 1 a) ++ bytes (columnSteps document01 (entriesIn a) (1 + wiresIn a) c)
+from-more a c =
+    ap bytes
+    (from-append a (c ∷ []) 0 1
+    ∙ ap (λ (l : List Step). circuitFrom document01 0 1 a ++ l)
+    (last-column (0 + entriesIn a) (1 + wiresIn a) c
+    ∙ ap (λ (e : ℕ). columnSteps document01 e (1 + wiresIn a) c) (zero-add (entriesIn a))))
+    ∙ bytes-append (circuitFrom document01 0 1 a) (columnSteps document01 (entriesIn a) (1 + wiresIn a) c)
+
+pub from-none : bytes (circuitFrom document01 0 1 []) ≡ []
+unfolding circuitFrom
+from-none = bytes-none
+
+pub from-next : (cs : List Column) (k : ℕ) → k < length cs
+    → bytes (circuitFrom document01 0 1 (take (k + 1) cs))
+    ≡ bytes (circuitFrom document01 0 1 (take k cs))
+    ++ bytes (columnSteps document01 (entriesIn (take k cs)) (1 + wiresIn (take k cs)) (getD cs k yesNo))
+from-next cs k h =
+    let one : take (k + 1) cs ≡ take k cs ++ (getD cs k yesNo ∷ []) = rw (add-one, take-suc cs k yesNo h) in
+    ap (λ (l : List Column). bytes (circuitFrom document01 0 1 l)) one ∙ from-more (take k cs) (getD cs k yesNo)
+
+from-long : (cs : List Column) (e w : ℕ) → length (bytes (circuitFrom document01 e w cs)) ≡ sizesIn cs
+unfolding circuitFrom sizesIn
+from-long [] e w = ap length bytes-none
+from-long (c ∷ cs) e w =
+    ap length (bytes-append (columnSteps document01 e w c) (circuitFrom document01 (e + entriesOf c) (w + wiresOf c) cs))
+    ∙ length-append (bytes (columnSteps document01 e w c)) _
+    ∙ ap₂ _+_ (column-long c e w) (from-long cs (e + entriesOf c) (w + wiresOf c))
+
+-- ---- the whole circuit
+pub sheet-is : (s : List ℕ)
+    → sheetCircuit document01 s ≡ (1 ∷ bytesOf 4 2147483646) ++ bytes (circuitFrom document01 0 1 (columnsOf s))
+unfolding sheetCircuit circuitOf circuitBytes stepBytes
+sheet-is s = refl
+
+pub sheet-long : (s : List ℕ) → length (sheetCircuit document01 s) ≡ 5 + sizesIn (columnsOf s)
+sheet-long s =
+    ap length (sheet-is s)
+    ∙ length-append (1 ∷ bytesOf 4 2147483646) (bytes (circuitFrom document01 0 1 (columnsOf s)))
+    ∙ ap₂ _+_ (ap suc (length-bytes 4 2147483646)) (from-long (columnsOf s) 0 1)

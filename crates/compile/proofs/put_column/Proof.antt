@@ -1,0 +1,94 @@
+-- `compile::put_column` meets its contract: each arm is one case of the definition. Assumes nothing.
+use Prim.Native.Nat.{_-_, _≤_}
+use native.Mathlib.Omega.{arith}
+use borrow.Author.Needs.{needs}
+use Rattle.rules.specs.Circuit.{columnSteps}
+use Rattle.compile.specs.Writing.{columnSize}
+use Rattle.compile.proofs.put_column.Statement.{statement}
+use Rattle.compile.proofs.put_column.Tie as tie
+
+enum-told : tie.Need-enum-told
+enum-told c = search needs
+
+bit-checks-requires : tie.Need-bit-checks-requires
+unfolding columnSize
+bit-checks-requires c κs =
+    let a = c .before .before .before .before in
+    let room = rw (c .before .enum-told .given .1) at (a .pre .0) in
+    (room, omega arith, omega arith, omega arith)
+
+enum-known-column : tie.Need-enum-known-column
+enum-known-column c = search needs
+
+cast-put-choice : tie.Need-cast-put-choice
+cast-put-choice c =
+    let g = c .before .before in
+    let few : g .column .given .0 .0 ≤ 64 = rw (g .column .given .1) at (g .before .before .before .pre .1) in
+    omega arith
+
+put-choice-requires : tie.Need-put-choice-requires
+unfolding columnSize
+put-choice-requires c κs =
+    let a = c .before .before .before .before .before in
+    let few : c .before .before .column .given .0 .0 ≤ 64 = rw (c .before .before .column .given .1) at (a .pre .1) in
+    let room = rw (c .before .before .column .given .1) at (a .pre .0) in
+    (room, few, a .pre .2, a .pre .3)
+
+enum-known-column-2 : tie.Need-enum-known-column-2
+enum-known-column-2 c = search needs
+
+cast-put-number : tie.Need-cast-put-number
+cast-put-number c =
+    let g = c .before .before in
+    let few : g .column2 .given .0 .0 ≤ 24 = rw (g .column2 .given .1) at (g .before .before .before .pre .1) in
+    omega arith
+
+put-number-requires : tie.Need-put-number-requires
+unfolding columnSize
+put-number-requires c κs =
+    let a = c .before .before .before .before .before in
+    let few : c .before .before .column2 .given .0 .0 ≤ 24 = rw (c .before .before .column2 .given .1) at (a .pre .1) in
+    let room = rw (c .before .before .column2 .given .1) at (a .pre .0) in
+    (room, few, a .pre .2, a .pre .3)
+
+same-length : tie.Need-same-length
+same-length c = search needs
+
+returns : tie.Need-returns
+unfolding columnSize columnSteps
+returns c =
+    let b = c .before .before .before .before in
+    rw (b .enum-told .given .1) (c .before .before .bit-checks .ensures)
+
+same-length-2 : tie.Need-same-length-2
+same-length-2 c = search needs
+
+returns-2 : tie.Need-returns-2
+unfolding columnSize
+returns-2 c = rw (c .before .before .before .before .before .column .given .1) (c .before .before .put-choice .ensures)
+
+same-length-3 : tie.Need-same-length-3
+same-length-3 c = search needs
+
+returns-3 : tie.Need-returns-3
+unfolding columnSize
+returns-3 c = rw (c .before .before .before .before .before .column2 .given .1) (c .before .before .put-number .ensures)
+
+pub put-column-spec : {M : Type 1} → statement M
+put-column-spec =
+    tie.close
+    (tie.spec
+    enum-told
+    bit-checks-requires
+    enum-known-column
+    cast-put-choice
+    put-choice-requires
+    enum-known-column-2
+    cast-put-number
+    put-number-requires
+    same-length
+    returns
+    same-length-2
+    returns-2
+    same-length-3
+    returns-3)

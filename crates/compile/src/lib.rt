@@ -1,0 +1,240 @@
+// The circuit writer: the steps of a sheet's circuit, written column by column. Each function writes a run of steps at a
+// place and returns the place behind it; its contract names the run and says that nothing else changes (`Put`). The contract
+// of `write` is an equality with rules' `sheetCircuit` and `sheetCircuitRefusal`, and asks nothing of the caller.
+ghost use mathlib.Core.Path.{_≡_};
+ghost use mathlib.Core.List.{[], _∷_, _++_};
+ghost use Prim.Native.Nat.{_+_, _*_, _≤_, _<_};
+ghost use lib.ListN.{length};
+ghost use Rattle.words.specs.Bytes.{bytesOf};
+ghost use Rattle.records.specs.Outcome.{ok};
+ghost use Rattle.rules.specs.Settings.{document01};
+ghost use Rattle.rules.specs.Columns.{choice, number, readSheet, columnsOf};
+ghost use Rattle.rules.specs.Circuit.{circuitBytes, bitCheck, bitChecks, optionAdds, optionSum, bitAdds, test};
+ghost use Rattle.rules.specs.Circuit.{columnSteps, wiresOf};
+ghost use Rattle.rules.specs.CircuitReader.{sheetCircuit};
+ghost use Rattle.sheet.specs.Cursor.{back, Bounded};
+ghost use Rattle.compile.specs.Writing.{Put, columnSize, writtenOf, circuitIn};
+use records::Written;
+use sheet::Reading;
+use sheet::columns::Column;
+
+// A kind byte and a wire or an entry number.
+fn put_one(out: &mut [u8], at: usize, kind: u8, a: u32) -> usize
+    requires { ⌜ at + 3 ≤ length (now out) ⌝ }
+    ensures { λ r. ⌜ Put (now (out .entry)) at 3 (kind ∷ bytesOf 2 a) (now (out .exit)) r ⌝ }
+{
+    out[at] = kind;
+    words::write_u16(out, at + 1, a);
+    at + 3
+}
+
+// A kind byte and two wires.
+fn put_pair(out: &mut [u8], at: usize, kind: u8, a: u32, b: u32) -> usize
+    requires { ⌜ at + 5 ≤ length (now out) ⌝ }
+    ensures { λ r. ⌜ Put (now (out .entry)) at 5 (kind ∷ bytesOf 2 a ++ bytesOf 2 b) (now (out .exit)) r ⌝ }
+{
+    let next = put_one(out, at, kind, a);
+    words::write_u16(out, next, b);
+    next + 2
+}
+
+// A wire times a constant.
+fn put_scale(out: &mut [u8], at: usize, a: u32, constant: u32) -> usize
+    requires { ⌜ at + 7 ≤ length (now out) ⌝ }
+    ensures { λ r. ⌜ Put (now (out .entry)) at 7 (4 ∷ bytesOf 2 a ++ bytesOf 4 constant) (now (out .exit)) r ⌝ }
+{
+    let next = put_one(out, at, 4, a);
+    words::write_u32(out, next, constant);
+    next + 4
+}
+
+// A constant.
+fn put_constant(out: &mut [u8], at: usize, constant: u32) -> usize
+    requires { ⌜ at + 5 ≤ length (now out) ⌝ }
+    ensures { λ r. ⌜ Put (now (out .entry)) at 5 (1 ∷ bytesOf 4 constant) (now (out .exit)) r ⌝ }
+{
+    out[at] = 1;
+    words::write_u32(out, at + 1, constant);
+    at + 5
+}
+
+// The bit check of entry `e`, where `w` is the next wire.
+fn bit_check(out: &mut [u8], at: usize, e: u32, w: u32) -> usize
+    requires { ⌜ (at + 16 ≤ length (now out)) × (w < 65536) ⌝ }
+    ensures { λ r. ⌜ Put (now (out .entry)) at 16 (circuitBytes document01 (bitCheck e w)) (now (out .exit)) r ⌝ }
+{
+    let sum = put_one(out, at, 2, e);
+    let product = put_pair(out, sum, 3, w, 0);
+    let test = put_pair(out, product, 5, w, w + 1);
+    put_one(out, test, 6, w + 2)
+}
+
+// `n` bit checks, of the entries from `e`.
+fn bit_checks(out: &mut [u8], at: usize, n: u32, e: u32, w: u32) -> usize
+    requires { ⌜ (at + 16 * n ≤ length (now out)) × (n ≤ 64) × (e < 32768) × (w < 32768) ⌝ }
+    ensures { λ r. ⌜ Put (now (out .entry)) at (16 * n) (circuitBytes document01 (bitChecks n e w)) (now (out .exit)) r ⌝ }
+{
+    let mut place = at;
+    let mut i: u32 = 0;
+    while i < n {
+        place = bit_check(out, place, e + i, w + 3 * i);
+        i += 1;
+    }
+    place
+}
+
+// The sum of `n` options, whose entry wires are `w`, `w` + 3 and so on; the sums are the wires from `q`. Then its test.
+fn option_sum(out: &mut [u8], at: usize, n: u32, w: u32, q: u32) -> usize
+    requires { ⌜ (at + (5 * n + 3) ≤ length (now out)) × (n ≤ 64) × (w < 32768) × (q < 32768) ⌝ }
+    ensures { λ r. ⌜ Put (now (out .entry)) at (5 * n + 3)
+        (circuitBytes document01 (optionAdds n w q ++ (test (optionSum q n) ∷ []))) (now (out .exit)) r ⌝ }
+{
+    let mut place = at;
+    let mut sum: u32 = 0;
+    let mut i: u32 = 0;
+    while i < n {
+        place = put_pair(out, place, 3, sum, w + 3 * i);
+        sum = q + i;
+        i += 1;
+    }
+    put_one(out, place, 6, sum)
+}
+
+// The sum of `n` bits, each times its weight, onto wire `q`; bit wires as with options. Then its test.
+fn bit_sum(out: &mut [u8], at: usize, n: u32, w: u32, q: u32) -> usize
+    requires { ⌜ (at + (12 * n + 3) ≤ length (now out)) × (n ≤ 24) × (w < 32768) × (q < 32768) ⌝ }
+    ensures { λ r. ⌜ Put (now (out .entry)) at (12 * n + 3)
+        (circuitBytes document01 (bitAdds n w q ++ (test (q + 2 * n) ∷ []))) (now (out .exit)) r ⌝ }
+{
+    let mut place = at;
+    let mut weight: u32 = 1;
+    let mut i: u32 = 0;
+    while i < n {
+        let sum = put_scale(out, place, w + 3 * i, weight);
+        place = put_pair(out, sum, 3, q + 2 * i, q + 2 * i + 1);
+        weight = weight + weight;
+        i += 1;
+    }
+    put_one(out, place, 6, q + 2 * n)
+}
+
+// A choice of `n` options, whose first entry is `e`.
+fn put_choice(out: &mut [u8], at: usize, n: u32, e: u32, w: u32) -> usize
+    requires { ⌜ (at + (21 * n + 3) ≤ length (now out)) × (n ≤ 64) × (e < 16384) × (w < 16384) ⌝ }
+    ensures { λ r. ⌜ Put (now (out .entry)) at (21 * n + 3)
+        (circuitBytes document01 (columnSteps document01 e w (choice n))) (now (out .exit)) r ⌝ }
+{
+    let sum = bit_checks(out, at, n, e, w);
+    option_sum(out, sum, n, w, w + 3 * n)
+}
+
+// A number of `n` bits, whose first entry is `e`.
+fn put_number(out: &mut [u8], at: usize, n: u32, e: u32, w: u32) -> usize
+    requires { ⌜ (at + (28 * n + 13) ≤ length (now out)) × (n ≤ 24) × (e < 16384) × (w < 16384) ⌝ }
+    ensures { λ r. ⌜ Put (now (out .entry)) at (28 * n + 13)
+        (circuitBytes document01 (columnSteps document01 e w (number n))) (now (out .exit)) r ⌝ }
+{
+    let bits = put_one(out, at, 2, e);
+    let minus = bit_checks(out, bits, n, e + 1, w + 1);
+    let sum = put_scale(out, minus, w, 2147483646);
+    bit_sum(out, sum, n, w + 1, w + 1 + 3 * n)
+}
+
+// The steps of a column, whose first entry is `e`.
+fn put_column(out: &mut [u8], at: usize, column: Column, e: u32, w: u32) -> usize
+    requires { ⌜ (at + columnSize (back column) ≤ length (now out)) × Bounded (back column) × (e < 16384) × (w < 16384) ⌝ }
+    ensures { λ r. ⌜ Put (now (out .entry)) at (columnSize (back column))
+        (circuitBytes document01 (columnSteps document01 e w (back column))) (now (out .exit)) r ⌝ }
+{
+    match column {
+        Column::YesNo => bit_checks(out, at, 1, e, w),
+        Column::Choice(n) => put_choice(out, at, n as u32, e, w),
+        Column::Number(n) => put_number(out, at, n as u32, e, w),
+    }
+}
+
+// The bytes of a column's steps.
+fn size_of(column: Column) -> usize
+    requires { ⌜ Bounded (back column) ⌝ }
+    ensures { λ r. ⌜ r ≡ columnSize (back column) ⌝ }
+{
+    match column {
+        Column::YesNo => 16,
+        Column::Choice(n) => 21 * n + 3,
+        Column::Number(n) => 28 * n + 13,
+    }
+}
+
+// The wires of a column's steps.
+fn wires_of(column: Column) -> u32
+    requires { ⌜ Bounded (back column) ⌝ }
+    ensures { λ r. ⌜ r ≡ wiresOf (back column) ⌝ }
+{
+    match column {
+        Column::YesNo => 3,
+        Column::Choice(n) => 4 * (n as u32),
+        Column::Number(n) => 5 * (n as u32) + 2,
+    }
+}
+
+// The length of the circuit of a sheet that is read, which has so many columns.
+fn circuit_length(sheet: &[u8], columns: usize) -> usize
+    requires { ⌜ (readSheet (now sheet) ≡ ok (columnsOf (now sheet))) × (columns ≡ length (columnsOf (now sheet))) ⌝ }
+    ensures { λ r. ⌜ r ≡ length (sheetCircuit document01 (now (sheet .entry))) ⌝ }
+{
+    let mut total: usize = 5;
+    let mut c = sheet::columns::start();
+    while c.index < columns {
+        let step = sheet::columns::next(sheet, c);
+        let column = step.column;
+        total += size_of(column);
+        c = step.next;
+    }
+    total
+}
+
+// Writes the circuit of a sheet that is read, which has so many columns, where there is room for it.
+fn put_circuit(sheet: &[u8], columns: usize, out: &mut [u8]) -> usize
+    requires { ⌜ (readSheet (now sheet) ≡ ok (columnsOf (now sheet))) × (columns ≡ length (columnsOf (now sheet)))
+        × (length (sheetCircuit document01 (now sheet)) ≤ length (now out)) ⌝ }
+    ensures { λ r. ⌜ Put (now (out .entry)) 0 (length (sheetCircuit document01 (now (sheet .entry))))
+        (sheetCircuit document01 (now (sheet .entry))) (now (out .exit)) r ⌝ }
+{
+    let mut at = put_constant(out, 0, 2147483646);
+    let mut wire: u32 = 1;
+    let mut c = sheet::columns::start();
+    while c.index < columns {
+        let step = sheet::columns::next(sheet, c);
+        let column = step.column;
+        at = put_column(out, at, column, c.entry as u32, wire);
+        wire += wires_of(column);
+        c = step.next;
+    }
+    at
+}
+
+// Writes the circuit of a sheet that is read, or refuses where the buffer is too short for it.
+fn write_read(sheet: &[u8], columns: usize, out: &mut [u8]) -> Written
+    requires { ⌜ (readSheet (now sheet) ≡ ok (columnsOf (now sheet))) × (columns ≡ length (columnsOf (now sheet))) ⌝ }
+    ensures { λ r. ⌜ (r ≡ writtenOf (now (sheet .entry)) (length (now (out .entry))))
+        × (now (out .exit) ≡ circuitIn (now (sheet .entry)) (now (out .entry))) ⌝ }
+{
+    let n = circuit_length(sheet, columns);
+    if out.len() < n {
+        return Written::Refused(14);
+    }
+    put_circuit(sheet, columns, out);
+    Written::Done(n)
+}
+
+// Writes a sheet's circuit: how long it is, or the refusal, with the buffer as it was.
+pub fn write(sheet: &[u8], out: &mut [u8]) -> Written
+    ensures { λ r. ⌜ (r ≡ writtenOf (now (sheet .entry)) (length (now (out .entry))))
+        × (now (out .exit) ≡ circuitIn (now (sheet .entry)) (now (out .entry))) ⌝ }
+{
+    let reading = sheet::read(sheet);
+    match reading {
+        Reading::Counts(counts) => write_read(sheet, counts.columns, out),
+        Reading::Refused(n) => Written::Refused(n),
+    }
+}

@@ -1,0 +1,41 @@
+-- `values::values_of` meets its contract: each arm is one case of the definition. Assumes nothing.
+use Prim.Native.Nat.{_≤_}
+use native.Mathlib.Omega.{arith}
+use borrow.Author.Needs.{needs}
+use Rattle.rules.specs.Columns.{valuesOf}
+use Rattle.values.proofs.values_of.Statement.{statement}
+use Rattle.values.proofs.values_of.Tie as tie
+
+enum-told : tie.Need-enum-told
+enum-told c = search needs
+
+enum-known-column : tie.Need-enum-known-column
+enum-known-column c = search needs
+
+cast-result : tie.Need-cast-result
+cast-result c =
+    let few : c .before .column .given .0 .0 ≤ 64 = rw (c .before .column .given .1) at (c .before .before .before .pre) in
+    omega arith
+
+enum-known-column-2 : tie.Need-enum-known-column-2
+enum-known-column-2 c = search needs
+
+power-requires : tie.Need-power-requires
+power-requires c κs = rw (c .before .column2 .given .1) at (c .before .before .before .pre)
+
+returns : tie.Need-returns
+unfolding valuesOf
+returns c = rw (c .enum-told .given .1)
+
+returns-2 : tie.Need-returns-2
+unfolding valuesOf
+returns-2 c = rw (c .before .column .given .1)
+
+returns-3 : tie.Need-returns-3
+unfolding valuesOf
+returns-3 c = rw (c .before .before .column2 .given .1) (c .power .ensures)
+
+pub values-of-spec : {M : Type 1} → statement M
+values-of-spec =
+    tie.close
+    (tie.spec enum-told enum-known-column cast-result enum-known-column-2 power-requires returns returns-2 returns-3)

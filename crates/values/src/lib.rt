@@ -1,0 +1,151 @@
+// The values of a return: whether there is one for each column, within it, and their encoding as the sheet's entries.
+ghost use mathlib.Core.Path.{_≡_};
+ghost use mathlib.Core.Bool.{cond};
+ghost use Prim.Native.Nat.{_+_, _/_, _%_, _^_, _≤_};
+ghost use lib.Dec.{eqb};
+ghost use lib.ListN.{length};
+ghost use Rattle.algebra.specs.Lists.{tabulate};
+ghost use Rattle.words.specs.Bytes.{splice};
+ghost use Rattle.rules.specs.Columns.{choice, entriesOf, valuesOf, columnsOf};
+ghost use Rattle.rules.specs.Values.{encoded};
+ghost use Rattle.rules.specs.Making.{valuesFault};
+ghost use Rattle.sheet.specs.Cursor.{back, Bounded};
+ghost use Rattle.values.specs.Encode.{encodeRefusal, encodedInto, Encoded, HasColumns, Encodable};
+use sheet::Reading;
+use sheet::columns::Column;
+use sheet::columns::next;
+use sheet::columns::start;
+use sheet::power;
+use sheet::read;
+
+// How many values a column has.
+fn values_of(column: Column) -> u32
+    requires { ⌜ Bounded (back column) ⌝ }
+    ensures { λ r. ⌜ r ≡ valuesOf (back column) ⌝ }
+{
+    match column {
+        Column::YesNo => 2,
+        Column::Choice(n) => n as u32,
+        Column::Number(n) => power(n),
+    }
+}
+
+// 5 where there is not one value for each column, or a value is outside its column; else 0.
+pub fn values_refusal(s: &[u8], columns: usize, values: &[u8]) -> u32
+    requires { ⌜ HasColumns (now s) columns ⌝ }
+    ensures { λ r. ⌜ r ≡ valuesFault (columnsOf (now (s .entry))) (now (values .entry)) ⌝ }
+{
+    if values.len() != 4 * columns {
+        return 5;
+    }
+    let mut c = start();
+    while c.index < columns {
+        let step = next(s, c);
+        let column = step.column;
+        if values_of(column) <= words::element(values, c.index) {
+            return 5;
+        }
+        c = step.next;
+    }
+    0
+}
+
+fn one_at(v: usize, i: usize) -> u32
+    ensures { λ r. ⌜ r ≡ cond (eqb v i) 1 0 ⌝ }
+{
+    if v == i {
+        return 1;
+    }
+    0
+}
+
+// The n options of a choice from `at`: the chosen one is 1, the rest 0.
+fn write_choice(out: &mut [u32], at: usize, n: usize, v: u32)
+    requires { ⌜ at + n ≤ length (now out) ⌝ }
+    ensures { λ _. ⌜ now (out .exit) ≡ splice (now (out .entry)) at (tabulate (encoded (choice n) v) n) ⌝ }
+{
+    let mut i: usize = 0;
+    while i < n {
+        out[at + i] = one_at(v as usize, i);
+        i += 1;
+    }
+}
+
+// The n lowest bits of v from `at`, lowest first.
+fn write_bits(out: &mut [u32], at: usize, n: usize, v: u32)
+    requires { ⌜ at + n ≤ length (now out) ⌝ }
+    ensures { λ _. ⌜ now (out .exit) ≡ splice (now (out .entry)) at (tabulate (λ j. v / 2 ^ j % 2) n) ⌝ }
+{
+    let mut rest = v;
+    let mut j: usize = 0;
+    while j < n {
+        out[at + j] = rest % 2;
+        rest = rest / 2;
+        j += 1;
+    }
+}
+
+// The entries of one column from `at`.
+fn encode_column(column: Column, v: u32, out: &mut [u32], at: usize)
+    requires { ⌜ at + entriesOf (back column) ≤ length (now out) ⌝ }
+    ensures { λ _. ⌜ now (out .exit) ≡ splice (now (out .entry)) at (tabulate (encoded (back column) v) (entriesOf (back column))) ⌝ }
+{
+    match column {
+        Column::YesNo => {
+            out[at] = v;
+        }
+        Column::Choice(n) => {
+            write_choice(out, at, n, v);
+        }
+        Column::Number(n) => {
+            out[at] = v;
+            write_bits(out, at + 1, n, v);
+        }
+    }
+}
+
+// The entries of all columns, from the front of `out`.
+pub fn encode_columns(s: &[u8], values: &[u8], out: &mut [u32])
+    requires { ⌜ Encodable (now s) (now values) (now out) ⌝ }
+    ensures { λ _. ⌜ now (out .exit) ≡ encodedInto (now (s .entry)) (now (values .entry)) (now (out .entry)) ⌝ }
+{
+    let mut c = start();
+    while c.at < s.len() {
+        let step = next(s, c);
+        let v = words::element(values, c.index);
+        let column = step.column;
+        encode_column(column, v, out, c.entry);
+        c = step.next;
+    }
+}
+
+// The refusal of an encoding into a buffer of so much room: the sheet's, then 5, then 14.
+fn encode_refusal(s: &[u8], values: &[u8], room: usize) -> u32
+    ensures { λ r. ⌜ r ≡ encodeRefusal (now (s .entry)) (now (values .entry)) room ⌝ }
+{
+    match read(s) {
+        Reading::Refused(n) => n,
+        Reading::Counts(counts) => {
+            let fault = values_refusal(s, counts.columns, values);
+            if fault != 0 {
+                return fault;
+            }
+            if room < counts.entries {
+                return 14;
+            }
+            0
+        }
+    }
+}
+
+// The entries that encode the values, from the front of `out`; a refusal leaves `out` as it was.
+pub fn encode(s: &[u8], values: &[u8], out: &mut [u32]) -> u32
+    ensures { λ r. ⌜ Encoded (now (s .entry)) (now (values .entry)) (now (out .entry)) r (now (out .exit)) ⌝ }
+{
+    let refusal = encode_refusal(s, values, out.len());
+    if refusal != 0 {
+        return refusal;
+    }
+    encode_columns(s, values, out);
+    0
+}

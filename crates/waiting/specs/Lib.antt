@@ -1,0 +1,3 @@
+-- What the contracts of this crate cite besides rules.
+pub mod Held
+pub mod Totals

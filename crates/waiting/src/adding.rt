@@ -1,0 +1,44 @@
+// The published entries of the share that waits, added to the totals of a table.
+ghost use mathlib.Core.Path.{_≡_};
+ghost use Rattle.algebra.specs.Lists.{tabulate};
+ghost use Rattle.words.specs.Bytes.{bytesOfAll, splice};
+ghost use Rattle.waiting.specs.Held.{Waits};
+ghost use Rattle.waiting.specs.Totals.{wordsAdded, Addable, withPublished};
+use sheet::columns;
+use table::Table;
+use table::places::share_place;
+use table::places::totals_place;
+
+// Adds n words from `from` to those from `to`.
+fn add_words(t: &mut [u8], to: usize, from: usize, n: usize)
+    requires { ⌜ Addable (now t) to from n ⌝ }
+    ensures { λ _. ⌜ now (t .exit)
+        ≡ splice (now (t .entry)) to (bytesOfAll 4 (tabulate (wordsAdded (now (t .entry)) to from) n)) ⌝ }
+{
+    let mut i: usize = 0;
+    while i < n {
+        let sum = field::add(
+            words::read_u32(t, to + 4 * i),
+            words::read_u32(t, from + 4 * i),
+        );
+        words::write_u32(t, to + 4 * i, sum);
+        i += 1;
+    }
+}
+
+// Adds the published entries of the share that waits to the totals, column by column.
+pub fn add_published(t: &mut [u8], k: Table)
+    requires { ⌜ Waits (now t) k ⌝ }
+    ensures { λ _. ⌜ now (t .exit) ≡ withPublished (now (t .entry)) ⌝ }
+{
+    let end = 12 + k.sheet;
+    let totals = totals_place(k.sheet);
+    let share = share_place(k.sheet, k.published, k.returns);
+    let mut c = columns::start();
+    while c.at < k.sheet {
+        let step = columns::next(&t[12..end], c);
+        let n = step.next.published - c.published;
+        add_words(t, totals + 4 * c.published, share + 4 * c.entry, n);
+        c = step.next;
+    }
+}

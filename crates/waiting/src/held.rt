@@ -1,0 +1,78 @@
+// The return that waits in a table: what the table says of it, sigma, and the refusal of a round's joined messages.
+ghost use mathlib.Core.Path.{_≡_};
+ghost use Prim.Native.Nat.{_+_, _*_, _≤_, _<_};
+ghost use lib.ListN.{length, getD};
+ghost use Rattle.words.specs.Bytes.{elementsOf};
+ghost use Rattle.field.specs.Residues.{prime, residues, Elements};
+ghost use Rattle.rules.specs.Settings.{document01};
+ghost use Rattle.rules.specs.Messages.{roundFault, roundMessage};
+ghost use Rattle.rules.specs.Judging.{firstOnly, sigmaFrom};
+ghost use Rattle.message.specs.Rounds.{Placed};
+ghost use Rattle.waiting.specs.Held.{waitsIn, Waits, sigmaAt};
+use table::Table;
+use table::places::share_place;
+use table::places::share_size;
+use table::places::wait_place;
+
+// Its id; d_i and e_i in the first wait, the sums d and e in the second; r h_i(r) and tau_i.
+pub struct Waiting {
+    pub id: u32,
+    pub d: u32,
+    pub e: u32,
+    pub rh: u32,
+    pub tau: u32,
+}
+
+// What the table says of the return that waits.
+pub fn read_waiting(t: &[u8], k: Table) -> Waiting
+    requires { ⌜ Waits (now t) k ⌝ }
+    ensures { λ r. ⌜ r ≡ waitsIn (now (t .entry)) ⌝ }
+{
+    let at = wait_place(k.sheet, k.published, k.returns);
+    Waiting {
+        id: words::read_u32(t, at),
+        d: words::read_u32(t, at + 4 + 8),
+        e: words::read_u32(t, at + 4 + 12),
+        rh: words::read_u32(t, at + 4 + 16),
+        tau: words::read_u32(t, at + 4 + 20),
+    }
+}
+
+// The refusal of the joined messages of a round for an id, where server `own` wrote x and y: 12, or 0 for none.
+pub fn own_refusal(joined: &[u8], servers: u32, kind: u8, id: u32, own: u32, x: u32, y: u32) -> u32
+    requires { ⌜ Placed servers own ⌝ }
+    ensures { λ r. ⌜ r ≡ roundFault document01 servers kind id own (roundMessage document01 kind id own x y) (now (joined .entry)) ⌝ }
+{
+    let mut mine = [0u8; 14];
+    message::write_round(&mut mine, kind, id, own as u8, x, y);
+    message::round_refusal(joined, servers, kind, id, own, &mine)
+}
+
+// sigma from the elements of a share, of which a, b and c stand from `at`.
+fn sigma_with(x: &[u8], at: usize, own: u32, d: u32, e: u32, rh: u32) -> u32
+    requires { ⌜ (4 * at + 12 ≤ length (now x)) × Elements (elementsOf 4 (now x)) × (d < prime) × (e < prime) × (rh < prime) ⌝ }
+    ensures { λ r. ⌜ r ≡ sigmaFrom residues (firstOnly residues own) d e (getD (elementsOf 4 (now (x .entry))) at 0)
+        (getD (elementsOf 4 (now (x .entry))) (at + 1) 0) (getD (elementsOf 4 (now (x .entry))) (at + 2) 0) rh ⌝ }
+{
+    let a = words::element(x, at);
+    let b = words::element(x, at + 1);
+    let c = words::element(x, at + 2);
+    snip::sigma(own, d, e, a, b, c, rh)
+}
+
+// sigma of the return that waits, with the sums d and e.
+pub fn sigma_of(t: &[u8], k: Table, w: Waiting, d: u32, e: u32) -> u32
+    requires { ⌜ Waits (now t) k × (w ≡ waitsIn (now t)) × (d < prime) × (e < prime) ⌝ }
+    ensures { λ r. ⌜ r ≡ sigmaAt (now (t .entry)) d e ⌝ }
+{
+    let place = share_place(k.sheet, k.published, k.returns);
+    let end = place + 4 * share_size(k.entries, k.gates);
+    sigma_with(
+        &t[place..end],
+        k.entries + 3 + (k.gates + k.gates),
+        k.own,
+        d,
+        e,
+        w.rh,
+    )
+}

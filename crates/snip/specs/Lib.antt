@@ -1,3 +1,4 @@
 -- What the contracts of this crate cite besides algebra, rules and field.
 pub mod Factorials
+pub mod Sides
 pub mod Judged

@@ -11,7 +11,7 @@ ghost use Rattle.rules.specs.Columns.{columnsOf};
 ghost use Rattle.rules.specs.Circuit.{gatesIn, testsIn};
 ghost use Rattle.rules.specs.Judging.{through, folded};
 ghost use Rattle.rules.specs.Walk.{walkLefts, walkRights, walkTests};
-ghost use Rattle.snip.specs.Factorials.{Tables};
+ghost use Rattle.snip.specs.Sides.{Inverses};
 ghost use Rattle.snip.specs.Judged.{judgedOf, inputsOf, Share};
 ghost use Rattle.walk.specs.Walks.{held, plain, members, outputs, Entries, Outputs};
 use sheet::Counts;
@@ -69,13 +69,13 @@ fn g_at(sheet: &[u8], x: &[u32], first: usize, constant: u32, weights: &[u32]) -
 }
 
 // The polynomial through the members of y at the points 0, 1, .., at r.
-fn interpolated(y: &[u32], r: u32, factorials: &[u32]) -> u32
-    requires { ⌜ Tables r (length (now y)) (now factorials) × (0 < length (now y)) × (length (now y) ≤ 513) ⌝ }
+fn interpolated(y: &[u32], r: u32, inverses: &[u32]) -> u32
+    requires { ⌜ Inverses r (length (now y)) (now inverses) × (0 < length (now y)) × (length (now y) ≤ 513) ⌝ }
     ensures { λ q. ⌜ q ≡ interpolate residues (length (now (y .entry)) - 1) (members (now (y .entry))) r ⌝ }
 {
     let mut weights = [0u32; 513];
     let n = y.len();
-    crate::fill_basis(r, factorials, &mut weights[..n]);
+    crate::fill_basis(r, inverses, &mut weights[..n]);
     field::inner(y, &weights[..n])
 }
 
@@ -115,20 +115,20 @@ fn inputs_at(
     n: usize,
     constant: u32,
     r: u32,
-    factorials: &[u32],
+    inverses: &[u32],
 ) -> Inputs
     requires { ⌜ Entries (now sheet) (now x) × (l + 1 < length (now x)) × (n ≡ suc (gatesIn (columnsOf (now sheet)))) × (n ≤ 257) ⌝ }
-    requires { ⌜ Tables r n (now factorials) × (constant < prime) ⌝ }
+    requires { ⌜ Inverses r n (now inverses) × (constant < prime) ⌝ }
     ensures { λ q. ⌜ q ≡ inputsOf (columnsOf (now (sheet .entry))) l constant (now (x .entry)) r ⌝ }
 {
     let mut weights = [0u32; 257];
-    crate::fill_basis(r, factorials, &mut weights[..n]);
+    crate::fill_basis(r, inverses, &mut weights[..n]);
     let f = f_at(sheet, x, l, &weights[..n]);
     let g = g_at(sheet, x, l + 1, constant, &weights[..n]);
     Inputs { f: f, g: g }
 }
 
-// The same as `judge`, with the inverses of the factorials lent.
+// The same as `judge`, with the inverses lent.
 fn judge_with(
     sheet: &[u8],
     counts: Counts,
@@ -136,19 +136,19 @@ fn judge_with(
     x: &[u32],
     r: u32,
     s: u32,
-    factorials: &[u32],
+    inverses: &[u32],
 ) -> Judged
     requires { ⌜ Share (now sheet) counts (now x) r s ⌝ }
-    requires { ⌜ Tables r (suc (gatesIn (columnsOf (now sheet)) + gatesIn (columnsOf (now sheet)))) (now factorials) ⌝ }
+    requires { ⌜ Inverses r (suc (gatesIn (columnsOf (now sheet)) + gatesIn (columnsOf (now sheet)))) (now inverses) ⌝ }
     ensures { λ q. ⌜ q ≡ judgedOf (columnsOf (now (sheet .entry))) own (now (x .entry)) r s ⌝ }
 {
     let l = counts.entries;
     let m = counts.gates;
     let constant = field::mul(crate::first_only(own), field::P - 1);
-    let at = inputs_at(sheet, x, l, m + 1, constant, r, factorials);
+    let at = inputs_at(sheet, x, l, m + 1, constant, r, inverses);
     let first = l + 2;
     let last = l + 3 + (m + m);
-    let h = interpolated(&x[first..last], r, factorials);
+    let h = interpolated(&x[first..last], r, inverses);
     let tau = tau_of(sheet, x, l, constant, counts.tests, s);
     Judged {
         d: field::sub(at.f, x[last]),
@@ -163,10 +163,8 @@ pub fn judge(sheet: &[u8], counts: Counts, own: u32, x: &[u32], r: u32, s: u32) 
     requires { ⌜ Share (now sheet) counts (now x) r s ⌝ }
     ensures { λ q. ⌜ q ≡ judgedOf (columnsOf (now (sheet .entry))) own (now (x .entry)) r s ⌝ }
 {
-    let mut inverses = [0u32; 512];
-    let mut factorials = [0u32; 513];
-    let n = counts.gates + counts.gates;
-    let points = n + 1;
-    crate::fill_inverse_factorials(&mut inverses[..n], &mut factorials[..points]);
-    judge_with(sheet, counts, own, x, r, s, &factorials[..points])
+    let mut inverses = [0u32; 513];
+    let points = counts.gates + counts.gates + 1;
+    field::inverses(&mut inverses[..points]);
+    judge_with(sheet, counts, own, x, r, s, &inverses[..points])
 }

@@ -5,7 +5,7 @@ use native.Mathlib.Omega.{arith}
 use lib.ListN.{length, length-append}
 use lib.Seq.{length-take-le, take-at}
 use Rattle.snip.specs.declared.judging.Inputs.{Inputs}
-use Rattle.snip.specs.Factorials.{Tables}
+use Rattle.snip.specs.Sides.{Inverses}
 use Rattle.snip.proofs.Points.{inner-at}
 use borrow.Author.Needs.{needs}
 use Rattle.snip.proofs.judging.inputs_at.Statement.{statement}
@@ -23,7 +23,8 @@ slice-aggregate-fill-basis c = sym (length-take-le _ _ (c .before .before .befor
 fill-basis-requires : tie.Need-fill-basis-requires
 fill-basis-requires c κs =
     let s = c .before .before .before .before in
-    subst (λ (k : ℕ). Tables (s .args .r) k (s .args .factorials .now)) (sym (length-take-le _ _ (s .pre .0 .3))) (s .pre .1 .0)
+    let n = length-take-le _ _ (s .pre .0 .3) in
+    (subst (λ (k : ℕ). Inverses (s .args .r) k (s .args .inverses .now)) (sym n) (s .pre .1 .0), omega (arith, n, s .pre .0 .3))
 
 array-share-prefix-weights : tie.Need-array-share-prefix-weights
 array-share-prefix-weights c =

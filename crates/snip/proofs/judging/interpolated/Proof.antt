@@ -4,7 +4,7 @@ use Prim.Native.Nat.{ℕ, _≤_}
 use native.Mathlib.Omega.{arith}
 use lib.ListN.{length, length-append}
 use lib.Seq.{length-take-le, take-at}
-use Rattle.snip.specs.Factorials.{Tables}
+use Rattle.snip.specs.Sides.{Inverses}
 use Rattle.snip.proofs.Points.{interpolated-is}
 use borrow.Author.Needs.{needs}
 use Rattle.snip.proofs.judging.interpolated.Statement.{statement}
@@ -19,7 +19,8 @@ slice-aggregate-fill-basis c = sym (length-take-le _ _ (c .before .before .befor
 fill-basis-requires : tie.Need-fill-basis-requires
 fill-basis-requires c κs =
     let s = c .before .before .before in
-    subst (λ (k : ℕ). Tables (s .args .r) k (s .args .factorials .now)) (sym (length-take-le _ _ (s .pre .2))) (s .pre .0)
+    let n = length-take-le _ _ (s .pre .2) in
+    (subst (λ (k : ℕ). Inverses (s .args .r) k (s .args .inverses .now)) (sym n) (s .pre .0), omega (arith, n, s .pre .2))
 
 array-share-prefix-weights : tie.Need-array-share-prefix-weights
 array-share-prefix-weights c =

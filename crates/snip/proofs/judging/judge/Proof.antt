@@ -1,30 +1,26 @@
--- `snip::judging::judge` meets its contract: with the tables that it makes. Assumes nothing.
+-- `snip::judging::judge` meets its contract: with the table of inverses that it makes. Assumes nothing.
 use mathlib.Core.Path.{_≡_, sym, ap, _∙_}
 use Prim.Native.Nat.{ℕ, suc, _+_, _<_, _≤_}
 use native.Mathlib.Omega.{arith}
-use lib.ListN.{length, length-append}
+use lib.ListN.{length-append}
 use lib.Seq.{length-take-le, take-at}
 use Rattle.algebra.specs.Lists.{tabulate}
-use Rattle.field.specs.Residues.{prime}
-use Rattle.snip.specs.Factorials.{inverseFactorial}
+use Rattle.field.specs.Residues.{prime, residues}
 use Rattle.snip.proofs.ShareRoom.{room}
 use Rattle.snip.proofs.judging.judge.Statement.{statement}
 use Rattle.snip.proofs.judging.judge.Tie as tie
 
-below : {a b : ℕ} → a ≡ b → b < prime → a < prime
+below : {a b : ℕ} → a ≡ b → b ≤ 513 → a < prime
 below e h = omega arith
 
-most : {a b n : ℕ} → a ≡ n + 1 → b ≡ n → a ≤ b + 1
-most e h = omega arith
-
-add-n : tie.Need-add-n
-add-n c =
+add-points : tie.Need-add-points
+add-points c =
     let s = c .before .before .before in
     let m = room (s .pre) in
     omega (arith, m .gates-few)
 
-add-points : tie.Need-add-points
-add-points c =
+add-points-2 : tie.Need-add-points-2
+add-points-2 c =
     let s = c .before .before .before in
     let m = room (s .pre) in
     omega (arith, m .gates-few)
@@ -35,69 +31,50 @@ array-borrow-prefix-inverses c =
     let m = room (s .pre) in
     omega (arith, m .gates-few)
 
-slice-aggregate-fill-inverse-factorials : tie.Need-slice-aggregate-fill-inverse-factorials
-slice-aggregate-fill-inverse-factorials c =
+slice-aggregate-inverses : tie.Need-slice-aggregate-inverses
+slice-aggregate-inverses c =
     let s = c .before .before .before .before in
     let m = room (s .pre) in
-    sym (length-take-le _ _ (omega (arith, m .gates-few)))
+    let few : s .args .counts .gates + s .args .counts .gates + 1 ≤ 513 = omega (arith, m .gates-few) in
+    sym (length-take-le _ _ few)
 
-array-borrow-prefix-factorials : tie.Need-array-borrow-prefix-factorials
-array-borrow-prefix-factorials c =
+inverses-requires : tie.Need-inverses-requires
+inverses-requires c κs =
     let s = c .before .before .before .before in
     let m = room (s .pre) in
-    omega (arith, m .gates-few)
+    let few : s .args .counts .gates + s .args .counts .gates + 1 ≤ 513 = omega (arith, m .gates-few) in
+    below (length-take-le _ _ few) few
 
-slice-aggregate-fill-inverse-factorials-2 : tie.Need-slice-aggregate-fill-inverse-factorials-2
-slice-aggregate-fill-inverse-factorials-2 c =
-    let s = c .before .before .before .before .before in
+array-share-prefix-inverses : tie.Need-array-share-prefix-inverses
+array-share-prefix-inverses c =
+    let s = c .before .before .before .before .before .before in
     let m = room (s .pre) in
     let few : s .args .counts .gates + s .args .counts .gates + 1 ≤ 513 = omega (arith, m .gates-few) in
-    let n = length-take-le _ _ few in
-    sym n
-
-fill-inverse-factorials-requires : tie.Need-fill-inverse-factorials-requires
-fill-inverse-factorials-requires c κs =
-    let s = c .before .before .before .before .before in
-    let m = room (s .pre) in
-    let few : s .args .counts .gates + s .args .counts .gates + 1 ≤ 513 = omega (arith, m .gates-few) in
-    let fewer : s .args .counts .gates + s .args .counts .gates ≤ 512 = omega (arith, m .gates-few) in
-    (below (length-take-le _ _ fewer) (omega arith), most (length-take-le _ _ few) (length-take-le _ _ fewer))
-
-array-share-prefix-factorials : tie.Need-array-share-prefix-factorials
-array-share-prefix-factorials c =
-    let s = c .before .before .before .before .before .before .before .before in
-    let m = room (s .pre) in
-    let few : s .args .counts .gates + s .args .counts .gates + 1 ≤ 513 = omega (arith, m .gates-few) in
-    let n = length-take-le _ _ few in
-    let fs = c .before .before .fill-inverse-factorials in
-    let l = fs .kept .1 .0 ∙ n in
+    let l = c .before .inverses2 .kept .0 ∙ length-take-le _ _ few in
     rw (length-append, l) (omega arith)
 
 slice-aggregate-judge-with : tie.Need-slice-aggregate-judge-with
 slice-aggregate-judge-with c =
-    let s = c .before .before .before .before .before .before .before .before .before in
+    let s = c .before .before .before .before .before .before .before in
     let m = room (s .pre) in
     let few : s .args .counts .gates + s .args .counts .gates + 1 ≤ 513 = omega (arith, m .gates-few) in
-    let n = length-take-le _ _ few in
-    let fs = c .before .before .before .fill-inverse-factorials in
-    let l = fs .kept .1 .0 ∙ n in
+    let l = c .before .before .inverses2 .kept .0 ∙ length-take-le _ _ few in
     rw (take-at _ _ _ l) (sym l)
 
 judge-with-requires : tie.Need-judge-with-requires
 judge-with-requires c κs =
-    let s = c .before .before .before .before .before .before .before .before .before in
+    let s = c .before .before .before .before .before .before .before in
     let m = room (s .pre) in
     let few : s .args .counts .gates + s .args .counts .gates + 1 ≤ 513 = omega (arith, m .gates-few) in
-    let n = length-take-le _ _ few in
-    let fs = c .before .before .before .fill-inverse-factorials in
-    let l = fs .kept .1 .0 ∙ n in
+    let v = c .before .before .inverses2 in
+    let l = v .kept .0 ∙ length-take-le _ _ few in
     rw (take-at _ _ _ l) (
       s .pre,
       record {
         element = s .pre .r-below;
         enough = omega (arith, l, m .gates-are);
-        few = omega (arith, l, m .gates-few);
-        are = fs .ensures .1 ∙ ap (tabulate inverseFactorial) (sym (fs .kept .1 .0));
+        few = below l few;
+        are = v .ensures ∙ ap (tabulate (λ i. residues .inv (suc i))) (sym (v .kept .0));
       },
     )
 
@@ -108,14 +85,12 @@ pub judge-spec : {M : Type 1} → statement M
 judge-spec =
     tie.close
     (tie.spec
-    add-n
     add-points
+    add-points-2
     array-borrow-prefix-inverses
-    slice-aggregate-fill-inverse-factorials
-    array-borrow-prefix-factorials
-    slice-aggregate-fill-inverse-factorials-2
-    fill-inverse-factorials-requires
-    array-share-prefix-factorials
+    slice-aggregate-inverses
+    inverses-requires
+    array-share-prefix-inverses
     slice-aggregate-judge-with
     judge-with-requires
     returns)

@@ -14,7 +14,7 @@ use Rattle.rules.specs.Circuit.{gatesIn}
 use Rattle.rules.specs.Judging.{firstOnly}
 use Rattle.snip.specs.declared.judging.Inputs.{Inputs}
 use Rattle.snip.specs.declared.judging.Judged.{Judged}
-use Rattle.snip.specs.Factorials.{Tables}
+use Rattle.snip.specs.Sides.{Inverses}
 use Rattle.snip.proofs.Numbers.{first-below}
 use Rattle.snip.proofs.Points.{interpolate-below}
 use Rattle.snip.proofs.ShareRoom.{room}
@@ -29,7 +29,7 @@ whole : {d d' e e' h h' t t' : ℕ} → d ≡ d' → e ≡ e' → h ≡ h' → t
 whole p q u v = λ i. record { d = p i; e = q i; rh = u i; tau = v i }
 
 -- fewer points
-fewer : {r n k : ℕ} {fs : List ℕ} → Tables r n fs → k ≤ n → Tables r k fs
+fewer : {r n k : ℕ} {fs : List ℕ} → Inverses r n fs → k ≤ n → Inverses r k fs
 fewer t h = record { element = t .element; enough = omega (arith, t .enough); few = t .few; are = t .are }
 
 -- the values of h

@@ -31,11 +31,26 @@ fn column(kind: u8, last: usize) -> Counts {
     }
 }
 
+fn add(counts: &mut Counts, c: Counts) {
+    if counts.entries <= 256 {
+        counts.columns += c.columns;
+        counts.entries += c.entries;
+        counts.published += c.published;
+        counts.gates += c.gates;
+        counts.tests += c.tests;
+    }
+}
+
 pub fn read_sheet(s: &[u8]) -> Result<Counts, u32> {
     let mut counts = Counts::default();
     let mut at = 0;
     while at < s.len() {
         let kind = s[at];
+        if kind == 17 {
+            add(&mut counts, column(17, 0));
+            at += 1;
+            continue;
+        }
         let size = bytes_of(kind);
         if size == 0 || s.len() - at < size {
             return Err(1);
@@ -44,13 +59,7 @@ pub fn read_sheet(s: &[u8]) -> Result<Counts, u32> {
         if c.entries == 0 {
             return Err(2);
         }
-        if counts.entries <= 256 {
-            counts.columns += c.columns;
-            counts.entries += c.entries;
-            counts.published += c.published;
-            counts.gates += c.gates;
-            counts.tests += c.tests;
-        }
+        add(&mut counts, c);
         at += size;
     }
     if (1..=256).contains(&counts.entries) {

@@ -33,6 +33,17 @@ use Rattle.shares.specs.Taking.{Takable}
 abbrev pub sheetCut : List ℕ → Table → List ℕ
 sheetCut T k = take (12 + k .sheet - 12) (drop 12 T)
 
+-- what the sheet comes to, as the table says
+abbrev pub countsAt : Table → Counts
+countsAt k =
+    record {
+      columns = k .columns;
+      entries = k .entries;
+      published = k .published;
+      gates = k .gates;
+      tests = k .tests;
+    }
+
 module _ (T : List ℕ) (k : Table) (h : Sound T k) where
   header-sound : headerSound document01 T ≡ true
   unfolding tableSound
@@ -58,8 +69,12 @@ module _ (T : List ℕ) (k : Table) (h : Sound T k) where
   unfolding tableOf
   sheet-cut = let l : 12 + k .sheet - 12 ≡ k .sheet = omega arith in rw (l, h .says)
 
-  pub sheet-reads : readSheet (sheetCut T k) ≡ ok (columnsOf (sheetCut T k))
+  sheet-reads : readSheet (sheetCut T k) ≡ ok (columnsOf (sheetCut T k))
   sheet-reads = cut-reads T k headed
+
+  counts-are : countsAt k ≡ countsOf (columnsOf (sheetCut T k))
+  unfolding tableOf
+  counts-are = rw (sheet-cut, h .says)
 
   size-is : sizeOf (k .entries) (k .gates) ≡ shareSize (columnsOf (sheetCut T k))
   unfolding tableOf shareSize
@@ -75,11 +90,10 @@ module _ (T : List ℕ) (k : Table) (m : List ℕ) (r s : ℕ) (h : Takable T k 
   elements-are : xs ≡ shareElements document01 m
   elements-are = ex ∙ ap (elementsOf 4) (to-end 6 m)
 
-  pub the-share : (c : Counts) → c ≡ countsOf (columnsOf (sheetCut T k)) → length xs ≡ sizeOf (k .entries) (k .gates)
-      → Share (sheetCut T k) c xs r s
-  the-share c ec l = record {
+  pub the-share : length xs ≡ sizeOf (k .entries) (k .gates) → Share (sheetCut T k) (countsAt k) xs r s
+  the-share l = record {
     is-read = sheet-reads T k (h .table);
-    counts-are = ec;
+    counts-are = counts-are T k (h .table);
     size = l ∙ size-is T k (h .table);
     elements = rw elements-are (all-of-below 2147483647 (shareElements document01 m) (h .elements));
     r-below = h .r-below;

@@ -4,20 +4,17 @@ ghost use mathlib.Core.Path.{_≡_};
 ghost use Prim.Native.Nat.{_+_, _≤_};
 ghost use lib.ListN.{length};
 ghost use Rattle.words.specs.Bytes.{splice};
-ghost use Rattle.records.specs.Outcome.{ok, orElse};
-ghost use Rattle.rules.specs.Columns.{readSheet, columnsOf};
+ghost use Rattle.records.specs.Outcome.{orElse};
 ghost use Rattle.rules.specs.Settings.{document01};
 ghost use Rattle.rules.specs.Server.{shareRefusal};
 ghost use Rattle.rules.specs.Messages.{shareElements};
 ghost use Rattle.rules.specs.Table.{known, columnsIn, shareTable, shareBytes};
-ghost use Rattle.sheet.specs.Reading.{countsOf};
 ghost use Rattle.snip.specs.Judged.{judgedOf};
 ghost use Rattle.table.specs.Reading.{Sound};
 ghost use Rattle.shares.specs.Calls.{Shares};
 ghost use Rattle.shares.specs.Taking.{startFault, messageFault, lastFault, waitBytes, Fitting, Takable};
 use records::Written;
 use sheet::Counts;
-use sheet::Reading;
 use snip::judging::Judged;
 use snip::judging::judge;
 use table::Found;
@@ -100,23 +97,6 @@ fn share_refusal(t: &[u8], k: Table, m: &[u8], r: u64, s: u64, room: usize) -> u
     last_refusal(t, k, m, r, s, room)
 }
 
-// The counts of a sheet that is read.
-fn counts_of(sheet: &[u8]) -> Counts
-    requires { ⌜ readSheet (now sheet) ≡ ok (columnsOf (now sheet)) ⌝ }
-    ensures { λ c. ⌜ c ≡ countsOf (columnsOf (now (sheet .entry))) ⌝ }
-{
-    match sheet::read(sheet) {
-        Reading::Counts(counts) => counts,
-        Reading::Refused(_) => Counts {
-            columns: 0,
-            entries: 0,
-            published: 0,
-            gates: 0,
-            tests: 0,
-        },
-    }
-}
-
 // What the server works out from the share m with the pair r, s.
 fn judged(t: &[u8], k: Table, m: &[u8], r: u32, s: u32) -> Judged
     requires { ⌜ Takable (now t) k (now m) r s ⌝ }
@@ -127,8 +107,14 @@ fn judged(t: &[u8], k: Table, m: &[u8], r: u32, s: u32) -> Judged
     let size = share_size(k.entries, k.gates);
     words::read_elements(&m[6..], &mut x[..size]);
     let end = 12 + k.sheet;
-    let sheet = &t[12..end];
-    judge(sheet, counts_of(sheet), k.own, &x[..size], r, s)
+    let counts = Counts {
+        columns: k.columns,
+        entries: k.entries,
+        published: k.published,
+        gates: k.gates,
+        tests: k.tests,
+    };
+    judge(&t[12..end], counts, k.own, &x[..size], r, s)
 }
 
 // Writes the return that waits, but for its elements.

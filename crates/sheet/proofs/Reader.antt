@@ -9,7 +9,7 @@ use Prim.Native.Nat.{ℕ, _+_, _-_, _≤_, _<_}
 use native.Mathlib.Nat.{add-zero}
 use native.Mathlib.Numerals.{add-one}
 use native.Mathlib.Omega.{arith}
-use borrow.Author.Tests.{le-leb, lt-leb, leb-true, leb-false}
+use borrow.Author.Tests.{le-leb, lt-leb, leb-true, leb-false, eq-eqb}
 use lib.Dec.{leb, eqb}
 use lib.ListN.{getD, drop, length-append}
 use lib.Seq.{getD-take, getD-drop}
@@ -54,6 +54,15 @@ module _ (k : ℕ) where
       by-kind false true d h = refl
       by-kind false false true h = refl
       by-kind false false false h = absurd (h refl)
+
+-- a yes/no has no body, and is taken
+pub yes-no-body : (k : ℕ) → k ≡ 17 → columnBody k ≡ some 0
+unfolding columnBody
+yes-no-body k e = rw (eq-eqb k 17 e)
+
+pub yes-no-taken : (k : ℕ) (b : List ℕ) → k ≡ 17 → columnOf k b ≡ ok yesNo
+unfolding columnOf
+yes-no-taken k b e = rw (eq-eqb k 17 e)
 
 -- the one byte of a body
 body-byte : (s : List ℕ) (i : ℕ) → getD (part (i + 1) 1 s) 0 0 ≡ getD s (i + 1) 0
@@ -104,6 +113,10 @@ pub none-small : Small 320 (countsOf [])
 unfolding entriesIn publishedIn gatesIn testsIn
 none-small = search arith
 
+pub yes-no-small : Small 64 (countsOf (yesNo ∷ []))
+unfolding entriesOf publishedOf gatesOf testsOf entriesIn publishedIn gatesIn testsIn
+yes-no-small = search arith
+
 pub data Judged (r : Outcome Column) : Type 0 where
   taken : (c : Column) → r ≡ ok c → Small 64 (countsOf (c ∷ [])) → 1 ≤ entriesIn (c ∷ []) → Judged r
   outside : r ≡ refused 2 → Judged r
@@ -119,7 +132,7 @@ judged k n = by-kind (eqb k 17) (eqb k 18)
   where
     by-kind : (a b : Bool)
         → Judged (cond a (ok yesNo) (cond b (counted (within 2 64 n) (choice n)) (counted (within 1 24 n) (number n))))
-    by-kind true b = taken yesNo refl (search arith) (omega arith)
+    by-kind true b = taken yesNo refl yes-no-small (omega arith)
     by-kind false true =
         counted-judged (choice n) (within 2 64 n) (λ h. let l = within-both 2 64 n h in (search arith, omega arith))
     by-kind false false =

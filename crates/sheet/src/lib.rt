@@ -3,7 +3,7 @@
 ghost use mathlib.Core.Path.{_≡_};
 ghost use mathlib.Core.List.{[], _∷_};
 ghost use Prim.Native.Nat.{_^_, _≤_};
-ghost use Rattle.rules.specs.Columns.{choice, number, within, counted, columnOf};
+ghost use Rattle.rules.specs.Columns.{yesNo, choice, number, within, counted, columnOf};
 ghost use Rattle.sheet.specs.Reading.{bytesOfKind, countsOf, alone, Small, more, limited, readingOf};
 
 pub mod columns;
@@ -89,6 +89,19 @@ fn number_alone(n: usize) -> Counts
     }
 }
 
+// A yes/no by itself.
+fn yes_no_alone() -> Counts
+    ensures { λ r. ⌜ r ≡ countsOf (yesNo ∷ []) ⌝ }
+{
+    Counts {
+        columns: 1,
+        entries: 1,
+        published: 1,
+        gates: 1,
+        tests: 1,
+    }
+}
+
 fn wide(n: u8) -> usize
     ensures { λ r. ⌜ r ≡ n ⌝ }
 {
@@ -108,13 +121,7 @@ fn column_alone(kind: u8, last: u8) -> Counts
     ensures { λ r. ⌜ r ≡ alone (columnOf kind (last ∷ [])) ⌝ }
 {
     if kind == 17 {
-        return Counts {
-            columns: 1,
-            entries: 1,
-            published: 1,
-            gates: 1,
-            tests: 1,
-        };
+        return yes_no_alone();
     }
     if kind == 18 {
         return choice_alone(wide(last));
@@ -152,7 +159,8 @@ fn limit(c: Counts) -> Reading
     Reading::Counts(c)
 }
 
-// What a sheet comes to, or the number of its first fault.
+// What a sheet comes to, or the number of its first fault. A yes/no has its own branch: else the place of each column waits
+// until the size of the one before is looked up.
 pub fn read(s: &[u8]) -> Reading
     ensures { λ r. ⌜ r ≡ readingOf (now (s .entry)) ⌝ }
 {
@@ -163,6 +171,11 @@ pub fn read(s: &[u8]) -> Reading
             break 'columns 0;
         }
         let kind = s[at];
+        if kind == 17 {
+            counts = with(counts, yes_no_alone());
+            at += 1;
+            continue 'columns;
+        }
         let size = bytes_of(kind);
         if size == 0 {
             break 'columns 1;

@@ -139,9 +139,11 @@ module _ (T : List ℕ) where
           decided = valueOf (part 6 2 T);
           accepted = valueOf (part 8 2 T);
           sheet = valueOf (part 10 2 T);
+          columns = c .columns;
           entries = c .entries;
           published = c .published;
           gates = c .gates;
+          tests = c .tests;
         }
         )
         ≡ headIn T

@@ -9,7 +9,7 @@ use lib.ListN.{length, getD}
 use Rattle.words.specs.Bytes.{valueOf, part, elementsOf, allBelow}
 use Rattle.rules.specs.Settings.{document01}
 use Rattle.rules.specs.Columns.{within, entriesIn, publishedIn, sheetFault, totalsFit}
-use Rattle.rules.specs.Circuit.{gatesIn}
+use Rattle.rules.specs.Circuit.{gatesIn, testsIn}
 use Rattle.rules.specs.Table.{stageByte, serversIn, ownIn, returnsIn, decidedIn, acceptedIn, sheetSize, sheetIn, columnsIn}
 use Rattle.rules.specs.Table.{headerSound, tableSound}
 use Rattle.table.specs.Places.{totalsAt, waitAt, lengthAt, sizeOf}
@@ -28,9 +28,11 @@ tableOf T =
       decided = decidedIn document01 T;
       accepted = acceptedIn document01 T;
       sheet = sheetSize document01 T;
+      columns = length (columnsIn document01 T);
       entries = entriesIn (columnsIn document01 T);
       published = publishedIn (columnsIn document01 T);
       gates = gatesIn (columnsIn document01 T);
+      tests = testsIn (columnsIn document01 T);
     }
 
 -- what the reader answers, and what it has once the header and the sheet are sound

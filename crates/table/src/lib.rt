@@ -28,9 +28,11 @@ pub struct Table {
     pub accepted: u32,
     // the bytes of the sheet
     pub sheet: usize,
+    pub columns: usize,
     pub entries: usize,
     pub published: usize,
     pub gates: usize,
+    pub tests: usize,
 }
 
 pub enum Found {
@@ -129,9 +131,11 @@ fn head(t: &[u8]) -> Found
             decided: words::read_u16(t, 6),
             accepted: words::read_u16(t, 8),
             sheet: n,
+            columns: counts.columns,
             entries: counts.entries,
             published: counts.published,
             gates: counts.gates,
+            tests: counts.tests,
         }),
     }
 }

@@ -5,7 +5,7 @@ use Prim.Native.Nat.{_≤_}
 use native.Mathlib.Omega.{arith}
 use lib.ListN.{length-append}
 use lib.Seq.{length-take-le, take-at}
-use Rattle.shares.proofs.Working.{sheet-reads, elements-long, the-share, worked-out}
+use Rattle.shares.proofs.Working.{elements-long, the-share, worked-out}
 use borrow.Author.Needs.{needs}
 use Rattle.shares.proofs.judged.Statement.{statement}
 use Rattle.shares.proofs.judged.Tie as tie
@@ -41,56 +41,50 @@ read-elements-requires c κs =
 add-end : tie.Need-add-end
 add-end c = search needs
 
-sub-sheet : tie.Need-sub-sheet
-sub-sheet c = search needs
+sub-judge : tie.Need-sub-judge
+sub-judge c = search needs
 
-part-sheet-start : tie.Need-part-sheet-start
-part-sheet-start c = search needs
+part-judge-start : tie.Need-part-judge-start
+part-judge-start c = search needs
 
-part-sheet-end : tie.Need-part-sheet-end
-part-sheet-end c = search needs
-
-counts-of-requires : tie.Need-counts-of-requires
-counts-of-requires c κs =
-    let p = c .before .before .before .before .before .before .before .before .before in
-    sheet-reads (p .args .t .now) (p .args .k) (p .pre .table)
+part-judge-end : tie.Need-part-judge-end
+part-judge-end c = search needs
 
 array-share-prefix-x : tie.Need-array-share-prefix-x
 array-share-prefix-x c =
-    let z = c .before .before .before .before .before .before .before .share-size in
-    let p = c .before .before .before .before .before .before .before .before .before .before in
+    let z = c .before .before .before .before .before .before .share-size in
+    let p = c .before .before .before .before .before .before .before .before .before in
     let few : z .result ≤ 774 = omega (arith, z .ensures, p .pre .table .limited) in
-    let x = c .before .before .before .before .read-elements in
+    let x = c .before .before .before .read-elements in
     let l = x .kept .1 .0 ∙ length-take-le _ _ few in
     rw (length-append, l) (omega arith)
 
 slice-aggregate-judge : tie.Need-slice-aggregate-judge
 slice-aggregate-judge c =
-    let z = c .before .before .before .before .before .before .before .before .share-size in
-    let p = c .before .before .before .before .before .before .before .before .before .before .before in
+    let z = c .before .before .before .before .before .before .before .share-size in
+    let p = c .before .before .before .before .before .before .before .before .before .before in
     let few : z .result ≤ 774 = omega (arith, z .ensures, p .pre .table .limited) in
-    let x = c .before .before .before .before .before .read-elements in
+    let x = c .before .before .before .before .read-elements in
     let l = x .kept .1 .0 ∙ length-take-le _ _ few in
     rw (take-at _ _ _ l) (sym l)
 
 judge-requires : tie.Need-judge-requires
 judge-requires c κs =
+    let z = c .before .before .before .before .before .before .before .share-size in
+    let p = c .before .before .before .before .before .before .before .before .before .before in
+    let few : z .result ≤ 774 = omega (arith, z .ensures, p .pre .table .limited) in
+    let x = c .before .before .before .before .read-elements in
+    let l = x .kept .1 .0 ∙ length-take-le _ _ few in
+    let a = p .args in
+    rw (take-at _ _ _ l)
+    (the-share (a .t .now) (a .k) (a .m .now) (a .r) (a .s) (p .pre) _ (x .ensures) (l ∙ z .ensures))
+
+returns : tie.Need-returns
+returns c =
     let z = c .before .before .before .before .before .before .before .before .share-size in
     let p = c .before .before .before .before .before .before .before .before .before .before .before in
     let few : z .result ≤ 774 = omega (arith, z .ensures, p .pre .table .limited) in
     let x = c .before .before .before .before .before .read-elements in
-    let l = x .kept .1 .0 ∙ length-take-le _ _ few in
-    let a = p .args in
-    let n = c .before .counts-of in
-    rw (take-at _ _ _ l)
-    (the-share (a .t .now) (a .k) (a .m .now) (a .r) (a .s) (p .pre) _ (x .ensures) (n .result) (n .ensures) (l ∙ z .ensures))
-
-returns : tie.Need-returns
-returns c =
-    let z = c .before .before .before .before .before .before .before .before .before .share-size in
-    let p = c .before .before .before .before .before .before .before .before .before .before .before .before in
-    let few : z .result ≤ 774 = omega (arith, z .ensures, p .pre .table .limited) in
-    let x = c .before .before .before .before .before .before .read-elements in
     let l = x .kept .1 .0 ∙ length-take-le _ _ few in
     let a = p .args in
     (rw (take-at _ _ _ l) at (c .judge .ensures)) ∙ worked-out (a .t .now) (a .k) (a .m .now) (a .r) (a .s) (p .pre) _ (x .ensures)
@@ -107,10 +101,9 @@ judged-spec =
     slice-aggregate-read-elements
     read-elements-requires
     add-end
-    sub-sheet
-    part-sheet-start
-    part-sheet-end
-    counts-of-requires
+    sub-judge
+    part-judge-start
+    part-judge-end
     array-share-prefix-x
     slice-aggregate-judge
     judge-requires

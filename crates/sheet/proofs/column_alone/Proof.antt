@@ -1,15 +1,17 @@
 -- `sheet::column_alone` meets its contract: each kind is one case of the definition. Assumes nothing.
 use borrow.Author.Needs.{needs}
 use borrow.Author.Tests.{eq-eqb, ne-eqb}
-use Rattle.rules.specs.Columns.{columnOf, entriesOf, publishedOf, entriesIn, publishedIn}
-use Rattle.rules.specs.Circuit.{gatesOf, testsOf, gatesIn, testsIn}
+use Rattle.rules.specs.Columns.{columnOf}
 use Rattle.sheet.specs.Reading.{alone}
 use Rattle.sheet.proofs.column_alone.Statement.{statement}
 use Rattle.sheet.proofs.column_alone.Tie as tie
 
+yes-no-alone-requires : tie.Need-yes-no-alone-requires
+yes-no-alone-requires c κs = search needs
+
 returns : tie.Need-returns
-unfolding alone columnOf entriesOf publishedOf gatesOf testsOf entriesIn publishedIn gatesIn testsIn
-returns c = rw (eq-eqb _ 17 (c .if1 .taken))
+unfolding alone columnOf
+returns c = rw (c .yes-no-alone .ensures, eq-eqb _ 17 (c .before .if1 .taken))
 
 wide-requires : tie.Need-wide-requires
 wide-requires c κs = search needs
@@ -47,6 +49,7 @@ pub column-alone-spec : {M : Type 1} → statement M
 column-alone-spec =
     tie.close
     (tie.spec
+    yes-no-alone-requires
     returns
     wide-requires
     choice-alone-requires

@@ -4,6 +4,7 @@ use mathlib.Core.Path.{_≡_, refl, sym, ap, _∙_}
 use mathlib.Core.Logic.{_⊎_, ⊎-elim, inl, inr}
 use mathlib.Core.List.{List, [], _∷_, _++_}
 use Prim.Native.Nat.{ℕ, _≤_, _<_, _+_, _-_}
+use native.Mathlib.Nat.{add-zero}
 use native.Mathlib.Omega.{arith}
 use borrow.Author.Needs.{needs}
 use lib.ListN.{length, getD, drop}
@@ -11,11 +12,12 @@ use Rattle.words.specs.Bytes.{part}
 use Rattle.records.specs.Outcome.{refused}
 use Rattle.records.specs.Records.{readFrom, read}
 use Rattle.records.proofs.Records.{at-end, unknown-kind, cut-body, judged-refused, judged-ok}
-use Rattle.rules.specs.Columns.{Column, columnFormat, columnOf}
+use Rattle.rules.specs.Columns.{Column, yesNo, columnFormat, columnOf}
 use Rattle.sheet.specs.declared.Reading.{Reading}
 use Rattle.sheet.specs.declared.Reading.the-variants as answer
 use Rattle.sheet.specs.Reading.{bytesOfKind, alone, Small, limited, readingOf}
 use Rattle.sheet.proofs.Reader.{kind-unknown, kind-known, judged-last, judged, none-outside, Taken, some-taken}
+use Rattle.sheet.proofs.Reader.{yes-no-body, yes-no-taken, yes-no-small}
 use Rattle.sheet.proofs.Reader.{none-small, Tracks, tracks-none, tracks-next, answer-refused, answer-limited}
 use Rattle.sheet.proofs.read.Statement.{statement}
 use Rattle.sheet.proofs.read.Tie as tie
@@ -34,6 +36,13 @@ Left all end fault = ((fault ≡ 0) × (all ≡ end)) ⊎ ((fault ≡ 0 → ⊥)
 
 faulty : (all end : Reading) (f n : ℕ) → f ≡ n → (n ≡ 0 → ⊥) → all ≡ answer.Refused n → Left all end f
 faulty all end f n e z q = rw e (inr (z, q))
+
+-- a yes/no at place i
+yes-no-read : (s : List ℕ) (i : ℕ) (done : List Column) → i < length s → getD s i 0 ≡ 17
+    → readFrom columnFormat (drop i s) 0 done ≡ readFrom columnFormat (drop (i + 1) s) 0 (done ++ (yesNo ∷ []))
+yes-no-read s i done h e =
+    judged-ok columnFormat s i done 0 h (yes-no-body (getD s i 0) e) yesNo (omega arith) (yes-no-taken (getD s i 0) _ e)
+    ∙ ap (λ (n : ℕ). readFrom columnFormat (drop n s) 0 (done ++ (yesNo ∷ []))) (add-zero (i + 1))
 
 -- a column at place i: its size m, its kind byte and its last byte
 module _ (s : List ℕ) (i : ℕ) (done : List Column) (h : i < length s) (m : ℕ) (size-is : m ≡ bytesOfKind (getD s i 0)) where
@@ -84,16 +93,16 @@ outcome c =
     (λ w. inl (w .1, answer-limited s k d (l .columns .inv .2 .1) (v ∙ at-end columnFormat s i d (omega arith))))
     (⊎-elim
     (λ w.
-    faulty a z _ 1 (w .4) (λ x. omega arith)
-    (answer-refused s 1 (v ∙ size-zero s i d (omega arith) _ (w .2 .ensures) (w .3 .taken))))
+    faulty a z _ 1 (w .5) (λ x. omega arith)
+    (answer-refused s 1 (v ∙ size-zero s i d (omega arith) _ (w .3 .ensures) (w .4 .taken))))
     (⊎-elim
     (λ w.
-    faulty a z _ 1 (w .5) (λ x. omega arith)
-    (answer-refused s 1 (v ∙ cut s i d (omega arith) _ (w .2 .ensures) (w .3 .left) (w .4 .taken))))
+    faulty a z _ 1 (w .6) (λ x. omega arith)
+    (answer-refused s 1 (v ∙ cut s i d (omega arith) _ (w .3 .ensures) (w .4 .left) (w .5 .taken))))
     (λ w.
-    faulty a z _ 2 (w .9) (λ x. omega arith)
+    faulty a z _ 2 (w .10) (λ x. omega arith)
     (answer-refused s 2
-    (v ∙ refuse s i d (omega arith) _ (w .2 .ensures) (w .3 .left) (w .4 .left) (rw (w .6 .ensures) at (w .8 .taken)))))))
+    (v ∙ refuse s i d (omega arith) _ (w .3 .ensures) (w .4 .left) (w .5 .left) (rw (w .7 .ensures) at (w .9 .taken)))))))
     (c .if1 .came)
 
 none-requires : tie.Need-none-requires Inv-columns μ-columns
@@ -106,11 +115,40 @@ columns-holds c =
 shared-slice-read-kind : tie.Need-shared-slice-read-kind Inv-columns μ-columns
 shared-slice-read-kind c = search needs
 
+yes-no-alone-requires : tie.Need-yes-no-alone-requires Inv-columns μ-columns
+yes-no-alone-requires c κs = search needs
+
+with-requires : tie.Need-with-requires Inv-columns μ-columns
+with-requires c κs =
+    (c .before .before .before .before .columns .inv .1, rw (c .yes-no-alone .ensures) yes-no-small)
+
+add-at : tie.Need-add-at Inv-columns μ-columns
+add-at c = search needs
+
+columns-less : tie.Need-columns-less Inv-columns μ-columns
+columns-less c = search needs
+
+columns-again : tie.Need-columns-again Inv-columns μ-columns
+columns-again c =
+    let l = c .before .before .before .before .before in
+    let s = l .before .before .before .args .s .now in
+    let i = l .columns .at in
+    let d = l .columns .inv .2 .0 in (
+      search needs,
+      c .with .ensures .1,
+      (
+        d ++ (yesNo ∷ []),
+        rw (c .with .ensures .0, c .before .yes-no-alone .ensures)
+            (tracks-next (l .columns .counts) d yesNo (l .columns .inv .2 .1)),
+        l .columns .inv .2 .2 ∙ yes-no-read s i d (omega arith) (c .before .before .if2 .taken),
+      ),
+    )
+
 bytes-of-requires : tie.Need-bytes-of-requires Inv-columns μ-columns
 bytes-of-requires c κs = search needs
 
-sub-if3 : tie.Need-sub-if3 Inv-columns μ-columns
-sub-if3 c = search needs
+sub-if4 : tie.Need-sub-if4 Inv-columns μ-columns
+sub-if4 c = search needs
 
 sub-column-alone : tie.Need-sub-column-alone Inv-columns μ-columns
 sub-column-alone c = search needs
@@ -124,47 +162,47 @@ shared-slice-read-column-alone c = search needs
 column-alone-requires : tie.Need-column-alone-requires Inv-columns μ-columns
 column-alone-requires c κs = search needs
 
-with-requires : tie.Need-with-requires Inv-columns μ-columns
-with-requires c κs =
-    let l = c .before .before .before .before .before .before .before .before .before in
+with-requires-2 : tie.Need-with-requires-2 Inv-columns μ-columns
+with-requires-2 c κs =
+    let l = c .before .before .before .before .before .before .before .before .before .before in
     let e = c .before .before .column-alone .ensures in
-    (l .columns .inv .1, rw e (some-taken _ (judged _ _) (rw e at (c .if4 .left)) .small))
+    (l .columns .inv .1, rw e (some-taken _ (judged _ _) (rw e at (c .if5 .left)) .small))
 
-add-at : tie.Need-add-at Inv-columns μ-columns
-add-at c = search needs
+add-at-2 : tie.Need-add-at-2 Inv-columns μ-columns
+add-at-2 c = search needs
 
-columns-less : tie.Need-columns-less Inv-columns μ-columns
-columns-less c = search needs
+columns-less-2 : tie.Need-columns-less-2 Inv-columns μ-columns
+columns-less-2 c = search needs
 
-columns-again : tie.Need-columns-again Inv-columns μ-columns
-columns-again c =
+columns-again-2 : tie.Need-columns-again-2 Inv-columns μ-columns
+columns-again-2 c =
     let o = c .before .before .before .before .before .before .before in
-    let l = o .before .before .before in
+    let l = o .before .before .before .before in
     let s = l .before .before .before .args .s .now in
     let i = l .columns .at in
     let d = l .columns .inv .2 .0 in
     let e = c .before .before .before .column-alone .ensures in
-    let t = some-taken _ (judged _ _) (rw e at (c .before .if4 .left)) in (
+    let t = some-taken _ (judged _ _) (rw e at (c .before .if5 .left)) in (
       search needs,
-      c .with .ensures .1,
+      c .with2 .ensures .1,
       (
         d ++ (t .column ∷ []),
-        rw (c .with .ensures .0, e, t .counts) (tracks-next (l .columns .counts) d (t .column) (l .columns .inv .2 .1)),
+        rw (c .with2 .ensures .0, e, t .counts) (tracks-next (l .columns .counts) d (t .column) (l .columns .inv .2 .1)),
         l .columns .inv .2 .2
-            ∙ goes-on s i d (omega arith) _ (o .bytes-of .ensures) (c .before .before .before .before .before .before .if2 .left)
-            (c .before .before .before .before .before .if3 .left) t,
+            ∙ goes-on s i d (omega arith) _ (o .bytes-of .ensures) (c .before .before .before .before .before .before .if3 .left)
+            (c .before .before .before .before .before .if4 .left) t,
       ),
     )
 
 returns : tie.Need-returns Inv-columns μ-columns
-returns c = ⊎-elim (λ w. absurd (c .if5 .taken (w .0))) (λ w. sym (w .1)) (outcome (c .before))
+returns c = ⊎-elim (λ w. absurd (c .if6 .taken (w .0))) (λ w. sym (w .1)) (outcome (c .before))
 
 limit-requires : tie.Need-limit-requires Inv-columns μ-columns
 limit-requires c κs = search needs
 
 returns-2 : tie.Need-returns-2 Inv-columns μ-columns
 returns-2 c =
-    ⊎-elim (λ w. c .limit .ensures ∙ sym (w .1)) (λ w. absurd (w .0 (c .before .if5 .left))) (outcome (c .before .before))
+    ⊎-elim (λ w. c .limit .ensures ∙ sym (w .1)) (λ w. absurd (w .0 (c .before .if6 .left))) (outcome (c .before .before))
 
 pub read-spec : {M : Type 1} → statement M
 read-spec =
@@ -175,16 +213,21 @@ read-spec =
     none-requires
     columns-holds
     shared-slice-read-kind
-    bytes-of-requires
-    sub-if3
-    sub-column-alone
-    add-column-alone
-    shared-slice-read-column-alone
-    column-alone-requires
+    yes-no-alone-requires
     with-requires
     add-at
     columns-less
     columns-again
+    bytes-of-requires
+    sub-if4
+    sub-column-alone
+    add-column-alone
+    shared-slice-read-column-alone
+    column-alone-requires
+    with-requires-2
+    add-at-2
+    columns-less-2
+    columns-again-2
     returns
     limit-requires
     returns-2)

@@ -73,19 +73,19 @@ module _ (T joined : List ℕ) (k : Table) (id : ℕ) (r : TwoReady T joined k i
   verdict-is = rw (r .waits .sound .says) (verdict-at T joined)
 
   module _ (b : Bool) (e : b ≡ bothZero document01 (k .servers) joined) where
-    pub settled-accepted : (t t' : List ℕ) → b ≡ true → t ≡ withPublished T → t' ≡ decidedAs k 1 id t
+    pub settled-accepted : (t t' : List ℕ) (n : ℕ) → b ≡ true → t ≡ withPublished T → t' ≡ decidedAs k n id t → n ≡ 1
         → (true ≡ twoVerdict document01 T joined) × (t' ≡ twoTable document01 T joined)
     unfolding twoTable withPublished
-    settled-accepted t t' h p q =
+    settled-accepted t t' n h p q one =
         let v : twoVerdict document01 T joined ≡ true = sym (e ∙ verdict-is) ∙ h in
-        (sym v, q ∙ decided-is t 1 ∙ rw (v, p))
+        (sym v, q ∙ decided-is t n ∙ rw (v, p, one))
 
-    pub settled-rejected : (t' : List ℕ) → b ≡ false → t' ≡ decidedAs k 0 id T
+    pub settled-rejected : (t' : List ℕ) (n : ℕ) → b ≡ false → t' ≡ decidedAs k n id T → n ≡ 0
         → (false ≡ twoVerdict document01 T joined) × (t' ≡ twoTable document01 T joined)
     unfolding twoTable
-    settled-rejected t' h q =
+    settled-rejected t' n h q none =
         let v : twoVerdict document01 T joined ≡ false = sym (e ∙ verdict-is) ∙ h in
-        (sym v, q ∙ decided-is T 0 ∙ rw v)
+        (sym v, q ∙ decided-is T n ∙ rw (v, none))
 
 -- a return more can be decided, in a table of the same length
 pub waits-decides : (T : List ℕ) (k : Table) → Waits T k → (t : List ℕ) → length t ≡ length T → Decidable t k

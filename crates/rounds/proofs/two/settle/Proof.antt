@@ -1,5 +1,5 @@
 -- `rounds::two::settle` meets its contract: the return is decided by the verdict (`settled-accepted`, `settled-rejected`).
--- Assumes nothing.
+-- What the contract requires is found by search; what was tested and done is named. Assumes nothing.
 use mathlib.Core.Path.{refl}
 use native.Mathlib.Omega.{arith}
 use Rattle.rounds.proofs.SecondRound.{settled-accepted, settled-rejected, waits-decides}
@@ -14,10 +14,7 @@ add-published-requires : tie.Need-add-published-requires
 add-published-requires c κs = search needs
 
 decide-requires : tie.Need-decide-requires
-decide-requires c κs =
-    let p = c .before .before .before in
-    let a = p .before .before .before .before .before .before in
-    (waits-decides (a .args .t .now) (a .args .k) (a .pre .waits) _ (p .add-published .kept .0), omega arith)
+decide-requires c κs = (search (needs, waits-decides), omega arith)
 
 same-length : tie.Need-same-length
 same-length c = search needs
@@ -27,15 +24,11 @@ returns c =
     let d = c .before .before in
     let p = d .before .before .before .before in
     let i = p .before .before in
-    let z = i .before in
-    let a = z .before .before .before in
-    settled-accepted (a .args .t .now) (a .args .joined .now) (a .args .k) (a .args .id) (a .pre) (z .both-zero .result)
-    (z .both-zero .ensures) _ _ (i .if1 .taken) (p .add-published .ensures) (d .decide .ensures)
+    settled-accepted _ _ _ _ (search needs) _ (i .before .both-zero .ensures) _ _ _ (i .if1 .taken) (p .add-published .ensures)
+    (d .decide .ensures) refl
 
 decide-requires-2 : tie.Need-decide-requires-2
-decide-requires-2 c κs =
-    let a = c .before .before .before .before .before in
-    (waits-decides (a .args .t .now) (a .args .k) (a .pre .waits) _ refl, omega arith)
+decide-requires-2 c κs = (search (needs, waits-decides), omega arith)
 
 same-length-2 : tie.Need-same-length-2
 same-length-2 c = search needs
@@ -44,10 +37,7 @@ returns-2 : tie.Need-returns-2
 returns-2 c =
     let d = c .before .before in
     let i = d .before .before in
-    let z = i .before in
-    let a = z .before .before .before in
-    settled-rejected (a .args .t .now) (a .args .joined .now) (a .args .k) (a .args .id) (a .pre) (z .both-zero .result)
-    (z .both-zero .ensures) _ (i .if1 .left) (d .decide2 .ensures)
+    settled-rejected _ _ _ _ (search needs) _ (i .before .both-zero .ensures) _ _ (i .if1 .left) (d .decide2 .ensures) refl
 
 pub settle-spec : {M : Type 1} → statement M
 settle-spec =

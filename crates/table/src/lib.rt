@@ -182,13 +182,13 @@ fn totals_sound(t: &[u8], k: Table) -> bool
 pub fn pair_sound(gates: usize, r: u64, s: u64) -> bool
     ensures { λ b. ⌜ b ≡ pairSound gates r s ⌝ }
 {
-    if r <= (gates as u64) {
-        return false;
-    }
     if 2147483647 <= r {
         return false;
     }
-    s < 2147483647
+    if 2147483647 <= s {
+        return false;
+    }
+    (gates as u64) < r
 }
 
 // Whether the return that waits has a pair, and its numbers are elements.

@@ -1,27 +1,27 @@
--- The three walks as walks of parts, and the meanings at a server and on a list as meanings on numbers: a sheet's circuit
+-- The walks as walks of parts, and the meanings at a server and on a list as meanings on numbers: a sheet's circuit
 -- has no constant but p - 1. By induction on the columns. Assumes nothing.
-use mathlib.Core.Path.{_≡_, refl, sym, ap, ap₂, _∙_}
+use mathlib.Core.Path.{_≡_, refl, ap, ap₂, _∙_}
 use mathlib.Core.List.{List, [], _∷_, _++_}
-use Prim.Native.Nat.{ℕ, zero, suc, _+_, _-_}
+use Prim.Native.Nat.{ℕ, zero, suc, _+_, _%_}
+use native.Mathlib.Nat.{add-zero, mod-eq-of-lt}
 use native.Mathlib.Omega.{arith}
 use lib.ListN.{length, length-append}
 use Rattle.algebra.specs.Lists.{tabulate}
 use Rattle.algebra.proofs.Tables.{length-tabulate}
-use Rattle.field.specs.Residues.{residues}
+use Rattle.field.specs.Residues.{prime, residues, Elements}
+use Rattle.field.proofs.Below.{member-below}
 use Rattle.rules.specs.Settings.{document01}
 use Rattle.rules.specs.Columns.{Column, yesNo, choice, number, entriesOf}
-use Rattle.rules.specs.Circuit.{gatesOf, testsOf}
+use Rattle.rules.specs.Circuit.{gatesOf, testsOf, gatesIn, testsIn}
 use Rattle.rules.specs.Run.{Meaning, onList, atServer}
 use Rattle.rules.specs.Walk.{sumFrom, lessOne, bitOut, bitsAt, columnLefts, columnRights, bitTests, sumTests, columnTests}
 use Rattle.rules.specs.Walk.{walkLefts, walkRights, walkTests}
+use Rattle.sheet.proofs.Sums.{gates, tests as test-count}
 use Rattle.walk.specs.Walks.{held, plain, members}
 use Rattle.walk.proofs.Filling.{sum-same}
-use Rattle.walk.proofs.Walking.{walked}
+use Rattle.walk.proofs.Walking.{walked, Parts}
 
--- ---- the parts of the three walks
-abbrev pub leftPart : Meaning ℕ → ℕ → ℕ → Column → List ℕ
-leftPart μ e t c = columnLefts document01 μ e c
-
+-- ---- the parts of the walks
 abbrev pub rightPart : Meaning ℕ → ℕ → ℕ → Column → List ℕ
 rightPart μ e t c = columnRights document01 μ e c
 
@@ -29,13 +29,9 @@ abbrev pub testPart : Meaning ℕ → ℕ → ℕ → Column → List ℕ
 testPart μ e t c = columnTests document01 μ e t c
 
 module _ (μ : Meaning ℕ) where
-  pub length-left : (e t : ℕ) (c : Column) → length (leftPart μ e t c) ≡ gatesOf c
-  unfolding columnLefts
-  length-left e t c = length-tabulate _ (gatesOf c)
-
-  pub length-right : (e t : ℕ) (c : Column) → length (rightPart μ e t c) ≡ gatesOf c
+  pub rights : Parts (rightPart μ) gatesOf gatesIn
   unfolding columnRights
-  length-right e t c = length-tabulate _ (gatesOf c)
+  rights = record { total = gates; each = λ e t c. length-tabulate _ (gatesOf c) }
 
   with-sum : (e : ℕ) (c : Column) → gatesOf c + length (sumTests document01 μ e c) ≡ testsOf c
   unfolding sumTests gatesOf testsOf
@@ -43,17 +39,15 @@ module _ (μ : Meaning ℕ) where
   with-sum e (choice n) = refl
   with-sum e (number n) = refl
 
-  pub length-test : (e t : ℕ) (c : Column) → length (testPart μ e t c) ≡ testsOf c
+  length-test : (e t : ℕ) (c : Column) → length (testPart μ e t c) ≡ testsOf c
   unfolding columnTests bitTests
   length-test e t c =
       length-append (bitTests document01 μ e t c) (sumTests document01 μ e c)
       ∙ ap (_+ length (sumTests document01 μ e c)) (length-tabulate _ (gatesOf c))
       ∙ with-sum e c
 
-  pub lefts-walked : (cs : List Column) (e t : ℕ) → walked (leftPart μ) e t cs ≡ walkLefts document01 μ e cs
-  unfolding walked walkLefts
-  lefts-walked [] e t = refl
-  lefts-walked (c ∷ cs) e t = ap (columnLefts document01 μ e c ++_) (lefts-walked cs (e + entriesOf c) (t + gatesOf c))
+  pub tests : Parts (testPart μ) testsOf testsIn
+  tests = record { total = test-count; each = length-test }
 
   pub rights-walked : (cs : List Column) (e t : ℕ) → walked (rightPart μ) e t cs ≡ walkRights document01 μ e cs
   unfolding walked walkRights
@@ -91,6 +85,25 @@ module _ (μ ν : Meaning ℕ) where
   unfolding walkRights
   rights-same q [] e = refl
   rights-same q (c ∷ cs) e = ap₂ _++_ (right-same q e c) (rights-same q cs (e + entriesOf c))
+
+-- ---- left inputs are right inputs with nothing added
+module _ (μ : Meaning ℕ) (q : lessOne document01 μ ≡ μ .entryAt) where
+  column-lefts : (e : ℕ) (c : Column) → columnRights document01 μ e c ≡ columnLefts document01 μ e c
+  unfolding columnRights columnLefts
+  column-lefts e c = ap (λ (f : ℕ → ℕ). tabulate (λ i. f (bitsAt document01 μ e c + i)) (gatesOf c)) q
+
+  lefts-by-rights : (cs : List Column) (e : ℕ) → walkRights document01 μ e cs ≡ walkLefts document01 μ e cs
+  unfolding walkRights walkLefts
+  lefts-by-rights [] e = refl
+  lefts-by-rights (c ∷ cs) e = ap₂ _++_ (column-lefts e c) (lefts-by-rights cs (e + entriesOf c))
+
+nothing-added : (xs : List ℕ) → Elements xs → (e : ℕ) → residues ._⊕_ (members xs e) 0 ≡ members xs e
+nothing-added xs h e = ap (λ t. t % prime) (add-zero (members xs e)) ∙ mod-eq-of-lt (member-below xs e h)
+
+pub rights-are-lefts : (xs : List ℕ) → Elements xs → (cs : List Column)
+    → walkRights document01 (plain 0 (members xs)) 0 cs ≡ walkLefts document01 (plain 0 (members xs)) 0 cs
+unfolding lessOne
+rights-are-lefts xs h cs = lefts-by-rights (plain 0 (members xs)) (λ k e. nothing-added xs h e k) cs 0
 
 -- ---- the meanings at a server and on a list
 module _ (k : ℕ) (x h : ℕ → ℕ) where
@@ -155,13 +168,7 @@ bits-fit μ e yesNo = refl
 bits-fit μ e (choice n) = refl
 bits-fit μ e (number n) = omega arith
 
--- the inputs of one column, as copied from the members at b, b + 1, ..
-pub left-part : (xs : List ℕ) (b n e t : ℕ) (c : Column) → b ≡ bitsAt document01 (plain 0 (λ e. 0)) e c → n ≡ gatesOf c
-    → tabulate (λ i. members xs (b + i)) n ≡ leftPart (plain 0 (members xs)) e t c
-unfolding columnLefts
-left-part xs b n e t c p q =
-    ap₂ (λ (b n : ℕ). tabulate (λ i. members xs (b + i)) n) (p ∙ bits-same _ (plain 0 (members xs)) e c) q
-
+-- the right inputs of one column, from the members at b, b + 1, ..
 pub right-part : (xs : List ℕ) (m b n e t : ℕ) (c : Column) → b ≡ bitsAt document01 (plain 0 (λ e. 0)) e c → n ≡ gatesOf c
     → tabulate (λ i. residues ._⊕_ (members xs (b + i)) m) n ≡ rightPart (plain m (members xs)) e t c
 unfolding columnRights lessOne

@@ -1,5 +1,5 @@
 -- A loop over the columns of a sheet that is read, which writes one part of a buffer for each column: after k columns the
--- buffer holds the parts of the first k, then what it held before. Said once for the three walks. Assumes nothing.
+-- buffer holds the parts of the first k, then what it held before. Said once for the walks. Assumes nothing.
 use mathlib.Core.Path.{_≡_, refl, sym, ap, ap₂, _∙_, subst}
 use mathlib.Core.List.{List, [], _∷_, _++_, append-assoc, append-nil}
 use Prim.Native.Nat.{ℕ, zero, suc, _+_, _-_, _≤_, _<_}
@@ -31,6 +31,11 @@ pub record Walking (g : ℕ → ℕ → Column → List ℕ) (In : List Column �
   pub same : length now ≡ length before
   pub count : done ≡ In (take (c .index) (columnsOf s))
   pub filled : now ≡ walked g 0 0 (take (c .index) (columnsOf s)) ++ drop done before
+
+-- the part of a column has `of` members, and `In` adds these up
+pub record Parts (g : ℕ → ℕ → Column → List ℕ) (of : Column → ℕ) (In : List Column → ℕ) : Type 0 where
+  pub total : Total of In
+  pub each : (e t : ℕ) (c : Column) → length (g e t c) ≡ of c
 
 -- ---- where a cursor stands
 -- before the end of the bytes it is before a column, and at the end it is behind the last
@@ -91,119 +96,121 @@ turned {s} {c} step is-read here before e =
       less = omega (arith, a, p .size-some, p .size-fits);
     }
 
-module _ (g : ℕ → ℕ → Column → List ℕ) where
-  pub walked-next : (cs : List Column) (k e t : ℕ) → k < length cs
-      → walked g e t (take (suc k) cs)
-      ≡ walked g e t (take k cs) ++ g (e + entriesIn (take k cs)) (t + gatesIn (take k cs)) (getD cs k yesNo)
-  unfolding walked entriesIn gatesIn
-  walked-next [] k e t h = absurd (omega arith)
-  walked-next (c ∷ cs) zero e t h =
-      append-nil (g e t c) ∙ ap₂ (λ a b. g a b c) (sym (add-zero e)) (sym (add-zero t))
-  walked-next (c ∷ cs) (suc k) e t h =
-      let a : e + entriesOf c + entriesIn (take k cs) ≡ e + (entriesOf c + entriesIn (take k cs)) = omega arith in
-      let b : t + gatesOf c + gatesIn (take k cs) ≡ t + (gatesOf c + gatesIn (take k cs)) = omega arith in
-      ap (g e t c ++_) (walked-next cs k (e + entriesOf c) (t + gatesOf c) (omega arith))
-      ∙ sym (append-assoc (g e t c) _ _)
-      ∙ ap₂
-      (λ a b. g e t c ++ walked g (e + entriesOf c) (t + gatesOf c) (take k cs) ++ g a b (getD cs k yesNo)) a b
+walked-next : (g : ℕ → ℕ → Column → List ℕ) (cs : List Column) (k e t : ℕ) → k < length cs
+    → walked g e t (take (suc k) cs)
+    ≡ walked g e t (take k cs) ++ g (e + entriesIn (take k cs)) (t + gatesIn (take k cs)) (getD cs k yesNo)
+unfolding walked entriesIn gatesIn
+walked-next g [] k e t h = absurd (omega arith)
+walked-next g (c ∷ cs) zero e t h =
+    append-nil (g e t c) ∙ ap₂ (λ a b. g a b c) (sym (add-zero e)) (sym (add-zero t))
+walked-next g (c ∷ cs) (suc k) e t h =
+    let a : e + entriesOf c + entriesIn (take k cs) ≡ e + (entriesOf c + entriesIn (take k cs)) = omega arith in
+    let b : t + gatesOf c + gatesIn (take k cs) ≡ t + (gatesOf c + gatesIn (take k cs)) = omega arith in
+    ap (g e t c ++_) (walked-next g cs k (e + entriesOf c) (t + gatesOf c) (omega arith))
+    ∙ sym (append-assoc (g e t c) _ _)
+    ∙ ap₂
+    (λ a b. g e t c ++ walked g (e + entriesOf c) (t + gatesOf c) (take k cs) ++ g a b (getD cs k yesNo)) a b
 
-  module _ {of : Column → ℕ} {In : List Column → ℕ} (total : Total of In)
-      (each : (e t : ℕ) (c : Column) → length (g e t c) ≡ of c) where
-    pub length-walked : (cs : List Column) (e t : ℕ) → length (walked g e t cs) ≡ In cs
+module _ {g : ℕ → ℕ → Column → List ℕ} {of : Column → ℕ} {In : List Column → ℕ} (parts : Parts g of In) where
+  abbrev total : Total of In
+  total = parts .total
+
+  length-walked : (cs : List Column) (e t : ℕ) → length (walked g e t cs) ≡ In cs
+  unfolding walked
+  length-walked [] e t = sym (total .nothing)
+  length-walked (c ∷ cs) e t =
+      length-append (g e t c) _
+      ∙ ap₂ _+_ (parts .each e t c) (length-walked cs (e + entriesOf c) (t + gatesOf c))
+      ∙ sym (total .next c cs)
+
+  module _ {s : List ℕ} where
+    pub walk-start : (d : List ℕ) (c : Cursor) → c ≡ begin → Walking g In s d d c 0
     unfolding walked
-    length-walked [] e t = sym (total .nothing)
-    length-walked (c ∷ cs) e t =
-        length-append (g e t c) _
-        ∙ ap₂ _+_ (each e t c) (length-walked cs (e + entriesOf c) (t + gatesOf c))
-        ∙ sym (total .next c cs)
+    walk-start d c e = rw e (record {
+      here = refl;
+      same = refl;
+      count = sym (total .nothing);
+      filled = refl;
+    })
 
-    module _ (s : List ℕ) where
-      pub walk-start : (d : List ℕ) (c : Cursor) → c ≡ begin → Walking g In s d d c 0
-      unfolding walked
-      walk-start d c e = rw e (record {
-        here = refl;
-        same = refl;
-        count = sym (total .nothing);
-        filled = refl;
-      })
+    walk-turn : {d l : List ℕ} {c : Cursor} {done : ℕ} (next : Cursor) (part : List ℕ) (to : ℕ) → Walking g In s d l c done
+        → c .index < length (columnsOf s) → next ≡ cursorAt s (c .index + 1)
+        → part ≡ g (c .entry) (c .gates) (getD (columnsOf s) (c .index) yesNo)
+        → to ≡ done + of (getD (columnsOf s) (c .index) yesNo) → to ≤ length d
+        → Walking g In s d (take done l ++ part ++ drop to l) next to
+    walk-turn {d} {l} {c} {done} next part to w in-bounds e q u m = rw e (record {
+      here = refl;
+      same = long;
+      count = u ∙ ap (_+ of a) (w .count) ∙ sym (total-next total cs k in-bounds);
+      filled = whole;
+    })
+      where
+        cs : List Column
+        cs = columnsOf s
 
-      pub walk-turn : {d l : List ℕ} {c : Cursor} {done : ℕ} (next : Cursor) (part : List ℕ) (to : ℕ) → Walking g In s d l c done
-          → c .index < length (columnsOf s) → next ≡ cursorAt s (c .index + 1)
-          → part ≡ g (c .entry) (c .gates) (getD (columnsOf s) (c .index) yesNo)
-          → to ≡ done + of (getD (columnsOf s) (c .index) yesNo) → to ≤ length d
-          → Walking g In s d (take done l ++ part ++ drop to l) next to
-      walk-turn {d} {l} {c} {done} next part to w in-bounds e q u m = rw e (record {
-        here = refl;
-        same = long;
-        count = u ∙ ap (_+ of a) (w .count) ∙ sym (total-next total cs k in-bounds);
-        filled = whole;
-      })
-        where
-          cs : List Column
-          cs = columnsOf s
+        k : ℕ
+        k = c .index
 
-          k : ℕ
-          k = c .index
+        a : Column
+        a = getD (columnsOf s) (c .index) yesNo
 
-          a : Column
-          a = getD (columnsOf s) (c .index) yesNo
+        old : List ℕ
+        old = walked g 0 0 (take (c .index) (columnsOf s))
 
-          old : List ℕ
-          old = walked g 0 0 (take (c .index) (columnsOf s))
+        old-long : length old ≡ done
+        old-long = length-walked (take (c .index) (columnsOf s)) 0 0 ∙ sym (w .count)
 
-          old-long : length old ≡ done
-          old-long = length-walked (take (c .index) (columnsOf s)) 0 0 ∙ sym (w .count)
+        part-long : length part ≡ of a
+        part-long = ap length q ∙ parts .each (c .entry) (c .gates) a
 
-          part-long : length part ≡ of a
-          part-long = ap length q ∙ each (c .entry) (c .gates) a
+        grown : walked g 0 0 (take (c .index + 1) (columnsOf s)) ≡ old ++ part
+        grown =
+            ap (λ n. walked g 0 0 (take n cs)) (add-one k)
+            ∙ walked-next g cs k 0 0 in-bounds
+            ∙ ap (old ++_)
+            (ap₂ (λ e t. g e t a)
+            (omega (arith, ap (λ (c : Cursor). c .entry) (w .here)))
+            (omega (arith, ap (λ (c : Cursor). c .gates) (w .here)))
+            ∙ sym q)
 
-          grown : walked g 0 0 (take (c .index + 1) (columnsOf s)) ≡ old ++ part
-          grown =
-              ap (λ n. walked g 0 0 (take n cs)) (add-one k)
-              ∙ walked-next cs k 0 0 in-bounds
-              ∙ ap (old ++_)
-              (ap₂ (λ e t. g e t a)
-              (omega (arith, ap (λ (c : Cursor). c .entry) (w .here)))
-              (omega (arith, ap (λ (c : Cursor). c .gates) (w .here)))
-              ∙ sym q)
+        rest : drop to l ≡ drop to d
+        rest =
+            ap (drop to) (w .filled)
+            ∙ ap (λ n. drop n (old ++ drop done d)) (u ∙ ap (_+ of a) (sym old-long))
+            ∙ drop-append-add old (drop done d) (of a)
+            ∙ drop-drop (of a) done d
+            ∙ ap (λ n. drop n d) (sym u)
 
-          rest : drop to l ≡ drop to d
-          rest =
-              ap (drop to) (w .filled)
-              ∙ ap (λ n. drop n (old ++ drop done d)) (u ∙ ap (_+ of a) (sym old-long))
-              ∙ drop-append-add old (drop done d) (of a)
-              ∙ drop-drop (of a) done d
-              ∙ ap (λ n. drop n d) (sym u)
+        whole : take done l ++ part ++ drop to l ≡ walked g 0 0 (take (c .index + 1) (columnsOf s)) ++ drop to d
+        whole =
+            ap₂ (λ x y. x ++ part ++ y) (ap (take done) (w .filled) ∙ take-at old (drop done d) done old-long) rest
+            ∙ ap (_++ drop to d) (sym grown)
 
-          whole : take done l ++ part ++ drop to l ≡ walked g 0 0 (take (c .index + 1) (columnsOf s)) ++ drop to d
-          whole =
-              ap₂ (λ x y. x ++ part ++ y) (ap (take done) (w .filled) ∙ take-at old (drop done d) done old-long) rest
-              ∙ ap (_++ drop to d) (sym grown)
+        long : length (take done l ++ part ++ drop to l) ≡ length d
+        long =
+            ap length whole
+            ∙ length-append (walked g 0 0 (take (c .index + 1) (columnsOf s))) (drop to d)
+            ∙ omega (arith, ap length grown, length-append old part, old-long, part-long, length-drop to d)
 
-          long : length (take done l ++ part ++ drop to l) ≡ length d
-          long =
-              ap length whole
-              ∙ length-append (walked g 0 0 (take (c .index + 1) (columnsOf s))) (drop to d)
-              ∙ omega (arith, ap length grown, length-append old part, old-long, part-long, length-drop to d)
+    -- the same, as a part of the buffer that is lent and comes back
+    pub walk-put : {d l : List ℕ} {c : Cursor} {done : ℕ} (step : Step) (part : List ℕ) (to : ℕ) → Walking g In s d l c done
+        → Turned s c step → part ≡ g (c .entry) (c .gates) (back (step .column))
+        → to ≡ done + of (back (step .column)) → to ≤ length d
+        → Walking g In s d (putMid done (to - done) l part) (step .next) to
+    walk-put {d} {l} {c} {done} step part to w t q u m =
+        let col = t .column-is in
+        subst (λ (z : List ℕ). Walking g In s d z (step .next) to)
+        (append-assoc (take done l) part (drop to l)
+        ∙ ap (λ (z : List ℕ). take done l ++ (part ++ z)) (sym (post-is done to l (omega arith))))
+        (walk-turn (step .next) part to w (t .within) (t .next-is) (q ∙ ap (g (c .entry) (c .gates)) col)
+        (u ∙ ap (λ a. done + of a) col) m)
 
-      -- the same, as a part of the buffer that is lent and comes back
-      pub walk-put : {d l : List ℕ} {c : Cursor} {done : ℕ} (step : Step) (part : List ℕ) (to : ℕ) → Walking g In s d l c done
-          → Turned s c step → part ≡ g (c .entry) (c .gates) (back (step .column))
-          → to ≡ done + of (back (step .column)) → to ≤ length d
-          → Walking g In s d (putMid done (to - done) l part) (step .next) to
-      walk-put {d} {l} {c} {done} step part to w t q u m =
-          let col = t .column-is in
-          subst (λ (z : List ℕ). Walking g In s d z (step .next) to)
-          (append-assoc (take done l) part (drop to l)
-          ∙ ap (λ (z : List ℕ). take done l ++ (part ++ z)) (sym (post-is done to l (omega arith))))
-          (walk-turn (step .next) part to w (t .within) (t .next-is) (q ∙ ap (g (c .entry) (c .gates)) col)
-          (u ∙ ap (λ a. done + of a) col) m)
-
-      pub walk-finish : {d l : List ℕ} {c : Cursor} {done : ℕ} → readSheet s ≡ ok (columnsOf s) → Walking g In s d l c done
-          → length s ≤ c .at → length d ≡ In (columnsOf s) → l ≡ walked g 0 0 (columnsOf s)
-      walk-finish {d} {l} {c} {done} is-read w h m =
-          let all : take (c .index) (columnsOf s) ≡ columnsOf s = take-all (c .index) (columnsOf s) (behind s c is-read (w .here) h) in
-          let none : length d ≤ done = omega (arith, w .count, ap In all) in
-          w .filled
-          ∙ ap₂ (λ x y. walked g 0 0 x ++ y) all (drop-of-length-le d none)
-          ∙ append-nil (walked g 0 0 (columnsOf s))
+    pub walk-finish : {d l : List ℕ} {c : Cursor} {done : ℕ} → readSheet s ≡ ok (columnsOf s) → Walking g In s d l c done
+        → length s ≤ c .at → length d ≡ In (columnsOf s) → l ≡ walked g 0 0 (columnsOf s)
+    walk-finish {d} {l} {c} {done} is-read w h m =
+        let all : take (c .index) (columnsOf s) ≡ columnsOf s
+        = take-all (c .index) (columnsOf s) (behind s c is-read (w .here) h) in
+        let none : length d ≤ done = omega (arith, w .count, ap In all) in
+        w .filled
+        ∙ ap₂ (λ x y. walked g 0 0 x ++ y) all (drop-of-length-le d none)
+        ∙ append-nil (walked g 0 0 (columnsOf s))

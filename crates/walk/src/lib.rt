@@ -116,24 +116,6 @@ fn sum_test(x: &[u32], e: usize, constant: u32, column: Column) -> u32
     }
 }
 
-// The left inputs of the multiplications.
-pub fn fill_lefts(s: &[u8], x: &[u32], out: &mut [u32])
-    requires { ⌜ Entries (now s) (now x) × (length (now out) ≡ gatesIn (columnsOf (now s))) ⌝ }
-    ensures { λ _. ⌜ now (out .exit)
-        ≡ walkLefts document01 (plain 0 (members (now (x .entry)))) 0 (columnsOf (now (s .entry))) ⌝ }
-{
-    let mut c = columns::start();
-    while c.at < s.len() {
-        let step = columns::next(s, c);
-        let column = step.column;
-        let after = step.next;
-        let from = c.gates;
-        let to = after.gates;
-        copy(x, bits_at(column, c.entry), &mut out[from..to]);
-        c = after;
-    }
-}
-
 // The right inputs of the multiplications.
 pub fn fill_rights(s: &[u8], x: &[u32], constant: u32, out: &mut [u32])
     requires { ⌜ Entries (now s) (now x) × (length (now out) ≡ gatesIn (columnsOf (now s))) × (constant < prime) ⌝ }
@@ -150,6 +132,15 @@ pub fn fill_rights(s: &[u8], x: &[u32], constant: u32, out: &mut [u32])
         copy_plus(x, bits_at(column, c.entry), constant, &mut out[from..to]);
         c = after;
     }
+}
+
+// The left inputs of the multiplications: the right ones with nothing added.
+pub fn fill_lefts(s: &[u8], x: &[u32], out: &mut [u32])
+    requires { ⌜ Entries (now s) (now x) × (length (now out) ≡ gatesIn (columnsOf (now s))) ⌝ }
+    ensures { λ _. ⌜ now (out .exit)
+        ≡ walkLefts document01 (plain 0 (members (now (x .entry)))) 0 (columnsOf (now (s .entry))) ⌝ }
+{
+    fill_rights(s, x, 0, out);
 }
 
 // The tests of one column, whose first entry is e, with t multiplications before it: the outputs of its multiplications,

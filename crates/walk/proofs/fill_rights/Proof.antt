@@ -1,154 +1,123 @@
--- `walk::fill_rights` meets its contract: each turn writes the inputs of one column. Assumes nothing.
-use mathlib.Core.Path.{_≡_, refl, sym, ap, _∙_, subst}
-use Prim.Native.Nat.{ℕ, _+_, _-_, _≤_, _<_}
+-- `walk::fill_rights` meets its contract: each turn writes the inputs of one column behind those of the columns before.
+-- Assumes nothing.
+use mathlib.Core.Path.{_≡_, sym, ap, _∙_, subst}
+use Prim.Native.Nat.{ℕ, _-_, _≤_}
 use native.Mathlib.Omega.{arith}
 use borrow.Rule.Slice.PartMut.{mid-len}
 use lib.ListN.{length, take, drop}
-use Rattle.field.specs.Residues.{prime}
 use Rattle.rules.specs.Columns.{columnsOf}
 use Rattle.rules.specs.Circuit.{gatesIn, gatesOf}
+use Rattle.rules.specs.Run.{Meaning}
 use Rattle.sheet.specs.declared.columns.Cursor.{Cursor}
 use Rattle.sheet.specs.Cursor.{back}
 use Rattle.sheet.proofs.Sums.{gates}
-use Rattle.walk.specs.Walks.{plain, members, Entries}
-use Rattle.walk.proofs.Walking.{Walking, turned, walk-start, stands, walk-put, walk-finish}
-use Rattle.walk.proofs.Meanings.{rightPart, length-right, rights-walked, right-part, bits-fit}
+use Rattle.walk.specs.Walks.{plain, members}
+use Rattle.walk.proofs.Walking.{Walking, Turned, turned, walk-start, stands, walk-put, walk-finish}
+use Rattle.walk.proofs.Meanings.{rightPart, rights, rights-walked, right-part, bits-fit}
 use Rattle.walk.proofs.fill_rights.Statement.{statement}
 use Rattle.walk.proofs.fill_rights.Tie as tie
 
 abbrev Inv-loop : tie.InvT-loop
 Inv-loop s x constant out₀ c₀ out c =
-    Entries s x × (length out₀ ≡ gatesIn (columnsOf s)) × (constant < prime)
-    × Walking (rightPart (plain constant (members x))) gatesIn s out₀ out c (c .gates)
+    Walking (rightPart (plain constant (members x))) gatesIn s out₀ out c (c .gates)
 
 abbrev μ-loop : tie.MeasureT-loop
 μ-loop s x constant out₀ c₀ out c = length s - c .at
 
+abbrev given : tie.At-loop Inv-loop μ-loop → tie.Start Inv-loop μ-loop
+given l = l .before .before .before .before .before
+
+abbrev meaning : tie.Start Inv-loop μ-loop → Meaning ℕ
+meaning z = plain (z .args .constant) (members (z .args .x .now))
+
+-- ---- a turn, once its column is read
+abbrev round : tie.After-next Inv-loop μ-loop → tie.At-loop Inv-loop μ-loop
+round n = n .before .before .before
+
+turn : (n : tie.After-next Inv-loop μ-loop)
+    → Turned (given (round n) .args .s .now) (round n .loop .c) (n .next .result)
+turn n =
+    turned (n .next .result) (given (round n) .pre .0 .is-read) (round n .loop .inv .here) (n .before .if1 .taken)
+    (n .next .ensures)
+
+-- the part of the buffer that the turn writes: it fits, and it has a place for each input of the column
+fits : (n : tie.After-next Inv-loop μ-loop) → n .next .result .next .gates ≤ length (given (round n) .args .out .now)
+fits n = omega (arith, turn n .gates-fit, given (round n) .pre .1)
+
+part-long : (n : tie.After-next Inv-loop μ-loop) → let from = round n .loop .c .gates in
+    length (take (n .next .result .next .gates - from) (drop from (round n .loop .out)))
+    ≡ gatesOf (back (n .next .result .column))
+part-long n =
+    let out = round n .loop .out in
+    let end : n .next .result .next .gates ≤ length out = omega (arith, fits n, round n .loop .inv .same) in
+    omega (arith, mid-len (round n .loop .c .gates) (n .next .result .next .gates) out end, turn n .gates-next)
+
+-- ---- the steps
 start-requires : tie.Need-start-requires Inv-loop μ-loop
 start-requires c κs = tt
 
 loop-holds : tie.Need-loop-holds Inv-loop μ-loop
 loop-holds c =
-    let s = c .before .before .before .before in
-    let r = c .start .result in
-    let none : r .gates ≡ 0 = ap (λ (u : Cursor). u .gates) (c .start .ensures) ∙ gates .nothing in (
-      s .pre .0,
-      s .pre .1,
-      s .pre .2,
-      subst (λ (k : ℕ). Walking (rightPart (plain (s .args .constant) (members (s .args .x .now)))) gatesIn (s .args .s .now) (s .args .out .now) (s .args .out .now) r k) (sym none)
-          (walk-start (rightPart (plain (s .args .constant) (members (s .args .x .now)))) gates (length-right (plain (s .args .constant) (members (s .args .x .now)))) (s .args .s .now) (s .args .out .now) r (c .start .ensures)),
-    )
+    let z = c .before .before .before .before in
+    let out = z .args .out .now in
+    let none : c .start .result .gates ≡ 0 = ap (λ (u : Cursor). u .gates) (c .start .ensures) ∙ gates .nothing in
+    subst (Walking (rightPart (meaning z)) gatesIn (z .args .s .now) out out (c .start .result)) (sym none)
+    (walk-start (rights (meaning z)) out (c .start .result) (c .start .ensures))
 
 next-requires : tie.Need-next-requires Inv-loop μ-loop
-next-requires c κs = let l = c .before .before .loop in stands (l .inv .0 .is-read) (l .inv .3 .here) (c .if1 .taken)
+next-requires c κs =
+    let l = c .before .before in stands (given l .pre .0 .is-read) (l .loop .inv .here) (c .if1 .taken)
 
 bits-at-requires : tie.Need-bits-at-requires Inv-loop μ-loop
-bits-at-requires c κs =
-    let s = c .before .before .before .before .before .before .before .before .before .args in
-    let l = c .before .before .before .before .loop in
-    let ent = l .inv .0 in
-    let w = l .inv .3 in
-    let t = turned (c .before .next .result) (ent .is-read) (w .here) (c .before .before .if1 .taken) (c .before .next .ensures) in
-    omega (arith, t .entries-fit, t .entries-few)
+bits-at-requires c κs = let t = turn (c .before) in omega (arith, t .entries-fit, t .entries-few)
 
 mul-copy-plus : tie.Need-mul-copy-plus Inv-loop μ-loop
 mul-copy-plus c =
-    let s = c .before .before .before .before .before .before .before .before .before .before .args in
-    let l = c .before .before .before .before .before .loop in
-    let ent = l .inv .0 in
-    let w = l .inv .3 in
-    let t = turned (c .before .before .next .result) (ent .is-read) (w .here) (c .before .before .before .if1 .taken) (c .before .before .next .ensures) in
-    record { fits = omega (arith, t .gates-next, t .gates-fit, l .inv .1) }
+    let t = turn (c .before .before) in record { fits = omega (arith, t .gates-next, t .gates-fit, t .gates-few) }
 
 sub-copy-plus : tie.Need-sub-copy-plus Inv-loop μ-loop
-sub-copy-plus c =
-    let s = c .before .before .before .before .before .before .before .before .before .before .args in
-    let l = c .before .before .before .before .before .loop in
-    let ent = l .inv .0 in
-    let w = l .inv .3 in
-    let t = turned (c .before .before .next .result) (ent .is-read) (w .here) (c .before .before .before .if1 .taken) (c .before .before .next .ensures) in
-    omega (arith, t .gates-next)
+sub-copy-plus c = omega (arith, turn (c .before .before) .gates-next)
 
 part-copy-plus-start : tie.Need-part-copy-plus-start Inv-loop μ-loop
-part-copy-plus-start c =
-    let s = c .before .before .before .before .before .before .before .before .before .before .args in
-    let l = c .before .before .before .before .before .loop in
-    let ent = l .inv .0 in
-    let w = l .inv .3 in
-    let t = turned (c .before .before .next .result) (ent .is-read) (w .here) (c .before .before .before .if1 .taken) (c .before .before .next .ensures) in
-    omega (arith, t .gates-next)
+part-copy-plus-start c = omega (arith, turn (c .before .before) .gates-next)
 
 part-copy-plus-end : tie.Need-part-copy-plus-end Inv-loop μ-loop
-part-copy-plus-end c =
-    let s = c .before .before .before .before .before .before .before .before .before .before .args in
-    let l = c .before .before .before .before .before .loop in
-    let ent = l .inv .0 in
-    let w = l .inv .3 in
-    let t = turned (c .before .before .next .result) (ent .is-read) (w .here) (c .before .before .before .if1 .taken) (c .before .before .next .ensures) in
-    omega (arith, t .gates-fit, l .inv .1, w .same)
+part-copy-plus-end c = let n = c .before .before in omega (arith, fits n, round n .loop .inv .same)
 
 copy-plus-requires : tie.Need-copy-plus-requires Inv-loop μ-loop
 copy-plus-requires c κs =
-    let s = c .before .before .before .before .before .before .before .before .before .before .before .args in
-    let l = c .before .before .before .before .before .before .loop in
-    let ent = l .inv .0 in
-    let w = l .inv .3 in
-    let t = turned (c .before .before .before .next .result) (ent .is-read) (w .here) (c .before .before .before .before .if1 .taken) (c .before .before .before .next .ensures) in
-    let from = l .c .gates in
-    let to = c .before .before .before .next .result .next .gates in
-    let fit : to ≤ length (l .out) = omega (arith, t .gates-fit, l .inv .1, w .same) in
-    let long = mid-len from to (l .out) fit in
-    let most : c .before .bits-at .result + (to - from) ≤ length (s .x .now) =
-    omega (
-      arith,
-      c .before .bits-at .ensures,
-      bits-fit (plain 0 (λ e. 0)) (l .c .entry) (back (c .before .before .before .next .result .column)),
-      t .gates-next,
-      t .entries-fit,
-      ent .enough,
-    ) in
-    (rw long most, ent .elements, l .inv .2)
+    let n = c .before .before .before in
+    let pre = given (round n) .pre in
+    let last = bits-fit (plain 0 (λ e. 0)) (round n .loop .c .entry) (back (n .next .result .column)) in (
+      omega (arith, part-long n, c .before .bits-at .ensures, last, turn n .entries-fit, pre .0 .enough),
+      pre .0 .elements,
+      pre .2,
+    )
 
 loop-less : tie.Need-loop-less Inv-loop μ-loop
-loop-less c =
-    let s = c .before .before .before .before .before .before .before .before .before .before .before .before .before .before .args in
-    let l = c .before .before .before .before .before .before .before .before .before .loop in
-    let ent = l .inv .0 in
-    let w = l .inv .3 in
-    let t = turned (c .before .before .before .before .before .before .next .result) (ent .is-read) (w .here) (c .before .before .before .before .before .before .before .if1 .taken) (c .before .before .before .before .before .before .next .ensures) in
-    t .less
+loop-less c = turn (c .before .before .before .before .before .before) .less
 
 loop-again : tie.Need-loop-again Inv-loop μ-loop
 loop-again c =
-    let s = c .before .before .before .before .before .before .before .before .before .before .before .before .before .before .args in
-    let l = c .before .before .before .before .before .before .before .before .before .loop in
-    let ent = l .inv .0 in
-    let w = l .inv .3 in
-    let t = turned (c .before .before .before .before .before .before .next .result) (ent .is-read) (w .here) (c .before .before .before .before .before .before .before .if1 .taken) (c .before .before .before .before .before .before .next .ensures) in
-    let n = c .before .before .before .before .before .before .next .result in
-    let from = l .c .gates in
-    let fit : n .next .gates ≤ length (l .out) = omega (arith, t .gates-fit, l .inv .1, w .same) in
-    let long = mid-len from (n .next .gates) (l .out) fit in
-    let wide : length (take (n .next .gates - from) (drop from (l .out))) ≡ gatesOf (back (n .column)) = omega (arith, long, t .gates-next) in (
-      ent,
-      l .inv .1,
-      l .inv .2,
-      walk-put (rightPart (plain (s .constant) (members (s .x .now)))) gates (length-right (plain (s .constant) (members (s .x .now)))) (s .s .now) n (c .before .before .copy-plus .last .1 .1 .1 .0) (n .next .gates) w t
-          (c .before .before .copy-plus .ensures
-          ∙ right-part (s .x .now) (s .constant) (c .before .before .before .before .bits-at .result) _ (l .c .entry) (l .c .gates) (back (n .column))
-          (c .before .before .before .before .bits-at .ensures) wide)
-          (t .gates-next) (omega (arith, t .gates-fit, l .inv .1)),
-    )
+    let n = c .before .before .before .before .before .before in
+    let b = c .before .before .before .before .bits-at in
+    let filled = c .before .before .copy-plus in
+    let z = given (round n) in
+    let l = round n .loop in
+    let inputs = right-part (z .args .x .now) (z .args .constant) (b .result) _ (l .c .entry) (l .c .gates)
+    (back (n .next .result .column)) (b .ensures) (part-long n) in
+    walk-put (rights (meaning z)) (n .next .result) (filled .last .1 .1 .1 .0) (n .next .result .next .gates) (l .inv)
+    (turn n) (filled .ensures ∙ inputs) (turn n .gates-next) (fits n)
 
 same-length : tie.Need-same-length Inv-loop μ-loop
-same-length c = c .before .before .loop .inv .3 .same
+same-length c = c .before .before .loop .inv .same
 
 returns : tie.Need-returns Inv-loop μ-loop
 returns c =
-    let s = c .before .before .before .before .before .before .before .args in
-    let l = c .before .before .loop in
-    walk-finish (rightPart (plain (s .constant) (members (s .x .now)))) gates (length-right (plain (s .constant) (members (s .x .now)))) (s .s .now) (l .inv .0 .is-read) (l .inv .3) (c .if1 .left) (l .inv .1)
-    ∙ rights-walked (plain (s .constant) (members (s .x .now))) (columnsOf (s .s .now)) 0 0
+    let l = c .before .before in
+    let z = given l in
+    walk-finish (rights (meaning z)) (z .pre .0 .is-read) (l .loop .inv) (c .if1 .left) (z .pre .1)
+    ∙ rights-walked (meaning z) (columnsOf (z .args .s .now)) 0 0
 
 pub fill-rights-spec : {M : Type 1} → statement M
 fill-rights-spec =

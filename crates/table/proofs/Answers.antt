@@ -4,7 +4,7 @@
 use mathlib.Core.Path.{_≡_, refl, sym, ap, _∙_}
 use mathlib.Core.Bool.{Bool, true, false, not, cond, _&&_, _||_}
 use mathlib.Core.List.{List}
-use Prim.Native.Nat.{ℕ, _+_, _*_, _≤_, _<_}
+use Prim.Native.Nat.{ℕ, _+_, _*_, _≤_}
 use native.Mathlib.Nat.{add-zero}
 use native.Mathlib.Omega.{arith}
 use borrow.Author.Tests.{leb-true, eqb-true}
@@ -18,15 +18,15 @@ use Rattle.words.proofs.Splice.{length-part}
 use Rattle.words.proofs.Elements.{elements-whole}
 use Rattle.message.proofs.Parts.{part-of-part}
 use Rattle.rules.specs.Settings.{document01}
-use Rattle.rules.specs.Columns.{within, check, sheetFault, totalsFit, publishedIn, entriesIn}
-use Rattle.rules.specs.Circuit.{gatesIn}
+use Rattle.rules.specs.Columns.{within, sheetFault, totalsFit}
 use Rattle.rules.specs.Judging.{shareSize, allowedPair}
-use Rattle.rules.specs.Table.{sheetSize, sheetIn, columnsIn, returnsIn, decidedIn, acceptedIn, totalsIn, waits, tableLength}
-use Rattle.rules.specs.Table.{totalsPlace, waitPlace, sharePlace, headerSound, countsSound, waitingSound, tableSound, tableFault}
+use Rattle.rules.specs.Table.{sheetSize, sheetIn, columnsIn, totalsIn, waits, tableLength}
+use Rattle.rules.specs.Table.{totalsPlace, waitPlace, sharePlace}
+use Rattle.rules.specs.Table.{headerSound, countsSound, waitingSound, tableSound, tableFault}
 use Rattle.rules.proofs.Refusals.{sheet-limits}
-use Rattle.table.specs.Places.{waitAt, lengthAt, sizeOf}
-use Rattle.table.specs.Reading.{tableOf, headIn, foundIn, startSound, Started, pairSound}
-use Rattle.table.specs.Reading.{countsSoundAt, totalsSoundAt, waitingSoundAt, Headed, Whole, Sound}
+use Rattle.table.specs.Places.{waitAt}
+use Rattle.table.specs.Reading.{tableOf, headIn, foundIn, startSound, pairSound}
+use Rattle.table.specs.Reading.{lengthOf, countsSoundAt, totalsSoundAt, waitingSoundAt, Headed, Whole, Sound}
 use Rattle.table.specs.declared.Table.{Table}
 use Rattle.table.specs.declared.Found.the-variants as answer
 use Rattle.table.proofs.Header.{start-facts, header-is}
@@ -90,8 +90,7 @@ six-words T a h =
     ∙ tabulate-cong (λ j. valueOf (part (4 * j) 4 (part a 24 T))) (λ j. valueOf (part (a + 4 * j) 4 T)) 6
     (λ i k. ap valueOf (part-of-part (4 * i) 4 a 24 T (omega arith))))
 
-waiting-is : (T : List ℕ) → lengthAt (tableOf T .sheet) (tableOf T .published) (tableOf T .returns) (sizeOf (tableOf T .entries) (tableOf T .gates)) ≤ length T
-    → waitingSound document01 T ≡ waitingSoundAt (tableOf T) T
+waiting-is : (T : List ℕ) → lengthOf (tableOf T) ≤ length T → waitingSound document01 T ≡ waitingSoundAt (tableOf T) T
 unfolding waitingSound waitingSoundAt tableOf waitPlace sharePlace shareSize allowedPair pairSound
 waiting-is T h =
     let w = waitAt (tableOf T .sheet) (tableOf T .published) (tableOf T .returns) in
@@ -99,12 +98,11 @@ waiting-is T h =
 
 -- ---- counts that are sound bound the table
 counts-long : (k : Table) (T : List ℕ) → countsSoundAt k T ≡ true
-    → (lengthAt (k .sheet) (k .published) (k .returns) (sizeOf (k .entries) (k .gates)) ≤ length T)
-    × (k .decided + cond (within 1 2 (k .stage)) 1 0 ≤ k .returns) × (k .accepted ≤ k .decided)
+    → (lengthOf k ≤ length T) × (k .decided + cond (within 1 2 (k .stage)) 1 0 ≤ k .returns) × (k .accepted ≤ k .decided)
 unfolding countsSoundAt
 counts-long k T e =
     let fit = totalsFit document01 (k .returns) (columnsIn document01 T) in
-    let long = leb (lengthAt (k .sheet) (k .published) (k .returns) (sizeOf (k .entries) (k .gates))) (length T) in
+    let long = leb (lengthOf k) (length T) in
     let few = leb (k .decided + cond (within 1 2 (k .stage)) 1 0) (k .returns) in
     let less = leb (k .accepted) (k .decided) in
     let e1 = and-right fit (long && (few && less)) e in

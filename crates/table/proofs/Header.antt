@@ -1,19 +1,19 @@
 -- The header of a table: its tests hold exactly where its facts do. Rules' header is the start and the sheet's reading,
 -- whose answer is taken apart. Assumes nothing.
-use mathlib.Core.Path.{_≡_, refl, sym, ap, _∙_}
-use mathlib.Core.Bool.{Bool, true, false, not, cond, _&&_}
+use mathlib.Core.Path.{_≡_, refl, sym}
+use mathlib.Core.Bool.{Bool, true, false, _&&_}
 use mathlib.Core.List.{List}
 use mathlib.Core.Logic.{⊎-elim}
 use Prim.Native.Nat.{ℕ, _+_, _-_, _≤_, _<_}
 use native.Mathlib.Omega.{arith}
-use borrow.Author.Tests.{leb-true, ltb-true, eqb-true, le-leb, lt-ltb, eq-eqb, ne-eqb, not-false}
+use borrow.Author.Tests.{leb-true, ltb-true, eqb-true, le-leb, lt-ltb, eq-eqb, ne-eqb}
 use lib.Dec.{eqb, ltb, leb}
 use lib.ListN.{length, getD, take, drop}
 use Rattle.algebra.proofs.Members.{and-left, and-right}
 use Rattle.words.specs.Bytes.{valueOf, part}
 use Rattle.records.specs.Outcome.{Outcome, ok, refused}
 use Rattle.rules.specs.Settings.{document01}
-use Rattle.rules.specs.Columns.{Column, within, readSheet, sheetFault, columnsOf, faultIn, listIn}
+use Rattle.rules.specs.Columns.{Column, within, readSheet, sheetFault, faultIn, listIn}
 use Rattle.rules.specs.Table.{sheetIn, headerSound}
 use Rattle.rules.proofs.Limits.{within-both, within-is}
 use Rattle.rules.proofs.Refusals.{sheet-refusals}
@@ -91,10 +91,6 @@ module _ (T : List ℕ) where
 
   pub not-started : (Started T → ⊥) → false ≡ startSound T
   not-started h = sym (is-false (startSound T) (λ e. h (start-facts e)))
-
-  -- what the code's test of the start tells
-  pub started : (r : Bool) → r ≡ startSound T → not r ≡ false → Started T
-  started r e n = start-facts (sym e ∙ not-false r n)
 
   pub header-is : headerSound document01 T ≡ startSound T && eqb (sheetFault (sheetIn document01 T)) 0
   unfolding headerSound startSound

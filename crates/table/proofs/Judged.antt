@@ -1,5 +1,5 @@
 -- The parts of a table's judgement, test by test: the one that fails, or the last where the others hold. Assumes nothing.
-use mathlib.Core.Path.{_≡_, refl, sym, ap, _∙_}
+use mathlib.Core.Path.{_≡_, refl, sym, _∙_}
 use mathlib.Core.Bool.{Bool, true, false, not, cond}
 use mathlib.Core.List.{List}
 use Prim.Native.Nat.{ℕ, _+_, _-_, _*_, _≤_, _<_}
@@ -16,8 +16,9 @@ use Rattle.rules.specs.Table.{sheetIn, columnsIn}
 use Rattle.rules.proofs.Limits.{within-is}
 use Rattle.rules.proofs.Refusals.{sheet-read}
 use Rattle.message.proofs.Parts.{span}
-use Rattle.table.specs.Places.{totalsAt, idsAt, waitAt, lengthAt, sizeOf}
-use Rattle.table.specs.Reading.{tableOf, countsSoundAt, totalsSoundAt, pairSound, waitingSoundAt, Headed}
+use Rattle.table.specs.Places.{totalsAt, idsAt, waitAt, sizeOf}
+use Rattle.table.specs.Reading.{tableOf, lengthOf, Headed}
+use Rattle.table.specs.Reading.{countsSoundAt, totalsSoundAt, pairSound, waitingSoundAt}
 use Rattle.table.specs.declared.Table.{Table}
 
 -- ---- the limit on N of a table's sheet, as the code cuts the sheet out
@@ -61,12 +62,11 @@ module _ (k : Table) (T : List ℕ) where
   counts-unfit f = rw f
 
   module _ (f : totalsFit document01 (k .returns) (columnsIn document01 T) ≡ true) where
-    pub counts-short : length T < lengthAt (k .sheet) (k .published) (k .returns) (sizeOf (k .entries) (k .gates))
-        → false ≡ countsSoundAt k T
+    pub counts-short : length T < lengthOf k → false ≡ countsSoundAt k T
     unfolding countsSoundAt
     counts-short l = rw (f, lt-leb _ _ l)
 
-    module _ (l : lengthAt (k .sheet) (k .published) (k .returns) (sizeOf (k .entries) (k .gates)) ≤ length T) where
+    module _ (l : lengthOf k ≤ length T) where
       pub counts-over : k .returns < k .decided + cond (within 1 2 (k .stage)) 1 0 → false ≡ countsSoundAt k T
       unfolding countsSoundAt
       counts-over d = rw (f, le-leb _ _ l, lt-leb (k .decided + cond (within 1 2 (k .stage)) 1 0) (k .returns) d)
@@ -84,11 +84,19 @@ module _ (k : Table) (T : List ℕ) where
   unfolding totalsSoundAt
   totals-cut = let e : idsAt (k .sheet) (k .published) - totalsAt (k .sheet) ≡ 4 * k .published = omega arith in rw e
 
-  module _ (w r s : ℕ) (ew : w ≡ waitAt (k .sheet) (k .published) (k .returns)) (er : r ≡ valueOf (part (w + 4) 4 T))
-      (es : s ≡ valueOf (part (w + 4 + 4) 4 T)) (b : Bool) (eb : b ≡ pairSound (k .gates) r s) where
+-- the return that waits stands at w, and its pair is r and s
+pub record PairAt (k : Table) (T : List ℕ) (w r s : ℕ) : Type 0 where
+  pub place : w ≡ waitAt (k .sheet) (k .published) (k .returns)
+  pub first : r ≡ valueOf (part (w + 4) 4 T)
+  pub second : s ≡ valueOf (part (w + 4 + 4) 4 T)
+
+module _ {k : Table} {T : List ℕ} {w r s : ℕ} (at : PairAt k T w r s) where
+  module _ (b : Bool) (eb : b ≡ pairSound (k .gates) r s) where
     pub pair-fails : not b ≡ true → false ≡ waitingSoundAt k T
     unfolding waitingSoundAt
-    pair-fails n = let p : pairSound (k .gates) r s ≡ false = sym eb ∙ not-true b n in rw (← ew, ← er, ← es, p)
+    pair-fails n =
+        let p : pairSound (k .gates) r s ≡ false = sym eb ∙ not-true b n in
+        rw (← at .place, ← at .first, ← at .second, p)
 
     module _ (holds : not b ≡ false) (b' : Bool)
         (eb' : b' ≡ allBelow 2147483647 (elementsOf 4 (take (w + 4 + 24 - (w + 4)) (drop (w + 4) T)))) where
@@ -98,7 +106,7 @@ module _ (k : Table) (T : List ℕ) where
           let p : pairSound (k .gates) r s ≡ true = sym eb ∙ not-false b holds in
           let q : allBelow 2147483647 (elementsOf 4 (part (w + 4) 24 T)) ≡ false
           = rw (span (w + 4) 24 T) at (sym eb' ∙ not-true b' n) in
-          rw (← ew, ← er, ← es, p, q)
+          rw (← at .place, ← at .first, ← at .second, p, q)
 
       pub share-decides : not b' ≡ false → (z : ℕ) → z ≡ sizeOf (k .entries) (k .gates)
           → allBelow 2147483647 (elementsOf 4 (take (w + 4 + 24 + 4 * z - (w + 4 + 24)) (drop (w + 4 + 24) T)))
@@ -108,4 +116,4 @@ module _ (k : Table) (T : List ℕ) where
           let p : pairSound (k .gates) r s ≡ true = sym eb ∙ not-false b holds in
           let q : allBelow 2147483647 (elementsOf 4 (part (w + 4) 24 T)) ≡ true
           = rw (span (w + 4) 24 T) at (sym eb' ∙ not-false b' n) in
-          rw (← ew, ← er, ← es, p, q, ← ez, span (w + 4 + 24) (4 * z) T)
+          rw (← at .place, ← at .first, ← at .second, p, q, ← ez, span (w + 4 + 24) (4 * z) T)

@@ -68,11 +68,15 @@ unfoldable pub pairSound : ℕ → ℕ → ℕ → Bool
 pairSound gates r s = ltb gates r && (ltb r 2147483647 && ltb s 2147483647)
 
 -- ---- counts, totals and the return that waits, by the numbers of the header
+-- the bytes of the table
+abbrev pub lengthOf : Table → ℕ
+lengthOf k = lengthAt (k .sheet) (k .published) (k .returns) (sizeOf (k .entries) (k .gates))
+
 module _ (k : Table) (T : List ℕ) where
   unfoldable pub countsSoundAt : Bool
   countsSoundAt =
       totalsFit document01 (k .returns) (columnsIn document01 T)
-      && (leb (lengthAt (k .sheet) (k .published) (k .returns) (sizeOf (k .entries) (k .gates))) (length T)
+      && (leb (lengthOf k) (length T)
       && (leb (k .decided + cond (within 1 2 (k .stage)) 1 0) (k .returns) && leb (k .accepted) (k .decided)))
 
   unfoldable pub totalsSoundAt : Bool
@@ -109,13 +113,13 @@ pub record Headed (T : List ℕ) (k : Table) : Type 0 where
 -- the table lies within its slice
 pub record Whole (T : List ℕ) (k : Table) : Type 0 where
   pub limited : Limited k
-  pub long : lengthAt (k .sheet) (k .published) (k .returns) (sizeOf (k .entries) (k .gates)) ≤ length T
+  pub long : lengthOf k ≤ length T
 
 -- a sound table
 pub record Sound (T : List ℕ) (k : Table) : Type 0 where
   pub says : k ≡ tableOf T
   pub limited : Limited k
   pub is-sound : tableSound document01 T ≡ true
-  pub long : lengthAt (k .sheet) (k .published) (k .returns) (sizeOf (k .entries) (k .gates)) ≤ length T
+  pub long : lengthOf k ≤ length T
   pub decided-few : k .decided + cond (within 1 2 (k .stage)) 1 0 ≤ k .returns
   pub accepted-few : k .accepted ≤ k .decided

@@ -1,11 +1,39 @@
 -- `table::counts_sound` meets its contract: the sheet that is cut out is the table's (`cut-reads`), and each test that
 -- led to a return is put into the definition. Assumes nothing.
+use mathlib.Core.Path.{_≡_}
+use mathlib.Core.Bool.{true}
+use mathlib.Core.List.{List}
+use Prim.Native.Nat.{ℕ, _≤_}
 use native.Mathlib.Omega.{arith}
+use lib.ListN.{length}
+use Rattle.rules.specs.Settings.{document01}
+use Rattle.rules.specs.Columns.{totalsFit}
+use Rattle.rules.specs.Table.{columnsIn}
+use Rattle.table.specs.Reading.{lengthOf}
 use Rattle.table.proofs.Judged.{cut-reads, fits, fits-not, counts-unfit, counts-short, counts-over, counts-but}
 use borrow.Author.Needs.{needs}
 use Rattle.table.proofs.counts_sound.Statement.{statement}
 use Rattle.table.proofs.counts_sound.Tie as tie
 
+abbrev given : tie.After-returns-refusal → tie.Start
+given x = x .before .before .before .before
+
+abbrev bytes : tie.After-returns-refusal → List ℕ
+bytes x = given x .args .t .now
+
+-- ---- what is known past each test
+totals-fit : (c : tie.Else1)
+    → totalsFit document01 (given (c .before) .args .k .returns) (columnsIn document01 (bytes (c .before))) ≡ true
+totals-fit c =
+    let x = c .before in
+    let r = x .returns-refusal in
+    fits (bytes x) (given x .args .k) (given x .pre) (r .result) (r .ensures) (c .if1 .left)
+
+long-enough : (c : tie.Else2) → let x = c .before .before .before .before in
+    lengthOf (given x .args .k) ≤ length (bytes x)
+long-enough c = omega (arith, c .if2 .left, c .before .table-length .ensures, c .before .before .share-size .ensures)
+
+-- ---- the steps
 add-end : tie.Need-add-end
 add-end c = search needs
 
@@ -26,10 +54,9 @@ returns-refusal-requires c κs =
 returns : tie.Need-returns
 returns c =
     let x = c .before in
-    let a = x .before .before .before .before in
-    let k = a .args .k in
-    let T = a .args .t .now in
-    counts-unfit k T (fits-not T k (a .pre) (x .returns-refusal .result) (x .returns-refusal .ensures) (c .if1 .taken))
+    let k = given x .args .k in
+    let r = x .returns-refusal in
+    counts-unfit k (bytes x) (fits-not (bytes x) k (given x .pre) (r .result) (r .ensures) (c .if1 .taken))
 
 share-size-requires : tie.Need-share-size-requires
 share-size-requires c κs = search needs
@@ -39,21 +66,15 @@ table-length-requires c κs = search needs
 
 returns-2 : tie.Need-returns-2
 returns-2 c =
-    let x = c .before .before .before .before in
-    let a = x .before .before .before .before in
-    let k = a .args .k in
-    let T = a .args .t .now in
-    counts-short k T (fits T k (a .pre) (x .returns-refusal .result) (x .returns-refusal .ensures) (c .before .before .before .if1 .left))
+    let one = c .before .before .before in
+    counts-short (given (one .before) .args .k) (bytes (one .before)) (totals-fit one)
     (omega (arith, c .if2 .taken, c .before .table-length .ensures, c .before .before .share-size .ensures))
 
 returns-3 : tie.Need-returns-3
 returns-3 c =
-    let x = c .before .before .before .before .before .before in
-    let a = x .before .before .before .before in
-    let k = a .args .k in
-    let T = a .args .t .now in
-    counts-over k T (fits T k (a .pre) (x .returns-refusal .result) (x .returns-refusal .ensures) (c .before .before .before .before .before .if1 .left))
-    (omega (arith, c .before .before .if2 .left, c .before .before .before .table-length .ensures, c .before .before .before .before .share-size .ensures))
+    let two = c .before .before in
+    let one = two .before .before .before in
+    counts-over (given (one .before) .args .k) (bytes (one .before)) (totals-fit one) (long-enough two)
     (omega (arith, c .if3 .taken))
 
 waiting-requires : tie.Need-waiting-requires
@@ -61,23 +82,20 @@ waiting-requires c κs = search needs
 
 returns-4 : tie.Need-returns-4
 returns-4 c =
-    let x = c .before .before .before .before .before .before .before .before .before in
-    let a = x .before .before .before .before in
-    let k = a .args .k in
-    let T = a .args .t .now in
-    counts-over k T (fits T k (a .pre) (x .returns-refusal .result) (x .returns-refusal .ensures) (c .before .before .before .before .before .before .before .before .if1 .left))
-    (omega (arith, c .before .before .before .before .before .if2 .left, c .before .before .before .before .before .before .table-length .ensures, c .before .before .before .before .before .before .before .share-size .ensures))
-    (omega (arith, c .if4 .taken, c .before .waiting .ensures, c .before .before .before .if3 .left))
+    let three = c .before .before .before in
+    let two = three .before .before in
+    let one = two .before .before .before in
+    counts-over (given (one .before) .args .k) (bytes (one .before)) (totals-fit one) (long-enough two)
+    (omega (arith, c .if4 .taken, c .before .waiting .ensures, three .if3 .left))
 
 returns-5 : tie.Need-returns-5
 returns-5 c =
-    let x = c .before .before .before .before .before .before .before .before .before .before in
-    let a = x .before .before .before .before in
-    let k = a .args .k in
-    let T = a .args .t .now in
-    counts-but k T (fits T k (a .pre) (x .returns-refusal .result) (x .returns-refusal .ensures) (c .before .before .before .before .before .before .before .before .before .if1 .left))
-    (omega (arith, c .before .before .before .before .before .before .if2 .left, c .before .before .before .before .before .before .before .table-length .ensures, c .before .before .before .before .before .before .before .before .share-size .ensures))
-    (omega (arith, c .before .if4 .left, c .before .before .waiting .ensures, c .before .before .before .before .if3 .left))
+    let four = c .before in
+    let three = four .before .before .before in
+    let two = three .before .before in
+    let one = two .before .before .before in
+    counts-but (given (one .before) .args .k) (bytes (one .before)) (totals-fit one) (long-enough two)
+    (omega (arith, four .if4 .left, four .before .waiting .ensures, three .if3 .left))
 
 pub counts-sound-spec : {M : Type 1} → statement M
 counts-sound-spec =

@@ -1,24 +1,38 @@
 -- `table::head` meets its contract. A start that is sound gives the reads their room; the answer of the sheet's
 -- reader decides the rest (`head-refused`, `head-counted`). Assumes nothing.
 use mathlib.Core.Path.{_≡_, sym, _∙_}
+use mathlib.Core.Bool.{true}
 use native.Mathlib.Omega.{arith}
 use borrow.Author.Tests.{not-true, not-false}
-use Rattle.table.proofs.Header.{started, head-not-started, head-refused, head-counted}
+use Rattle.table.specs.Reading.{startSound, Started}
+use Rattle.table.proofs.Header.{start-facts, head-not-started, head-refused, head-counted}
 use borrow.Author.Needs.{needs}
 use Rattle.table.proofs.head.Statement.{statement}
 use Rattle.table.proofs.head.Tie as tie
+
+-- ---- the start is sound past its test, and still once the sheet is counted
+start-holds : (c : tie.Else1) → startSound (c .before .before .before .args .t .now) ≡ true
+start-holds c = sym (c .before .start-sound .ensures) ∙ not-false _ (c .if1 .left)
+
+tested : (c : tie.Else1) → Started (c .before .before .before .args .t .now)
+tested c = start-facts _ (start-holds c)
+
+counted : (c : tie.After-counts)
+    → Started (c .before .before .before .before .before .before .before .before .args .t .now)
+counted c = tested (c .before .before .before .before .before)
+
+-- ---- the steps
 
 start-sound-requires : tie.Need-start-sound-requires
 start-sound-requires c κs = search needs
 
 returns : tie.Need-returns
-returns c = head-not-started (c .before .before .before .args .t .now) (sym (c .before .start-sound .ensures) ∙ not-true _ (c .if1 .taken))
+returns c =
+    head-not-started (c .before .before .before .args .t .now)
+    (sym (c .before .start-sound .ensures) ∙ not-true _ (c .if1 .taken))
 
 read-u16-requires : tie.Need-read-u16-requires
-read-u16-requires c κs =
-    let g = c .before in
-    let f = started (g .before .before .args .t .now) (g .start-sound .result) (g .start-sound .ensures) (c .if1 .left) in
-    omega (arith, f)
+read-u16-requires c κs = omega (arith, tested c)
 
 cast-n : tie.Need-cast-n
 cast-n c = search needs
@@ -33,10 +47,7 @@ part-read-start : tie.Need-part-read-start
 part-read-start c = search needs
 
 part-read-end : tie.Need-part-read-end
-part-read-end c =
-    let g = c .before .before in
-    let f = started (g .before .before .args .t .now) (g .start-sound .result) (g .start-sound .ensures) (c .before .if1 .left) in
-    omega (arith, f)
+part-read-end c = omega (arith, tested (c .before))
 
 read-requires : tie.Need-read-requires
 read-requires c κs = search needs
@@ -48,57 +59,39 @@ enum-known-counts : tie.Need-enum-known-counts
 enum-known-counts c = search needs
 
 shared-slice-read-wide : tie.Need-shared-slice-read-wide
-shared-slice-read-wide c =
-    let g = c .before .before .before .before .before .before .before .before in
-    let f = started (g .before .before .args .t .now) (g .start-sound .result) (g .start-sound .ensures) (c .before .before .before .before .before .before .before .if1 .left) in
-    omega (arith, f)
+shared-slice-read-wide c = omega (arith, counted (c .before .before))
 
 wide-requires : tie.Need-wide-requires
 wide-requires c κs = search needs
 
 shared-slice-read-wide-2 : tie.Need-shared-slice-read-wide-2
-shared-slice-read-wide-2 c =
-    let g = c .before .before .before .before .before .before .before .before .before .before in
-    let f = started (g .before .before .args .t .now) (g .start-sound .result) (g .start-sound .ensures) (c .before .before .before .before .before .before .before .before .before .if1 .left) in
-    omega (arith, f)
+shared-slice-read-wide-2 c = omega (arith, counted (c .before .before .before .before))
 
 wide-requires-2 : tie.Need-wide-requires-2
 wide-requires-2 c κs = search needs
 
 shared-slice-read-wide-3 : tie.Need-shared-slice-read-wide-3
-shared-slice-read-wide-3 c =
-    let g = c .before .before .before .before .before .before .before .before .before .before .before .before in
-    let f = started (g .before .before .args .t .now) (g .start-sound .result) (g .start-sound .ensures) (c .before .before .before .before .before .before .before .before .before .before .before .if1 .left) in
-    omega (arith, f)
+shared-slice-read-wide-3 c = omega (arith, counted (c .before .before .before .before .before .before))
 
 wide-requires-3 : tie.Need-wide-requires-3
 wide-requires-3 c κs = search needs
 
 read-u16-requires-2 : tie.Need-read-u16-requires-2
-read-u16-requires-2 c κs =
-    let g = c .before .before .before .before .before .before .before .before .before .before .before .before .before in
-    let f = started (g .before .before .args .t .now) (g .start-sound .result) (g .start-sound .ensures) (c .before .before .before .before .before .before .before .before .before .before .before .before .if1 .left) in
-    omega (arith, f)
+read-u16-requires-2 c κs = omega (arith, counted (c .before .before .before .before .before .before .before))
 
 read-u16-requires-3 : tie.Need-read-u16-requires-3
-read-u16-requires-3 c κs =
-    let g = c .before .before .before .before .before .before .before .before .before .before .before .before .before .before in
-    let f = started (g .before .before .args .t .now) (g .start-sound .result) (g .start-sound .ensures) (c .before .before .before .before .before .before .before .before .before .before .before .before .before .if1 .left) in
-    omega (arith, f)
+read-u16-requires-3 c κs = omega (arith, counted (c .before .before .before .before .before .before .before .before))
 
 read-u16-requires-4 : tie.Need-read-u16-requires-4
 read-u16-requires-4 c κs =
-    let g = c .before .before .before .before .before .before .before .before .before .before .before .before .before .before .before in
-    let f = started (g .before .before .args .t .now) (g .start-sound .result) (g .start-sound .ensures) (c .before .before .before .before .before .before .before .before .before .before .before .before .before .before .if1 .left) in
-    omega (arith, f)
+    let k = c .before .before .before .before .before .before .before .before .before in omega (arith, counted k)
 
 returns-2 : tie.Need-returns-2
 returns-2 c =
     let u = c .before .before in
     let n = u .before .before in
-    let g = n .before .before in
-    head-refused (g .before .before .args .t .now) (n .read-u16 .result) (n .read-u16 .ensures)
-    (sym (g .start-sound .ensures) ∙ not-false _ (n .before .if1 .left)) _ (sym (u .read .ensures) ∙ c .enum-told .given .1)
+    head-refused _ (n .read-u16 .result) (n .read-u16 .ensures) (start-holds (n .before)) _
+    (sym (u .read .ensures) ∙ c .enum-told .given .1)
 
 returns-3 : tie.Need-returns-3
 returns-3 c =
@@ -106,7 +99,6 @@ returns-3 c =
     let k = w .before .before .before in
     let u = k .before .before in
     let n = u .before .before in
-    let g = n .before .before in
     rw (
       w .wide .ensures,
       c .before .before .before .before .before .wide2 .ensures,
@@ -116,8 +108,8 @@ returns-3 c =
       c .read-u164 .ensures,
       n .read-u16 .ensures,
     )
-    (head-counted (g .before .before .args .t .now) (n .read-u16 .result) (n .read-u16 .ensures)
-    (sym (g .start-sound .ensures) ∙ not-false _ (n .before .if1 .left)) _ (sym (u .read .ensures) ∙ k .counts .given .1))
+    (head-counted _ (n .read-u16 .result) (n .read-u16 .ensures) (start-holds (n .before)) _
+    (sym (u .read .ensures) ∙ k .counts .given .1))
 
 pub head-spec : {M : Type 1} → statement M
 head-spec =

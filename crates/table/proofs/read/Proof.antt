@@ -1,12 +1,53 @@
 -- `table::read` meets its contract: the header's facts are what the parts of the judgement ask for, and the first
 -- part that fails, or none, decides what is found (`found-counts` and so on). Assumes nothing.
-use mathlib.Core.Path.{sym, _∙_}
+use mathlib.Core.Path.{_≡_, sym, _∙_}
+use mathlib.Core.Bool.{true, cond}
+use mathlib.Core.List.{List}
+use Prim.Native.Nat.{ℕ}
 use borrow.Author.Tests.{not-true, not-false}
-use Rattle.table.proofs.Answers.{headed, whole, found-headless, found-counts, found-totals, found-quiet, found-waiting}
+use Rattle.table.specs.Reading.{countsSoundAt, totalsSoundAt, waitingSoundAt, Headed, foundIn}
+use Rattle.table.specs.declared.Table.{Table}
+use Rattle.table.specs.declared.Found.the-variants as answer
+use Rattle.table.proofs.Answers.{headed, whole}
+use Rattle.table.proofs.Answers.{found-headless, found-counts, found-totals, found-quiet, found-waiting}
 use borrow.Author.Needs.{needs}
 use Rattle.table.proofs.read.Statement.{statement}
 use Rattle.table.proofs.read.Tie as tie
 
+abbrev bytes : tie.After-k → List ℕ
+bytes u = u .before .before .before .before .args .t .now
+
+abbrev table : tie.After-k → Table
+table u = u .k .given .0 .0
+
+-- ---- what is known past each test
+header : (u : tie.After-k) → Headed (bytes u) (table u)
+header u = headed (bytes u) _ (sym (u .before .before .head .ensures) ∙ u .k .given .1)
+
+abbrev first : tie.Else1 → tie.After-k
+first c = c .before .before .before
+
+counts-hold : (c : tie.Else1) → countsSoundAt (table (first c)) (bytes (first c)) ≡ true
+counts-hold c = sym (c .before .counts-sound .ensures) ∙ not-false _ (c .if1 .left)
+
+abbrev second : tie.Else2 → tie.Else1
+second c = c .before .before
+
+totals-hold : (c : tie.Else2) → totalsSoundAt (table (first (second c))) (bytes (first (second c))) ≡ true
+totals-hold c = sym (c .before .totals-sound .ensures) ∙ not-false _ (c .if2 .left)
+
+abbrev third : tie.Else3 → tie.Else2
+third c = c .before .before
+
+one-waits : (c : tie.Else3) → let u = first (second (third c)) in
+    cond (waitingSoundAt (table u) (bytes u)) (answer.Table (table u)) answer.Unsound ≡ foundIn (bytes u)
+one-waits c =
+    let two = third c in
+    let one = second two in
+    found-waiting (bytes (first one)) _ (header (first one)) (counts-hold one) (totals-hold two)
+    (sym (c .before .waits .ensures) ∙ not-false _ (c .if3 .left))
+
+-- ---- the steps
 head-requires : tie.Need-head-requires
 head-requires c κs = search needs
 
@@ -17,32 +58,20 @@ enum-known-k : tie.Need-enum-known-k
 enum-known-k c = search needs
 
 counts-sound-requires : tie.Need-counts-sound-requires
-counts-sound-requires c κs =
-    let u = c .before in
-    let T = u .before .before .before .before .args .t .now in
-    let h = headed T _ (sym (u .before .before .head .ensures) ∙ u .k .given .1) in
-    h
+counts-sound-requires c κs = header (c .before)
 
 returns : tie.Need-returns
 returns c =
     let u = c .before .before .before in
-    let T = u .before .before .before .before .args .t .now in
-    let h = headed T _ (sym (u .before .before .head .ensures) ∙ u .k .given .1) in
-    found-counts T _ h (sym (c .before .counts-sound .ensures) ∙ not-true _ (c .if1 .taken))
+    found-counts (bytes u) _ (header u) (sym (c .before .counts-sound .ensures) ∙ not-true _ (c .if1 .taken))
 
 totals-sound-requires : tie.Need-totals-sound-requires
-totals-sound-requires c κs =
-    let u = c .before .before .before in
-    let T = u .before .before .before .before .args .t .now in
-    let h = headed T _ (sym (u .before .before .head .ensures) ∙ u .k .given .1) in
-    whole T _ h (sym (c .before .counts-sound .ensures) ∙ not-false _ (c .if1 .left))
+totals-sound-requires c κs = whole (bytes (first c)) _ (header (first c)) (counts-hold c)
 
 returns-2 : tie.Need-returns-2
 returns-2 c =
-    let u = c .before .before .before .before .before in
-    let T = u .before .before .before .before .args .t .now in
-    let h = headed T _ (sym (u .before .before .head .ensures) ∙ u .k .given .1) in
-    found-totals T _ h (sym (c .before .before .before .counts-sound .ensures) ∙ not-false _ (c .before .before .if1 .left))
+    let one = c .before .before in
+    found-totals (bytes (first one)) _ (header (first one)) (counts-hold one)
     (sym (c .before .totals-sound .ensures) ∙ not-true _ (c .if2 .taken))
 
 waits-requires : tie.Need-waits-requires
@@ -50,42 +79,27 @@ waits-requires c κs = search needs
 
 returns-3 : tie.Need-returns-3
 returns-3 c =
-    let u = c .before .before .before .before .before .before .before in
-    let T = u .before .before .before .before .args .t .now in
-    let h = headed T _ (sym (u .before .before .head .ensures) ∙ u .k .given .1) in
-    found-quiet T _ h (sym (c .before .before .before .before .before .counts-sound .ensures) ∙ not-false _ (c .before .before .before .before .if1 .left))
-    (sym (c .before .before .before .totals-sound .ensures) ∙ not-false _ (c .before .before .if2 .left))
+    let two = c .before .before in
+    let one = second two in
+    found-quiet (bytes (first one)) _ (header (first one)) (counts-hold one) (totals-hold two)
     (sym (c .before .waits .ensures) ∙ not-true _ (c .if3 .taken))
 
 waiting-sound-requires : tie.Need-waiting-sound-requires
 waiting-sound-requires c κs =
-    let u = c .before .before .before .before .before .before .before in
-    let T = u .before .before .before .before .args .t .now in
-    let h = headed T _ (sym (u .before .before .head .ensures) ∙ u .k .given .1) in
-    whole T _ h (sym (c .before .before .before .before .before .counts-sound .ensures) ∙ not-false _ (c .before .before .before .before .if1 .left))
+    let one = second (third c) in whole (bytes (first one)) _ (header (first one)) (counts-hold one)
 
 returns-4 : tie.Need-returns-4
 returns-4 c =
-    let u = c .before .before .before .before .before .before .before .before .before in
-    let T = u .before .before .before .before .args .t .now in
-    let h = headed T _ (sym (u .before .before .head .ensures) ∙ u .k .given .1) in
-    rw (sym (c .before .waiting-sound .ensures) ∙ not-true _ (c .if4 .taken)) at
-    (found-waiting T _ h (sym (c .before .before .before .before .before .before .before .counts-sound .ensures) ∙ not-false _ (c .before .before .before .before .before .before .if1 .left))
-    (sym (c .before .before .before .before .before .totals-sound .ensures) ∙ not-false _ (c .before .before .before .before .if2 .left))
-    (sym (c .before .before .before .waits .ensures) ∙ not-false _ (c .before .before .if3 .left)))
+    rw (sym (c .before .waiting-sound .ensures) ∙ not-true _ (c .if4 .taken)) at (one-waits (c .before .before))
 
 returns-5 : tie.Need-returns-5
-returns-5 c = found-headless (c .before .before .before .before .args .t .now) (sym (c .before .before .head .ensures) ∙ c .enum-told .given .1)
+returns-5 c =
+    found-headless (c .before .before .before .before .args .t .now)
+    (sym (c .before .before .head .ensures) ∙ c .enum-told .given .1)
 
 returns-6 : tie.Need-returns-6
 returns-6 c =
-    let u = c .before .before .before .before .before .before .before .before .before in
-    let T = u .before .before .before .before .args .t .now in
-    let h = headed T _ (sym (u .before .before .head .ensures) ∙ u .k .given .1) in
-    rw (sym (c .before .waiting-sound .ensures) ∙ not-false _ (c .if4 .left)) at
-    (found-waiting T _ h (sym (c .before .before .before .before .before .before .before .counts-sound .ensures) ∙ not-false _ (c .before .before .before .before .before .before .if1 .left))
-    (sym (c .before .before .before .before .before .totals-sound .ensures) ∙ not-false _ (c .before .before .before .before .if2 .left))
-    (sym (c .before .before .before .waits .ensures) ∙ not-false _ (c .before .before .if3 .left)))
+    rw (sym (c .before .waiting-sound .ensures) ∙ not-false _ (c .if4 .left)) at (one-waits (c .before .before))
 
 pub read-spec : {M : Type 1} → statement M
 read-spec =

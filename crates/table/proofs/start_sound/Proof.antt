@@ -7,31 +7,31 @@ use Rattle.table.proofs.start_sound.Statement.{statement}
 use Rattle.table.proofs.start_sound.Tie as tie
 
 returns : tie.Need-returns
-returns c = not-started (c .before .before .args .t .now) (λ f. omega arith)
+returns c = not-started _ (λ f. omega arith)
 
 shared-slice-read-if2 : tie.Need-shared-slice-read-if2
 shared-slice-read-if2 c = search needs
 
 returns-2 : tie.Need-returns-2
-returns-2 c = not-started (c .before .before .before .before .args .t .now) (λ f. c .if2 .taken (f .byte-is))
+returns-2 c = not-started _ (λ f. c .if2 .taken (f .byte-is))
 
 shared-slice-read-if3 : tie.Need-shared-slice-read-if3
 shared-slice-read-if3 c = search needs
 
 returns-3 : tie.Need-returns-3
-returns-3 c = not-started (c .before .before .before .before .before .before .args .t .now) (λ f. omega arith)
+returns-3 c = not-started _ (λ f. omega arith)
 
 shared-slice-read-if4 : tie.Need-shared-slice-read-if4
 shared-slice-read-if4 c = search needs
 
 returns-4 : tie.Need-returns-4
-returns-4 c = not-started (c .before .before .before .before .before .before .before .before .args .t .now) (λ f. omega arith)
+returns-4 c = not-started _ (λ f. omega arith)
 
 shared-slice-read-if5 : tie.Need-shared-slice-read-if5
 shared-slice-read-if5 c = search needs
 
 returns-5 : tie.Need-returns-5
-returns-5 c = not-started (c .before .before .before .before .before .before .before .before .before .before .args .t .now) (λ f. omega arith)
+returns-5 c = not-started _ (λ f. omega arith)
 
 shared-slice-read-if6 : tie.Need-shared-slice-read-if6
 shared-slice-read-if6 c = search needs
@@ -40,16 +40,16 @@ shared-slice-read-if6-2 : tie.Need-shared-slice-read-if6-2
 shared-slice-read-if6-2 c = search needs
 
 returns-6 : tie.Need-returns-6
-returns-6 c = not-started (c .before .before .before .before .before .before .before .before .before .before .before .before .before .args .t .now) (λ f. omega arith)
+returns-6 c = not-started _ (λ f. omega arith)
 
 read-u16-requires : tie.Need-read-u16-requires
 read-u16-requires c κs = search needs
 
 returns-7 : tie.Need-returns-7
-returns-7 c = not-started (c .before .before .before .before .before .before .before .before .before .before .before .before .before .before .before .args .t .now) (λ f. omega arith)
+returns-7 c = not-started _ (λ f. omega arith)
 
 returns-8 : tie.Need-returns-8
-returns-8 c = not-started (c .before .before .before .before .before .before .before .before .before .before .before .before .before .before .before .before .args .t .now) (λ f. omega arith)
+returns-8 c = not-started _ (λ f. omega arith)
 
 read-u16-requires-2 : tie.Need-read-u16-requires-2
 read-u16-requires-2 c κs = search needs
@@ -62,10 +62,15 @@ add-result c = search needs
 
 returns-9 : tie.Need-returns-9
 returns-9 c =
-    let t = c .before .before .before .before .before .before .before .before .before .before .before .before .before .before .before in
+    let six = c .before .before .before .before in
+    let five = six .before .before .before in
+    let four = five .before .before in
+    let three = four .before .before in
+    let two = three .before .before in
+    let one = two .before .before in
     rw (c .read-u162 .ensures)
-    (start-but (t .before .before .args .t .now) (t .if1 .left) (c .before .before .before .before .before .before .before .before .before .before .before .before .before .if2 .left) (c .before .before .before .before .before .before .before .before .before .before .before .if3 .left) (c .before .before .before .before .before .before .before .before .before .if4 .left) (c .before .before .before .before .before .before .before .if5 .left)
-    (c .before .before .before .before .if6 .left) (omega arith) (omega arith))
+    (start-but (one .before .before .args .t .now) (one .if1 .left) (two .if2 .left) (three .if3 .left)
+    (four .if4 .left) (five .if5 .left) (six .if6 .left) (omega arith) (omega arith))
 
 pub start-sound-spec : {M : Type 1} → statement M
 start-sound-spec =

@@ -1,10 +1,20 @@
 -- `table::waiting_sound` meets its contract: the pair, the six numbers and the share are tested in turn
 -- (`pair-fails`, `words-fail`, `share-decides`). Assumes nothing.
 use mathlib.Core.Path.{_∙_}
-use Rattle.table.proofs.Judged.{pair-fails, words-fail, share-decides}
+use Rattle.table.proofs.Judged.{PairAt, pair-fails, words-fail, share-decides}
 use borrow.Author.Needs.{needs}
 use Rattle.table.proofs.waiting_sound.Statement.{statement}
 use Rattle.table.proofs.waiting_sound.Tie as tie
+
+-- the place of the return that waits, and its pair
+pair-at : (s : tie.After-read-u322) → let w = s .before .before in
+    let a = w .before .before .args in
+    PairAt (a .k) (a .t .now) (w .wait-place .result) (s .before .read-u32 .result) (s .read-u322 .result)
+pair-at s = record {
+  place = s .before .before .wait-place .ensures;
+  first = s .before .read-u32 .ensures;
+  second = s .read-u322 .ensures;
+}
 
 wait-place-requires : tie.Need-wait-place-requires
 wait-place-requires c κs = search needs
@@ -33,12 +43,7 @@ pair-sound-requires c κs = search needs
 returns : tie.Need-returns
 returns c =
     let g = c .before in
-    let s = g .before in
-    let r = s .before in
-    let w = r .before in
-    let a = w .before .before .args in
-    pair-fails (a .k) (a .t .now) (w .wait-place .result) (r .read-u32 .result) (s .read-u322 .result) (w .wait-place .ensures)
-    (r .read-u32 .ensures) (s .read-u322 .ensures) (g .pair-sound .result) (g .pair-sound .ensures) (c .if1 .taken)
+    pair-fails (pair-at (g .before)) (g .pair-sound .result) (g .pair-sound .ensures) (c .if1 .taken)
 
 add-share : tie.Need-add-share
 add-share c = search needs
@@ -57,14 +62,11 @@ elements-below-requires c κs = search needs
 
 returns-2 : tie.Need-returns-2
 returns-2 c =
-    let g = c .before .before .before .before in
-    let s = g .before in
-    let r = s .before in
-    let w = r .before in
-    let a = w .before .before .args in
-    words-fail (a .k) (a .t .now) (w .wait-place .result) (r .read-u32 .result) (s .read-u322 .result) (w .wait-place .ensures)
-    (r .read-u32 .ensures) (s .read-u322 .ensures) (g .pair-sound .result) (g .pair-sound .ensures)
-    (c .before .before .before .if1 .left) (c .before .elements-below .result) (c .before .elements-below .ensures) (c .if2 .taken)
+    let words = c .before .elements-below in
+    let one = c .before .before .before in
+    let g = one .before in
+    words-fail (pair-at (g .before)) (g .pair-sound .result) (g .pair-sound .ensures) (one .if1 .left)
+    (words .result) (words .ensures) (c .if2 .taken)
 
 share-size-requires : tie.Need-share-size-requires
 share-size-requires c κs = search needs
@@ -89,17 +91,14 @@ elements-below-requires-2 c κs = search needs
 
 returns-3 : tie.Need-returns-3
 returns-3 c =
-    let e = c .before .before .before .before in
-    let g = c .before .before .before .before .before .before .before in
-    let s = g .before in
-    let r = s .before in
-    let w = r .before in
-    let a = w .before .before .args in
+    let size = c .before .before .share-size in
+    let two = c .before .before .before in
+    let words = two .before .elements-below in
+    let one = two .before .before .before in
+    let g = one .before in
     c .elements-below2 .ensures
-    ∙ share-decides (a .k) (a .t .now) (w .wait-place .result) (r .read-u32 .result) (s .read-u322 .result) (w .wait-place .ensures)
-    (r .read-u32 .ensures) (s .read-u322 .ensures) (g .pair-sound .result) (g .pair-sound .ensures)
-    (c .before .before .before .before .before .before .if1 .left) (e .elements-below .result) (e .elements-below .ensures) (c .before .before .before .if2 .left) (c .before .before .share-size .result)
-    (c .before .before .share-size .ensures)
+    ∙ share-decides (pair-at (g .before)) (g .pair-sound .result) (g .pair-sound .ensures) (one .if1 .left)
+    (words .result) (words .ensures) (two .if2 .left) (size .result) (size .ensures)
 
 pub waiting-sound-spec : {M : Type 1} → statement M
 waiting-sound-spec =

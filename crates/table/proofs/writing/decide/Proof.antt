@@ -1,6 +1,6 @@
 -- `table::writing::decide` meets its contract: counts, id and stage are put where they stand (`decided-written`).
 -- Assumes nothing.
-use Prim.Native.Nat.{ℕ, _+_, _*_, _≤_}
+use Prim.Native.Nat.{_+_, _*_, _≤_}
 use native.Mathlib.Omega.{arith}
 use lib.ListN.{length, length-set}
 use Rattle.table.specs.Places.{idsAt}
@@ -40,20 +40,27 @@ slice-write-t : tie.Need-slice-write-t
 slice-write-t c = search needs
 
 same-length : tie.Need-same-length
-same-length c = simp length-set (omega (arith, c .before .before .write-u32 .kept .0, c .before .before .before .before .before .before .before .write-u162 .kept .0, c .before .before .before .before .before .before .before .before .before .before .before .before .write-u16 .kept .0))
+same-length c =
+    let third = c .before .before in
+    let second = third .before .before .before .before .before in
+    let first = second .before .before .before .before .before in
+    simp length-set (omega (arith, third .write-u32 .kept .0, second .write-u162 .kept .0, first .write-u16 .kept .0))
 
 returns : tie.Need-returns
 returns c =
-    let a = c .before .before .before .before .before .before .before .before .before .before .before .before .before .before .before in
+    let third = c .before .before in
+    let second = third .before .before .before .before .before in
+    let first = second .before .before .before .before .before in
+    let a = first .before .before .before in
     let k = a .args .k in
     let h : 12 ≤ length (a .args .t .now) = omega (arith, a .pre) in
     let m : idsAt (k .sheet) (k .published) + 4 * k .decided + 4 ≤ length (a .args .t .now) = omega (arith, a .pre) in
     cc (
       decided-written k (a .args .accepted) (a .args .id) (a .args .t .now) h m,
-      c .before .before .write-u32 .ensures,
-      c .before .before .before .ids-place .ensures,
-      c .before .before .before .before .before .before .before .write-u162 .ensures,
-      c .before .before .before .before .before .before .before .before .before .before .before .before .write-u16 .ensures,
+      third .write-u32 .ensures,
+      third .before .ids-place .ensures,
+      second .write-u162 .ensures,
+      first .write-u16 .ensures,
     )
 
 pub decide-spec : {M : Type 1} → statement M

@@ -26,37 +26,51 @@ write-u16-requires-2 : tie.Need-write-u16-requires-2
 write-u16-requires-2 c κs = omega (arith, simp length-set at (c .before .before .before .write-u16 .kept .0))
 
 write-u16-requires-3 : tie.Need-write-u16-requires-3
-write-u16-requires-3 c κs = omega (arith, simp length-set at (c .before .before .before .before .before .before .before .write-u16 .kept .0), c .before .before .before .write-u162 .kept .0)
+write-u16-requires-3 c κs =
+    let second = c .before .before .before in
+    let first = second .before .before .before .before in
+    omega (arith, simp length-set at (first .write-u16 .kept .0), second .write-u162 .kept .0)
 
 write-u16-requires-4 : tie.Need-write-u16-requires-4
 write-u16-requires-4 c κs =
+    let third = c .before .before .before in
+    let second = third .before .before .before .before in
+    let first = second .before .before .before .before in
     omega (
       arith,
-      simp length-set at (c .before .before .before .before .before .before .before .before .before .before .before .write-u16 .kept .0),
-      c .before .before .before .before .before .before .before .write-u162 .kept .0,
-      c .before .before .before .write-u163 .kept .0,
-      c .before .before .before .before .before .before .before .before .before .before .before .before .before .before .pre,
+      simp length-set at (first .write-u16 .kept .0),
+      second .write-u162 .kept .0,
+      third .write-u163 .kept .0,
+      first .before .before .before .pre,
     )
 
 same-length : tie.Need-same-length
 same-length c =
+    let fourth = c .before .before in
+    let third = fourth .before .before .before .before in
+    let second = third .before .before .before .before in
+    let first = second .before .before .before .before in
     omega (
       arith,
-      simp length-set at (c .before .before .before .before .before .before .before .before .before .before .before .before .before .before .write-u16 .kept .0),
-      c .before .before .before .before .before .before .before .before .before .before .write-u162 .kept .0,
-      c .before .before .before .before .before .before .write-u163 .kept .0,
-      c .before .before .write-u164 .kept .0,
+      simp length-set at (first .write-u16 .kept .0),
+      second .write-u162 .kept .0,
+      third .write-u163 .kept .0,
+      fourth .write-u164 .kept .0,
     )
 
 returns : tie.Need-returns
 returns c =
-    let a = c .before .before .before .before .before .before .before .before .before .before .before .before .before .before .before .before .before in
+    let fourth = c .before .before in
+    let third = fourth .before .before .before .before in
+    let second = third .before .before .before .before in
+    let first = second .before .before .before .before in
+    let a = first .before .before .before in
     cc (
       start-written (a .args .t .now) (a .args .servers) (a .args .own) (a .args .returns) (a .args .n) (a .pre),
-      c .before .before .write-u164 .ensures,
-      c .before .before .before .before .before .before .write-u163 .ensures,
-      c .before .before .before .before .before .before .before .before .before .before .write-u162 .ensures,
-      c .before .before .before .before .before .before .before .before .before .before .before .before .before .before .write-u16 .ensures,
+      fourth .write-u164 .ensures,
+      third .write-u163 .ensures,
+      second .write-u162 .ensures,
+      first .write-u16 .ensures,
     )
 
 pub write-start-spec : {M : Type 1} → statement M

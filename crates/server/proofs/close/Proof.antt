@@ -1,15 +1,26 @@
 -- `server::close` meets its contract: a sound table gives the message its totals and the buffer's test its room
 -- (`close-done`); else it is refused (`close-unsound`, `close-staged`, `close-narrow`). Assumes nothing.
 use mathlib.Core.Path.{sym, _∙_}
-use Prim.Native.Nat.{_<_}
+use mathlib.Core.List.{List}
+use Prim.Native.Nat.{ℕ, _<_}
 use native.Mathlib.Omega.{arith}
 use Rattle.algebra.specs.Lists.{All}
 use Rattle.algebra.proofs.Members.{getD-all}
+use Rattle.table.specs.Reading.{Sound}
 use Rattle.table.proofs.Answers.{sound}
 use Rattle.server.proofs.Closing.{close-unsound, close-staged, close-narrow, close-closes, close-done}
 use borrow.Author.Needs.{needs}
 use Rattle.server.proofs.close.Statement.{statement}
 use Rattle.server.proofs.close.Tie as tie
+
+abbrev given : tie.After-k → tie.Start
+given u = u .before .before .before .before .before .before
+
+abbrev bytes : tie.After-k → List ℕ
+bytes u = given u .args .table .now
+
+sound-table : (u : tie.After-k) → Sound (bytes u) (u .k .given .0 .0)
+sound-table u = sound (bytes u) _ (sym (u .before .before .read .ensures) ∙ u .k .given .1)
 
 read-requires : tie.Need-read-requires
 read-requires c κs = search needs
@@ -26,26 +37,15 @@ same-length c = search needs
 returns : tie.Need-returns
 returns c =
     let u = c .before .before .before in
-    let T = u .before .before .before .before .before .before .args .table .now in
-    let out = u .before .before .before .before .before .before .args .out .now in
-    let s = sound T _ (sym (u .before .before .read .ensures) ∙ u .k .given .1) in
-    close-staged T out _ s (λ z. omega (arith, c .if1 .taken))
+    close-staged (bytes u) (given u .args .out .now) _ (sound-table u) (λ z. omega (arith, c .if1 .taken))
 
 mul-size : tie.Need-mul-size
 mul-size c =
-    let u = c .before .before .before .before in
-    let T = u .before .before .before .before .before .before .args .table .now in
-    let out = u .before .before .before .before .before .before .args .out .now in
-    let s = sound T _ (sym (u .before .before .read .ensures) ∙ u .k .given .1) in
-    omega (arith, s .limited .published-most)
+    let u = c .before .before .before .before in omega (arith, sound-table u .limited .published-most)
 
 add-size : tie.Need-add-size
 add-size c =
-    let u = c .before .before .before .before in
-    let T = u .before .before .before .before .before .before .args .table .now in
-    let out = u .before .before .before .before .before .before .args .out .now in
-    let s = sound T _ (sym (u .before .before .read .ensures) ∙ u .k .given .1) in
-    omega (arith, s .limited .published-most)
+    let u = c .before .before .before .before in omega (arith, sound-table u .limited .published-most)
 
 same-length-2 : tie.Need-same-length-2
 same-length-2 c = search needs
@@ -53,26 +53,18 @@ same-length-2 c = search needs
 returns-2 : tie.Need-returns-2
 returns-2 c =
     let u = c .before .before .before .before .before in
-    let T = u .before .before .before .before .before .before .args .table .now in
-    let out = u .before .before .before .before .before .before .args .out .now in
-    let s = sound T _ (sym (u .before .before .read .ensures) ∙ u .k .given .1) in
-    close-narrow T out _ s (omega (arith, c .before .before .if1 .left)) (omega (arith, c .if2 .taken))
+    close-narrow (bytes u) (given u .args .out .now) _ (sound-table u) (omega (arith, c .before .before .if1 .left))
+    (omega (arith, c .if2 .taken))
 
 write-closing-requires : tie.Need-write-closing-requires
 write-closing-requires c κs =
     let u = c .before .before .before .before .before .before .before in
-    let T = u .before .before .before .before .before .before .args .table .now in
-    let out = u .before .before .before .before .before .before .args .out .now in
-    let s = sound T _ (sym (u .before .before .read .ensures) ∙ u .k .given .1) in
-    close-closes T out _ s (omega (arith, c .before .before .if2 .left))
+    close-closes (bytes u) (given u .args .out .now) _ (sound-table u) (omega (arith, c .before .before .if2 .left))
 
 slice-write-table : tie.Need-slice-write-table
 slice-write-table c =
     let u = c .before .before .before .before .before .before .before .before .before .before in
-    let T = u .before .before .before .before .before .before .args .table .now in
-    let out = u .before .before .before .before .before .before .args .out .now in
-    let s = sound T _ (sym (u .before .before .read .ensures) ∙ u .k .given .1) in
-    omega (arith, s .long)
+    omega (arith, sound-table u .long)
 
 same-length-3 : tie.Need-same-length-3
 same-length-3 c = search needs
@@ -91,14 +83,13 @@ same-length-5 c = search needs
 returns-4 : tie.Need-returns-4
 returns-4 c =
     let u = c .before .before .before .before .before .before .before .before .before .before in
-    let T = u .before .before .before .before .before .before .args .table .now in
-    let out = u .before .before .before .before .before .before .args .out .now in
-    let s = sound T _ (sym (u .before .before .read .ensures) ∙ u .k .given .1) in
     let w = c .before .before .before .before .before in
     let known = u .before .before .before .before .before .slice-known .given in
-    let bytes : All (λ b. b < 256) T = getD-all {P = λ b. b < 256} 0 T (λ i h. let f = known i in omega arith) in
+    let each : All (λ b. b < 256) (bytes u)
+    = getD-all {P = λ b. b < 256} 0 (bytes u) (λ i h. let f = known i in omega arith) in
     rw (c .before .before .write-closing .ensures)
-    (close-done T out _ s (omega (arith, w .before .before .if1 .left)) (omega (arith, w .if2 .left)) bytes)
+    (close-done (bytes u) (given u .args .out .now) _ (sound-table u) (omega (arith, w .before .before .if1 .left))
+    (omega (arith, w .if2 .left)) each)
 
 pub close-spec : {M : Type 1} → statement M
 close-spec =

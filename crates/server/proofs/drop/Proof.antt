@@ -1,14 +1,37 @@
--- `server::drop` meets its contract: a sound table gives the reads and the writes their room, and the return that waits is
--- decided (`drop-done`); else it is refused (`drop-unsound`, `drop-quiet`). Assumes nothing.
-use mathlib.Core.Path.{sym, _∙_}
+-- `server::drop` meets its contract: a sound table gives the reads and the writes their room, and the return that waits
+-- is decided (`drop-done`); else it is refused (`drop-unsound`, `drop-quiet`). Assumes nothing.
+use mathlib.Core.Path.{_≡_, sym, _∙_}
+use mathlib.Core.Bool.{true}
+use mathlib.Core.List.{List}
+use Prim.Native.Nat.{ℕ}
 use native.Mathlib.Omega.{arith}
 use borrow.Author.Tests.{not-true, not-false}
+use Rattle.rules.specs.Columns.{within}
+use Rattle.table.specs.Reading.{Sound}
+use Rattle.table.specs.declared.Table.{Table}
 use Rattle.table.proofs.Answers.{sound}
 use Rattle.server.proofs.Dropping.{drop-unsound, drop-quiet, drop-done, drop-decides}
 use borrow.Author.Needs.{needs}
 use Rattle.server.proofs.drop.Statement.{statement}
 use Rattle.server.proofs.drop.Tie as tie
 
+abbrev bytes : tie.After-k → List ℕ
+bytes u = u .before .before .before .before .before .args .table .now
+
+abbrev table : tie.After-k → Table
+table u = u .k .given .0 .0
+
+abbrev found : tie.Else1 → tie.After-k
+found c = c .before .before .before
+
+-- ---- what is known once the table is read, and past the test
+sound-table : (u : tie.After-k) → Sound (bytes u) (table u)
+sound-table u = sound (bytes u) _ (sym (u .before .before .read .ensures) ∙ u .k .given .1)
+
+one-waits : (c : tie.Else1) → within 1 2 (table (found c) .stage) ≡ true
+one-waits c = sym (c .before .waits .ensures) ∙ not-false _ (c .if1 .left)
+
+-- ---- the steps
 read-requires : tie.Need-read-requires
 read-requires c κs = search needs
 
@@ -27,15 +50,11 @@ same-length c = search needs
 returns : tie.Need-returns
 returns c =
     let u = c .before .before .before in
-    let T = u .before .before .before .before .before .args .table .now in
-    let s = sound T _ (sym (u .before .before .read .ensures) ∙ u .k .given .1) in
-    drop-quiet T _ s (sym (c .before .waits .ensures) ∙ not-true _ (c .if1 .taken))
+    drop-quiet (bytes u) _ (sound-table u) (sym (c .before .waits .ensures) ∙ not-true _ (c .if1 .taken))
 
 wait-place-requires : tie.Need-wait-place-requires
 wait-place-requires c κs =
-    let u = c .before .before .before .before in
-    let T = u .before .before .before .before .before .args .table .now in
-    let s = sound T _ (sym (u .before .before .read .ensures) ∙ u .k .given .1) in
+    let s = sound-table (found (c .before)) in
     record {
       sheet-most = s .limited .sheet-most;
       published-most = s .limited .published-most;
@@ -43,35 +62,30 @@ wait-place-requires c κs =
     }
 
 read-u32-requires : tie.Need-read-u32-requires
-read-u32-requires c κs =
-    let u = c .before .before .before .before .before in
-    let T = u .before .before .before .before .before .args .table .now in
-    let s = sound T _ (sym (u .before .before .read .ensures) ∙ u .k .given .1) in
-    omega (arith, s .long, c .wait-place .ensures)
+read-u32-requires c κs = omega (arith, sound-table (found (c .before .before)) .long, c .wait-place .ensures)
 
 decide-requires : tie.Need-decide-requires
 decide-requires c κs =
-    let u = c .before .before .before .before .before .before .before in
-    let T = u .before .before .before .before .before .args .table .now in
-    let s = sound T _ (sym (u .before .before .read .ensures) ∙ u .k .given .1) in
-    (drop-decides T _ s (sym (c .before .before .before .before .before .waits .ensures) ∙ not-false _ (c .before .before .before .before .if1 .left)), search needs)
+    let one = c .before .before .before .before in
+    (drop-decides (bytes (found one)) _ (sound-table (found one)) (one-waits one), search needs)
 
 same-length-2 : tie.Need-same-length-2
 same-length-2 c = search needs
 
 returns-2 : tie.Need-returns-2
-returns-2 c = drop-unsound (c .before .before .before .before .before .args .table .now) (sym (c .before .before .read .ensures) ∙ c .enum-told .given .1)
+returns-2 c =
+    drop-unsound (c .before .before .before .before .before .args .table .now)
+    (sym (c .before .before .read .ensures) ∙ c .enum-told .given .1)
 
 same-length-3 : tie.Need-same-length-3
 same-length-3 c = search needs
 
 returns-3 : tie.Need-returns-3
 returns-3 c =
-    let u = c .before .before .before .before .before .before .before .before .before .before in
-    let T = u .before .before .before .before .before .args .table .now in
-    let s = sound T _ (sym (u .before .before .read .ensures) ∙ u .k .given .1) in
-    rw (c .before .before .decide .ensures, c .before .before .before .before .read-u32 .ensures, c .before .before .before .before .before .wait-place .ensures)
-    (drop-done T _ s (sym (c .before .before .before .before .before .before .before .before .waits .ensures) ∙ not-false _ (c .before .before .before .before .before .before .before .if1 .left)))
+    let id = c .before .before .before .before in
+    let one = id .before .before .before in
+    rw (c .before .before .decide .ensures, id .read-u32 .ensures, id .before .wait-place .ensures)
+    (drop-done (bytes (found one)) _ (sound-table (found one)) (one-waits one))
 
 pub drop-spec : {M : Type 1} → statement M
 drop-spec =

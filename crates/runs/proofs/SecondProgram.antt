@@ -99,6 +99,16 @@ summed i = oneTable σ (shared i) joinedOne
 abbrev decided : ℕ → List ℕ
 decided i = twoTable σ (summed i) joinedTwo
 
+-- what it writes for round one, for round two and at the close
+abbrev one : ℕ → List ℕ
+one i = shareBytes σ (openBytes σ 3 i sheet 5) (shareOf i) 1000003 77
+
+abbrev two : ℕ → List ℕ
+two i = oneBytes σ (shared i) joinedOne
+
+abbrev closing : ℕ → List ℕ
+closing i = closeBytes σ (decided i)
+
 circuit-same : sameBytes (sheetCircuit σ sheet) circuitIs ≡ true
 unfolding everything sheetCircuit
 circuit-same = refl
@@ -111,14 +121,11 @@ make-taken : makeRefusal σ sheet 3 values random 318 ≡ 0
 unfolding everything
 make-taken = refl
 
-abbrev one : ℕ → List ℕ
-one i = shareBytes σ (openBytes σ 3 i sheet 5) (shareOf i) 1000003 77
-
 one-same : sameBytes (one 0 ++ one 1 ++ one 2) joinedOne ≡ true
 unfolding everything
 one-same = refl
 
-two-same : sameBytes (oneBytes σ (shared 0) joinedOne ++ oneBytes σ (shared 1) joinedOne ++ oneBytes σ (shared 2) joinedOne) joinedTwo ≡ true
+two-same : sameBytes (two 0 ++ two 1 ++ two 2) joinedTwo ≡ true
 unfolding everything
 two-same = refl
 
@@ -126,7 +133,7 @@ verdict : twoVerdict σ (summed 1) joinedTwo ≡ true
 unfolding everything
 verdict = refl
 
-close-same : sameBytes (closeBytes σ (decided 0) ++ closeBytes σ (decided 1) ++ closeBytes σ (decided 2)) closings ≡ true
+close-same : sameBytes (closing 0 ++ closing 1 ++ closing 2) closings ≡ true
 unfolding everything
 close-same = refl
 

@@ -98,7 +98,8 @@ fn fill_tables(factorials: &mut [u32], falls: &mut [u32], back: &mut [u32])
 {
     let mut inverses = [0u32; 512];
     let n = back.len();
-    snip::fill_inverse_factorials(&mut inverses[..n], factorials);
+    quotients::fill_inverses(&mut inverses[..n]);
+    quotients::fill_inverse_factorials(factorials);
     fill_back(&inverses[..n], back);
     fill_falls(&inverses[..n], falls);
 }

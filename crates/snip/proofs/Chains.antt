@@ -17,7 +17,7 @@ use Rattle.algebra.proofs.Remainders.{mul-mod}
 use Rattle.algebra.proofs.Tables.{length-tabulate, getD-tabulate, tabulate-cong, fill-none, fill-next, fill-all}
 use Rattle.field.specs.Residues.{prime, residues, Elements}
 use Rattle.field.proofs.Below.{inverse-below, tabulate-below}
-use Rattle.snip.specs.Factorials.{inverseFactorial}
+use Rattle.quotients.specs.Factorials.{inverseFactorial}
 use Rattle.snip.specs.Sides.{belowSide, aboveSide, Inverses}
 use Rattle.snip.proofs.Numbers.{above, basis-is, above-none, above-next}
 

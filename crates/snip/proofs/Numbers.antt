@@ -2,27 +2,22 @@
 -- is one of the field of residues, whose elements have these numbers as values. Assumes nothing.
 use mathlib.Core.Path.{_≡_, refl, sym, _∙_, ap, ap₂}
 use mathlib.Core.Logic.{_≢_}
-use mathlib.Core.List.{List}
 use Prim.Native.Nat.{ℕ, zero, suc, _+_, _-_, _≤_, _<_}
 use native.Mathlib.Nat.{mod-eq-of-lt, mod-lt}
 use native.Mathlib.Omega.{arith}
 use lib.Dec.{lit<}
-use lib.ListN.{getD}
-use Rattle.algebra.specs.Lists.{tabulate}
 use Rattle.algebra.specs.Ops.{Ops, Field, Hom, minus}
-use Rattle.algebra.specs.Sums.{product}
 use Rattle.algebra.specs.Interpolation.{ascending, descending, others, weight, basis, sign}
 use Rattle.algebra.proofs.Ring.{ring}
 use Rattle.algebra.proofs.Trial.{prime-2147483647}
 use Rattle.algebra.proofs.Residues.{residues as residueField, toNumbers, value-of, points-apart}
-use Rattle.algebra.proofs.Tables.{getD-tabulate, tabulate-cong}
 use Rattle.algebra.proofs.Sums.{product-ext}
 use Rattle.algebra.proofs.Homs.{product-hom, ascending-hom, descending-hom, weight-hom, basis-hom, sign-hom}
 use Rattle.algebra.proofs.Weights.{weight-factorial}
 use Rattle.algebra.proofs.Weights as weights
 use Rattle.field.specs.Residues.{prime, residues}
 use Rattle.rules.specs.Judging.{firstOnly}
-use Rattle.snip.specs.Factorials.{inverseFactorial}
+use Rattle.quotients.specs.Factorials.{inverseFactorial}
 
 -- the field, and the values of its elements
 abbrev pub 𝓕 : Field
@@ -41,14 +36,6 @@ sign-below zero = lit< tt
 sign-below (suc m) = mod-lt (prime - sign residues m) (lit< tt)
 
 -- ---- the weights
--- the running products of a table of inverses
-pub factorials-from : (invs : List ℕ) (n m : ℕ) → invs ≡ tabulate (λ i. residues .inv (suc i)) n → m ≤ n + 1
-    → tabulate (λ j. product residues j (λ i. getD invs i 0)) m ≡ tabulate inverseFactorial m
-factorials-from invs n m e h =
-    tabulate-cong _ _ m
-    (λ j l. product-ext residues j _ _
-    (λ i k. ap (λ (t : List ℕ). getD t i 0) e ∙ getD-tabulate (λ i. residues .inv (suc i)) n i 0 (omega arith)))
-
 inverse-value : (m : ℕ) → m < prime → values .φ (weights.inverseFactorial 𝓕 m) ≡ inverseFactorial m
 inverse-value m h =
     product-hom values m _

@@ -6,7 +6,8 @@ use lib.ListN.{length, getD}
 use Rattle.algebra.proofs.Tables.{getD-tabulate}
 use Rattle.field.specs.Residues.{prime}
 use Rattle.field.proofs.Below.{product-below}
-use Rattle.snip.specs.Factorials.{inverseFactorial, Tables}
+use Rattle.quotients.specs.Factorials.{inverseFactorial}
+use Rattle.snip.specs.Factorials.{Tables}
 
 module _ (r : ℕ) (fs : List ℕ) where
   pub factorial-at : {n : ℕ} → Tables r n fs → (i : ℕ) → i < length fs → getD fs i 0 ≡ inverseFactorial i

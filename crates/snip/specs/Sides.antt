@@ -7,7 +7,7 @@ use lib.ListN.{length}
 use Rattle.algebra.specs.Interpolation.{ascending, descending, sign}
 use Rattle.algebra.specs.Lists.{tabulate}
 use Rattle.field.specs.Residues.{prime, residues}
-use Rattle.snip.specs.Factorials.{inverseFactorial}
+use Rattle.quotients.specs.Factorials.{inverseFactorial}
 
 -- r (r - 1) .. (r - (j - 1)) over j!
 abbrev pub belowSide : ℕ → ℕ → ℕ

@@ -2,27 +2,16 @@
 // columns of a sheet, and the numbers of the two rounds. Elements are u32 below the prime. No step depends on the value
 // of an element.
 ghost use mathlib.Core.Path.{_≡_};
-ghost use Prim.Native.Nat.{suc, _+_, _-_, _<_, _≤_};
+ghost use Prim.Native.Nat.{_-_, _<_, _≤_};
 ghost use lib.ListN.{length, getD};
 ghost use Rattle.algebra.specs.Lists.{tabulate};
 ghost use Rattle.algebra.specs.Ops.{minus};
 ghost use Rattle.algebra.specs.Interpolation.{basis};
 ghost use Rattle.field.specs.Residues.{prime, residues, Elements};
 ghost use Rattle.rules.specs.Judging.{firstOnly, sigmaFrom};
-ghost use Rattle.snip.specs.Factorials.{inverseFactorial};
 ghost use Rattle.snip.specs.Sides.{belowSide, aboveSide, Inverses};
 
 pub mod judging;
-
-// inverses[i] = 1 / (i + 1), and out[j] = 1 / j!
-pub fn fill_inverse_factorials(inverses: &mut [u32], out: &mut [u32])
-    requires { ⌜ (length (now inverses) < prime) × (length (now out) ≤ length (now inverses) + 1) ⌝ }
-    ensures { λ _. ⌜ (now (inverses .exit) ≡ tabulate (λ i. residues .inv (suc i)) (length (now (inverses .entry))))
-        × (now (out .exit) ≡ tabulate inverseFactorial (length (now (out .entry)))) ⌝ }
-{
-    field::inverses(inverses);
-    field::running_products(inverses, out);
-}
 
 // acc times x - y over a number, where v is the inverse of that number. Only the last product waits for acc.
 fn step(acc: u32, x: u32, y: u32, v: u32) -> u32

@@ -1,22 +1,17 @@
--- `proof::fill_tables` meets its contract: from one table of inverses. Assumes nothing.
+-- `proof::fill_tables` meets its contract: the inverses and the inverses of factorials are those of quotients' tables.
+-- Assumes nothing.
 use mathlib.Core.Path.{_≡_, sym, ap, _∙_}
-use Prim.Native.Nat.{ℕ, suc, _+_, _-_, _<_, _≤_}
+use Prim.Native.Nat.{ℕ, suc, _+_, _-_, _≤_}
 use native.Mathlib.Omega.{arith}
 use lib.Dec.{lit<}
 use lib.ListN.{length, length-append}
 use lib.Seq.{length-take-le, take-at}
 use Rattle.algebra.specs.Lists.{tabulate}
-use Rattle.field.specs.Residues.{prime, residues}
-use Rattle.snip.specs.Factorials.{inverseFactorial}
+use Rattle.field.specs.Residues.{residues}
+use Rattle.quotients.specs.Factorials.{inverseFactorial}
 use borrow.Author.Needs.{needs}
 use Rattle.proof.proofs.fill_tables.Statement.{statement}
 use Rattle.proof.proofs.fill_tables.Tie as tie
-
-below : {a b : ℕ} → a ≡ b → b < prime → a < prime
-below e h = omega arith
-
-most : {a b n : ℕ} → a ≡ suc n → b ≡ n + n → a ≤ b + 1
-most e h = omega arith
 
 fewer : {a n : ℕ} → a ≡ n + n → n ≤ a
 fewer e = omega arith
@@ -24,74 +19,65 @@ fewer e = omega arith
 array-borrow-prefix-inverses : tie.Need-array-borrow-prefix-inverses
 array-borrow-prefix-inverses c = search needs
 
-slice-aggregate-fill-inverse-factorials : tie.Need-slice-aggregate-fill-inverse-factorials
-slice-aggregate-fill-inverse-factorials c =
+slice-aggregate-fill-inverses : tie.Need-slice-aggregate-fill-inverses
+slice-aggregate-fill-inverses c =
     let s = c .before .before .before .before in
     let few : length (s .args .back .now) ≤ 512 = omega (arith, s .pre .0, s .pre .2) in
     sym (length-take-le _ _ few)
 
-fill-inverse-factorials-requires : tie.Need-fill-inverse-factorials-requires
-fill-inverse-factorials-requires c κs =
+fill-inverses-requires : tie.Need-fill-inverses-requires
+fill-inverses-requires c κs =
+    let s = c .before .before .before .before in
+    let few : length (s .args .back .now) ≤ 512 = omega (arith, s .pre .0, s .pre .2) in
+    rw (length-take-le _ _ few) few
+
+-- as many inverses are filled as back has places
+many : (c : tie.After-fill-inverses)
+    → length (c .fill-inverses .last .0) ≡ length (c .before .before .before .before .before .args .back .now)
+many c =
     let s = c .before .before .before .before .before in
     let few : length (s .args .back .now) ≤ 512 = omega (arith, s .pre .0, s .pre .2) in
-    let n = length-take-le _ _ few in
-    (below n (omega arith), most (s .pre .1) (n ∙ s .pre .2))
+    c .fill-inverses .kept .0 ∙ length-take-le _ _ few
+
+are : (c : tie.After-fill-inverses)
+    → c .fill-inverses .last .0 ≡ tabulate (λ i. residues .inv (suc i)) (length (c .fill-inverses .last .0))
+are c = c .fill-inverses .ensures ∙ ap (tabulate (λ (i : ℕ). residues .inv (suc i))) (sym (c .fill-inverses .kept .0))
+
+fill-inverse-factorials-requires : tie.Need-fill-inverse-factorials-requires
+fill-inverse-factorials-requires c κs =
+    let s = c .before .before .before .before .before .before .before in
+    omega (arith, s .pre .0, s .pre .1)
 
 array-share-prefix-inverses : tie.Need-array-share-prefix-inverses
 array-share-prefix-inverses c =
-    let s = c .before .before .before .before .before .before .before .before .before in
-    let few : length (s .args .back .now) ≤ 512 = omega (arith, s .pre .0, s .pre .2) in
-    let n = length-take-le _ _ few in
-    let fs = c .before .before .before .fill-inverse-factorials in
-    let l = fs .kept .0 ∙ n in
-    rw (length-append, l) (omega arith)
+    let p = c .before .before .before .before .before in
+    rw (length-append, many p) (omega arith)
 
 slice-aggregate-fill-back : tie.Need-slice-aggregate-fill-back
 slice-aggregate-fill-back c =
-    let s = c .before .before .before .before .before .before .before .before .before .before in
-    let few : length (s .args .back .now) ≤ 512 = omega (arith, s .pre .0, s .pre .2) in
-    let n = length-take-le _ _ few in
-    let fs = c .before .before .before .before .fill-inverse-factorials in
-    let l = fs .kept .0 ∙ n in
-    rw (take-at _ _ _ l) (sym l)
+    let p = c .before .before .before .before .before .before in
+    rw (take-at _ _ _ (many p)) (sym (many p))
 
 fill-back-requires : tie.Need-fill-back-requires
 fill-back-requires c κs =
-    let s = c .before .before .before .before .before .before .before .before .before .before .before in
-    let few : length (s .args .back .now) ≤ 512 = omega (arith, s .pre .0, s .pre .2) in
-    let n = length-take-le _ _ few in
-    let fs = c .before .before .before .before .before .fill-inverse-factorials in
-    let l = fs .kept .0 ∙ n in
-    rw (take-at _ _ _ l) (l, fs .ensures .0 ∙ ap (tabulate (λ (i : ℕ). residues .inv (suc i))) n)
+    let p = c .before .before .before .before .before .before .before in
+    rw (take-at _ _ _ (many p)) (many p, are p ∙ ap (tabulate (λ (i : ℕ). residues .inv (suc i))) (many p))
 
 array-share-prefix-inverses-2 : tie.Need-array-share-prefix-inverses-2
 array-share-prefix-inverses-2 c =
-    let s = c .before .before .before .before .before .before .before .before .before .before .before .before .before .before in
-    let few : length (s .args .back .now) ≤ 512 = omega (arith, s .pre .0, s .pre .2) in
-    let n = length-take-le _ _ few in
-    let fs = c .before .before .before .before .before .before .before .before .fill-inverse-factorials in
-    let l = fs .kept .0 ∙ n in
-    rw (length-append, l) (omega arith)
+    let p = c .before .before .before .before .before .before .before .before .before .before in
+    rw (length-append, many p) (omega arith)
 
 slice-aggregate-fill-falls : tie.Need-slice-aggregate-fill-falls
 slice-aggregate-fill-falls c =
-    let s = c .before .before .before .before .before .before .before .before .before .before .before .before .before .before .before in
-    let few : length (s .args .back .now) ≤ 512 = omega (arith, s .pre .0, s .pre .2) in
-    let n = length-take-le _ _ few in
-    let fs = c .before .before .before .before .before .before .before .before .before .fill-inverse-factorials in
-    let l = fs .kept .0 ∙ n in
-    rw (take-at _ _ _ l) (sym l)
+    let p = c .before .before .before .before .before .before .before .before .before .before .before in
+    rw (take-at _ _ _ (many p)) (sym (many p))
 
 fill-falls-requires : tie.Need-fill-falls-requires
 fill-falls-requires c κs =
-    let p = c .before .before .before .before .before .before .before .before .before .before in
-    let fs = p .fill-inverse-factorials in
-    let s = p .before .before .before .before .before .before in
-    let few : length (s .args .back .now) ≤ 512 = omega (arith, s .pre .0, s .pre .2) in
-    let n = length-take-le _ _ few in
-    let l = fs .kept .0 ∙ n in
-    rw (take-at _ _ _ l)
-    (s .pre .0, fewer (l ∙ s .pre .2), fs .ensures .0 ∙ ap (tabulate (λ (i : ℕ). residues .inv (suc i))) (sym (fs .kept .0)))
+    let p = c .before .before .before .before .before .before .before .before .before .before .before .before in
+    let s = p .before .before .before .before .before in
+    rw (take-at _ _ _ (many p)) (s .pre .0, fewer (many p ∙ s .pre .2), are p)
 
 same-length : tie.Need-same-length
 same-length c = search needs
@@ -104,14 +90,14 @@ same-length-3 c = search needs
 
 returns : tie.Need-returns
 returns c =
-    let p = c .before .before .before .before .before .before .before .before .before .before .before .before .before in
-    let fs = p .fill-inverse-factorials in
-    let s = p .before .before .before .before .before .before in (
+    let q = c .before .before .before .before .before .before .before .before .before .before .before .before in
+    let fs = q .fill-inverse-factorials in
+    let s = q .before .before .before .before .before .before .before .before in (
       record {
         element = lit< tt;
-        enough = omega (arith, fs .kept .1 .0, s .pre .1);
-        few = omega (arith, fs .kept .1 .0, s .pre .1, s .pre .0);
-        are = fs .ensures .1 ∙ ap (tabulate inverseFactorial) (sym (fs .kept .1 .0));
+        enough = omega (arith, fs .kept .0, s .pre .1);
+        few = omega (arith, fs .kept .0, s .pre .1, s .pre .0);
+        are = fs .ensures ∙ ap (tabulate inverseFactorial) (sym (fs .kept .0));
       },
       record {
         few = s .pre .0;
@@ -127,7 +113,8 @@ fill-tables-spec =
     tie.close
     (tie.spec
     array-borrow-prefix-inverses
-    slice-aggregate-fill-inverse-factorials
+    slice-aggregate-fill-inverses
+    fill-inverses-requires
     fill-inverse-factorials-requires
     array-share-prefix-inverses
     slice-aggregate-fill-back

@@ -11,6 +11,7 @@ pub mod Polynomial
 pub mod Roots
 pub mod Interpolation
 pub mod Weights
+pub mod Shifts
 pub mod Count
 pub mod Pairs
 pub mod Homs

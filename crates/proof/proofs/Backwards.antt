@@ -2,7 +2,7 @@
 -- Assumes nothing.
 use mathlib.Core.Path.{_≡_, ap, _∙_}
 use mathlib.Core.List.{List}
-use Prim.Native.Nat.{ℕ, suc, _+_, _-_, _<_}
+use Prim.Native.Nat.{ℕ, suc, _+_, _-_, _<_, _≤_}
 use native.Mathlib.Omega.{arith}
 use lib.ListN.{length, take, drop}
 use lib.Seq.{getD-take, getD-drop}
@@ -40,6 +40,18 @@ module _ {n : ℕ} {falls back : List ℕ} (r : Ready n falls back) where
 
   pub fall-low : (i : ℕ) → i < n → members falls i < prime
   fall-low i h = rw (fall-at i h) (product-below (suc n) _)
+
+  -- the inverse of a number from 1 to 2n
+  pub inverse-at : (j : ℕ) → 0 < j → j ≤ n + n → members back (length back - j) ≡ residues .inv j
+  inverse-at j h k =
+      let b : length back - j < n + n = omega (arith, back-long) in
+      let t : n + n - (length back - j) ≡ j = omega (arith, back-long) in
+      ap (λ (l : List ℕ). members l (length back - j)) (r .back-are)
+      ∙ getD-tabulate (λ i. residues .inv (n + n - i)) (n + n) (length back - j) 0 b
+      ∙ ap (residues .inv) t
+
+  pub inverse-at-low : (j : ℕ) → 0 < j → j ≤ n + n → members back (length back - j) < prime
+  inverse-at-low j h k = rw (inverse-at j h k) (inverse-below j)
 
   -- the stretch of the inverses of t - j, j = 0, .., n, for t = n + 1 + i
   stretch-at : (i j : ℕ) → i < n → j < suc n

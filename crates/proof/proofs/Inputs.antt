@@ -1,11 +1,10 @@
--- The inputs of the multiplications of a list as the values of f and g: they are elements, and the walk over the columns
--- is the run of the circuit, in which the constant p - 1 is itself. Assumes nothing.
+-- The inputs of the multiplications of a list as the values of f and g: the walk over the columns is the run of the
+-- circuit, in which the constant p - 1 is itself, and the right inputs are the left ones plus that. Assumes nothing.
 use mathlib.Core.Path.{_≡_, refl, sym, ap, ap₂, _∙_}
 use mathlib.Core.List.{List, [], _∷_}
-use Prim.Native.Nat.{ℕ, zero, suc, _+_, _-_, _<_}
-use native.Mathlib.Nat.{mod-lt}
-use lib.Dec.{lit<}
+use Prim.Native.Nat.{ℕ, zero, suc, _+_, _-_, _<_, _≤_}
 use Rattle.algebra.specs.Lists.{all[], all∷, tabulate}
+use Rattle.algebra.specs.Ops.{minus}
 use Rattle.algebra.specs.Interpolation.{interpolate}
 use Rattle.algebra.proofs.Members.{all-append}
 use Rattle.algebra.proofs.Tables.{tabulate-cong}
@@ -15,13 +14,15 @@ use Rattle.rules.specs.Settings.{document01}
 use Rattle.rules.specs.Columns.{Column, entriesOf}
 use Rattle.rules.specs.Circuit.{gatesOf, gatesIn}
 use Rattle.rules.specs.Run.{onList}
-use Rattle.rules.specs.Walk.{lessOne, columnLefts, columnRights, walkLefts, walkRights}
+use Rattle.rules.specs.Walk.{columnLefts, walkLefts, walkRights}
 use Rattle.rules.specs.Judging.{through}
 use Rattle.rules.specs.Making.{fOf, gOf}
 use Rattle.rules.proofs.Walk.{walk-is-run}
 use Rattle.walk.specs.Walks.{plain, members}
 use Rattle.walk.proofs.Meanings.{list-lefts, list-rights}
-use Rattle.proof.specs.Curves.{valueAt}
+use Rattle.walk.proofs.Shifted.{right-shifted}
+use Rattle.proof.specs.Curves.{valueAt, shiftAt}
+use Rattle.proof.proofs.Shifts.{value-shifted}
 
 through-at : (z : ℕ) (ls : List ℕ) (j : ℕ) → members (z ∷ ls) j ≡ through residues z ls j
 unfolding through
@@ -42,17 +43,8 @@ module _ (xs : List ℕ) where
   lefts-from h (c ∷ cs) e =
       all-append (tabulate-below _ (gatesOf c) (λ i. member-below xs _ h)) (lefts-from h cs (e + entriesOf c))
 
-  rights-from : (m : ℕ) (cs : List Column) (e : ℕ) → Elements (walkRights document01 (plain m (members xs)) e cs)
-  unfolding walkRights columnRights lessOne
-  rights-from m [] e = all[]
-  rights-from m (c ∷ cs) e =
-      all-append (tabulate-below _ (gatesOf c) (λ i. mod-lt _ (lit< tt))) (rights-from m cs (e + entriesOf c))
-
   pub f-elements : (cs : List Column) {u : ℕ} → u < prime → Elements xs → Elements (u ∷ lefts cs)
   f-elements cs h k = all∷ h (lefts-from k cs 0)
-
-  pub g-elements : (cs : List Column) {v : ℕ} → v < prime → Elements (v ∷ rights cs)
-  g-elements cs h = all∷ h (rights-from (prime - 1) cs 0)
 
   -- ---- the values of f and g
   module _ (cs : List Column) where
@@ -72,20 +64,33 @@ module _ (xs : List ℕ) where
         ∙ ap (λ (l : List ℕ). interpolate residues (gatesIn cs) (through residues v l) (residues .ι j))
         (sym (walk-is-run document01 (onList residues (members xs)) cs .rights-are ∙ list-rights (members xs) cs))
 
-    -- their products, at n = M: fs and gs are what stands in the buffers ft and gt
-    pub h-from : {out fs gs ft gt : List ℕ} {n m : ℕ} (u v : ℕ)
-        → out ≡ tabulate (λ j. residues ._⊗_ (valueAt n ft j) (valueAt n gt j)) m → n ≡ gatesIn cs → m ≡ suc (n + n)
-        → ft ≡ fs → fs ≡ u ∷ lefts cs → gt ≡ gs → gs ≡ v ∷ rights cs
+    -- f(j) g(j) by f(j) and g(j) - f(j), at M = gatesIn cs
+    product-is : (u v j : ℕ) → gatesIn cs ≤ 256 → u < prime → v < prime → Elements xs
+        → residues ._⊗_ (valueAt (gatesIn cs) (u ∷ lefts cs) j)
+        (residues ._⊕_ (valueAt (gatesIn cs) (u ∷ lefts cs) j) (shiftAt (gatesIn cs) (minus residues v u) j))
+        ≡ residues ._⊗_ (fOf residues document01 cs (members xs) u (residues .ι j))
+        (gOf residues document01 cs (members xs) v (residues .ι j))
+    product-is u v j few hu hv h =
+        ap₂ (residues ._⊗_) (f-value u j)
+        (sym
+        (value-shifted (gatesIn cs) u v (lefts cs) (rights cs) few (f-elements cs hu h) hv
+        (λ i l. right-shifted (prime - 1) (members xs) cs 0 i l) j)
+        ∙ g-value v j)
+
+    -- their products, at n = M: fs are what stands in the buffer ft
+    pub h-from : {out fs ft : List ℕ} {n m d : ℕ} (u v : ℕ) → gatesIn cs ≤ 256 → u < prime → v < prime → Elements xs
+        → out ≡ tabulate (λ j. residues ._⊗_ (valueAt n ft j) (residues ._⊕_ (valueAt n ft j) (shiftAt n d j))) m
+        → n ≡ gatesIn cs → m ≡ suc (n + n) → ft ≡ fs → fs ≡ u ∷ lefts cs → d ≡ minus residues v u
         → out
         ≡ tabulate
         (λ j. residues ._⊗_ (fOf residues document01 cs (members xs) u (residues .ι j))
         (gOf residues document01 cs (members xs) v (residues .ι j)))
         (suc (gatesIn cs + gatesIn cs))
-    h-from {out} {fs} {gs} {ft} {gt} {n} {m} u v e q r pf ef pg eg =
+    h-from {out} {fs} {ft} {n} {m} {d} u v few hu hv h e q r pf ef ed =
+        let at : ℕ → List ℕ → ℕ → ℕ → ℕ = λ n l d j.
+        residues ._⊗_ (valueAt n l j) (residues ._⊕_ (valueAt n l j) (shiftAt n d j)) in
         e
-        ∙ ap (tabulate (λ j. residues ._⊗_ (valueAt n ft j) (valueAt n gt j))) r
-        ∙ ap (λ k. tabulate (λ j. residues ._⊗_ (valueAt k ft j) (valueAt k gt j)) (suc (k + k))) q
-        ∙ tabulate-cong _ _ (suc (gatesIn cs + gatesIn cs))
-        (λ j l. ap₂ (residues ._⊗_)
-        (ap (λ (l : List ℕ). valueAt (gatesIn cs) l j) (pf ∙ ef) ∙ f-value u j)
-        (ap (λ (l : List ℕ). valueAt (gatesIn cs) l j) (pg ∙ eg) ∙ g-value v j))
+        ∙ ap (tabulate (at n ft d)) r
+        ∙ ap (λ k. tabulate (at k ft d) (suc (k + k))) q
+        ∙ ap₂ (λ l d. tabulate (at (gatesIn cs) l d) (suc (gatesIn cs + gatesIn cs))) (pf ∙ ef) ed
+        ∙ tabulate-cong _ _ (suc (gatesIn cs + gatesIn cs)) (λ j l. product-is u v j few hu hv h)

@@ -4,5 +4,6 @@ pub mod Signs
 pub mod Backwards
 pub mod Falls
 pub mod CurveValues
+pub mod Shifts
 pub mod Inputs
 pub mod HRoom

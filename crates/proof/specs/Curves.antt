@@ -5,10 +5,11 @@ use mathlib.Core.Path.{_≡_}
 use mathlib.Core.List.{List}
 use Prim.Native.Nat.{ℕ, suc, _+_, _-_, _≤_}
 use lib.ListN.{length}
+use Rattle.algebra.specs.Ops.{minus}
 use Rattle.algebra.specs.Lists.{tabulate}
 use Rattle.algebra.specs.Sums.{inner}
-use Rattle.algebra.specs.Interpolation.{ascending, weight, interpolate}
-use Rattle.field.specs.Residues.{residues, Elements}
+use Rattle.algebra.specs.Interpolation.{ascending, weight, basis, interpolate}
+use Rattle.field.specs.Residues.{prime, residues, Elements}
 use Rattle.walk.specs.Walks.{members}
 
 -- the product of t - k over the points k = 0, .., n, at t = n + 1 + i
@@ -27,6 +28,15 @@ beyondAt n scaled i =
 -- the value at the number j
 abbrev pub valueAt : ℕ → List ℕ → ℕ → ℕ
 valueAt n ys j = interpolate residues n (members ys) (residues .ι j)
+
+-- the polynomial that is d at 0 and the prime less 1 at 1, .., n: its value at the number j
+abbrev pub shiftAt : ℕ → ℕ → ℕ → ℕ
+shiftAt n d j =
+    residues ._⊕_ (prime - 1) (residues ._⊗_ (minus residues d (prime - 1)) (basis residues n 0 (residues .ι j)))
+
+-- what it exceeds the prime less 1 by at 0, with the weight of that point as a factor
+abbrev pub scaledShift : ℕ → ℕ → ℕ
+scaledShift n d = residues ._⊗_ (minus residues d (prime - 1)) (weight residues n 0)
 
 -- the products at n + 1, .., 2n, and the inverses of 2n, .., 1
 pub record Ready (n : ℕ) (falls back : List ℕ) : Type 0 where

@@ -1,6 +1,7 @@
-// The values of h = f g at 0, 1, .., 2M, which a client adds to the entries of a return. f and g are given by their values
-// at 0, .., M; beyond M a value is an inner product with inverses, times a product of differences. Elements are u32 below
-// the prime. No step depends on the value of an element.
+// The values of h = f g at 0, 1, .., 2M, which a client adds to the entries of a return. f is given by its values at
+// 0, .., M; beyond M a value is an inner product with inverses, times a product of differences. g - f is P - 1 at each of
+// 1, .., M, so that g needs no inner product of its own. Elements are u32 below the prime. No step depends on the value of
+// an element.
 ghost use mathlib.Core.Path.{_≡_};
 ghost use mathlib.Core.List.{_∷_};
 ghost use Prim.Native.Nat.{suc, _+_, _-_, _<_, _≤_};
@@ -11,11 +12,11 @@ ghost use Rattle.field.specs.Residues.{prime, residues, Elements};
 ghost use Rattle.rules.specs.Settings.{document01};
 ghost use Rattle.rules.specs.Columns.{columnsOf};
 ghost use Rattle.rules.specs.Circuit.{gatesIn};
-ghost use Rattle.rules.specs.Walk.{walkLefts, walkRights};
+ghost use Rattle.rules.specs.Walk.{walkLefts};
 ghost use Rattle.rules.specs.Making.{fOf, gOf};
 ghost use Rattle.walk.specs.Walks.{plain, members, Entries};
 ghost use Rattle.snip.specs.Factorials.{Tables};
-ghost use Rattle.proof.specs.Curves.{scaledAt, fallAt, beyondAt, valueAt, Ready, Curve};
+ghost use Rattle.proof.specs.Curves.{scaledAt, fallAt, beyondAt, valueAt, scaledShift, shiftAt, Ready, Curve};
 
 // (- 1) to the power k
 fn sign(k: usize) -> u32
@@ -130,6 +131,31 @@ fn value(y: &[u32], scaled: &[u32], falls: &[u32], back: &[u32], j: usize) -> u3
     }
 }
 
+// d less the constant P - 1, times the weight of the point 0 among 0, .., n.
+fn scaled_shift(factorials: &[u32], n: usize, d: u32) -> u32
+    requires { ⌜ Tables 0 (suc n) (now factorials) × (d < prime) ⌝ }
+    ensures { λ r. ⌜ r ≡ scaledShift n d ⌝ }
+{
+    field::mul(field::sub(d, field::P - 1), weight(factorials, n, 0))
+}
+
+// The value at j, up to 2n, of the polynomial that is d at 0 and P - 1 at 1, .., n, where n is the length of falls: beyond n
+// it is P - 1 plus k times the product of j - i over the points i = 1, .., n.
+fn shift(d: u32, k: u32, falls: &[u32], back: &[u32], j: usize) -> u32
+    requires { ⌜ (d < prime) × (k ≡ scaledShift (length (now falls)) d) × Ready (length (now falls)) (now falls) (now back)
+        × (j < suc (length (now falls) + length (now falls))) ⌝ }
+    ensures { λ r. ⌜ r ≡ shiftAt (length (now (falls .entry))) d j ⌝ }
+{
+    if j == 0 {
+        d
+    } else if j <= falls.len() {
+        field::P - 1
+    } else {
+        let others = field::mul(falls[j - falls.len() - 1], back[back.len() - j]);
+        field::mul_add(k, others, field::P - 1)
+    }
+}
+
 // The values of f at 0, .., M: u, then the left inputs.
 fn fill_f(sheet: &[u8], x: &[u32], u: u32, out: &mut [u32])
     requires { ⌜ Entries (now sheet) (now x) × (length (now out) ≡ suc (gatesIn (columnsOf (now sheet)))) ⌝ }
@@ -140,35 +166,28 @@ fn fill_f(sheet: &[u8], x: &[u32], u: u32, out: &mut [u32])
     walk::fill_lefts(sheet, x, &mut out[1..]);
 }
 
-// The values of g at 0, .., M: v, then the right inputs.
-fn fill_g(sheet: &[u8], x: &[u32], v: u32, out: &mut [u32])
-    requires { ⌜ Entries (now sheet) (now x) × (length (now out) ≡ suc (gatesIn (columnsOf (now sheet)))) ⌝ }
-    ensures { λ _. ⌜ now (out .exit)
-        ≡ v ∷ walkRights document01 (plain (prime - 1) (members (now (x .entry)))) 0 (columnsOf (now (sheet .entry))) ⌝ }
-{
-    out[0] = v;
-    walk::fill_rights(sheet, x, field::P - 1, &mut out[1..]);
-}
-
-// out[j] = f(j) g(j); fs and gs are the values with their weights as factors.
+// out[j] = f(j) g(j), where g - f is d at 0 and P - 1 at the other points; fs are the values of f with their weights as
+// factors, and k is what `scaled_shift` gives.
 fn fill_products(
     f: &[u32],
     fs: &[u32],
-    g: &[u32],
-    gs: &[u32],
+    d: u32,
+    k: u32,
     falls: &[u32],
     back: &[u32],
     out: &mut [u32],
 )
-    requires { ⌜ Curve (length (now falls)) (now f) (now fs) × Curve (length (now falls)) (now g) (now gs) ⌝ }
+    requires { ⌜ Curve (length (now falls)) (now f) (now fs) × (d < prime) × (k ≡ scaledShift (length (now falls)) d) ⌝ }
     requires { ⌜ Ready (length (now falls)) (now falls) (now back)
         × (length (now out) ≤ suc (length (now falls) + length (now falls))) ⌝ }
     ensures { λ _. ⌜ now (out .exit) ≡ tabulate (λ j. residues ._⊗_ (valueAt (length (now (falls .entry))) (now (f .entry)) j)
-        (valueAt (length (now (falls .entry))) (now (g .entry)) j)) (length (now (out .entry))) ⌝ }
+        (residues ._⊕_ (valueAt (length (now (falls .entry))) (now (f .entry)) j) (shiftAt (length (now (falls .entry))) d j)))
+        (length (now (out .entry))) ⌝ }
 {
     let mut j = 0;
     while j < out.len() {
-        out[j] = field::mul(value(f, fs, falls, back, j), value(g, gs, falls, back, j));
+        let y = value(f, fs, falls, back, j);
+        out[j] = field::mul(y, field::add(y, shift(d, k, falls, back, j)));
         j += 1;
     }
 }
@@ -183,18 +202,6 @@ fn curve_f(sheet: &[u8], x: &[u32], u: u32, factorials: &[u32], f: &mut [u32], f
 {
     fill_f(sheet, x, u, f);
     scale(f, factorials, fs);
-}
-
-// g by its values, and these with their weights as factors.
-fn curve_g(sheet: &[u8], x: &[u32], v: u32, factorials: &[u32], g: &mut [u32], gs: &mut [u32])
-    requires { ⌜ Entries (now sheet) (now x) × (v < prime) × (length (now g) ≡ suc (gatesIn (columnsOf (now sheet)))) ⌝ }
-    requires { ⌜ Tables 0 (length (now g)) (now factorials) × (length (now gs) ≡ length (now g)) ⌝ }
-    ensures { λ _. ⌜ (now (g .exit)
-        ≡ v ∷ walkRights document01 (plain (prime - 1) (members (now (x .entry)))) 0 (columnsOf (now (sheet .entry))))
-        × Curve (gatesIn (columnsOf (now (sheet .entry)))) (now (g .exit)) (now (gs .exit)) ⌝ }
-{
-    fill_g(sheet, x, v, g);
-    scale(g, factorials, gs);
 }
 
 // The same as `fill_h`, with the tables lent.
@@ -218,12 +225,11 @@ fn fill_with(
 {
     let mut f = [0u32; 257];
     let mut fs = [0u32; 257];
-    let mut g = [0u32; 257];
-    let mut gs = [0u32; 257];
     let n = falls.len() + 1;
     curve_f(sheet, x, u, factorials, &mut f[..n], &mut fs[..n]);
-    curve_g(sheet, x, v, factorials, &mut g[..n], &mut gs[..n]);
-    fill_products(&f[..n], &fs[..n], &g[..n], &gs[..n], falls, back, out);
+    let d = field::sub(v, u);
+    let k = scaled_shift(factorials, falls.len(), d);
+    fill_products(&f[..n], &fs[..n], d, k, falls, back, out);
 }
 
 // h(0), .., h(2M) for the entries x, with f(0) = u and g(0) = v; out has 2M + 1 places.

@@ -1,8 +1,10 @@
--- `proof::fill_with` meets its contract: f and g by their values, then the products. Assumes nothing.
+-- `proof::fill_with` meets its contract: f by its values, g by its difference from f, then the products. Assumes nothing.
 use mathlib.Core.Path.{_≡_, sym, _∙_, subst}
 use Prim.Native.Nat.{ℕ, suc, _+_, _≤_}
+use native.Mathlib.Nat.{mod-lt}
 use native.Mathlib.Numerals.{add-one}
 use native.Mathlib.Omega.{arith}
+use lib.Dec.{lit<}
 use lib.ListN.{length, length-append}
 use lib.Seq.{length-take-le, take-at}
 use Rattle.rules.specs.Columns.{columnsOf}
@@ -47,39 +49,17 @@ curve-f-requires c κs =
       (subst (λ (k : ℕ). Tables 0 k (s .args .factorials .now)) (sym (n ∙ add-one _)) (s .pre .1 .0), n ∙ sym n),
     )
 
-array-borrow-prefix-g : tie.Need-array-borrow-prefix-g
-array-borrow-prefix-g c = search needs
+sub-requires : tie.Need-sub-requires
+sub-requires c κs = search needs
 
-slice-aggregate-curve-g : tie.Need-slice-aggregate-curve-g
-slice-aggregate-curve-g c =
+scaled-shift-requires : tie.Need-scaled-shift-requires
+scaled-shift-requires c κs =
     let s = c .before .before .before .before .before .before .before .before .before .before .before .before in
-    let few : length (s .args .falls .now) + 1 ≤ 257 = omega (arith, s .pre .1 .1 .few) in
-    let n = length-take-le _ _ few in
-    sym n
-
-array-borrow-prefix-gs : tie.Need-array-borrow-prefix-gs
-array-borrow-prefix-gs c = search needs
-
-slice-aggregate-curve-g-2 : tie.Need-slice-aggregate-curve-g-2
-slice-aggregate-curve-g-2 c =
-    let s = c .before .before .before .before .before .before .before .before .before .before .before .before .before in
-    let few : length (s .args .falls .now) + 1 ≤ 257 = omega (arith, s .pre .1 .1 .few) in
-    let n = length-take-le _ _ few in
-    sym n
-
-curve-g-requires : tie.Need-curve-g-requires
-curve-g-requires c κs =
-    let s = c .before .before .before .before .before .before .before .before .before .before .before .before .before in
-    let few : length (s .args .falls .now) + 1 ≤ 257 = omega (arith, s .pre .1 .1 .few) in
-    let one : length (s .args .falls .now) + 1 ≡ suc (gatesIn (columnsOf (s .args .sheet .now))) = omega (arith, s .pre .0 .3) in
-    let n = length-take-le _ _ few in (
-      (s .pre .0 .0, s .pre .0 .2, n ∙ one),
-      (subst (λ (k : ℕ). Tables 0 k (s .args .factorials .now)) (sym (n ∙ add-one _)) (s .pre .1 .0), n ∙ sym n),
-    )
+    (s .pre .1 .0, rw (c .sub .ensures) (mod-lt _ (lit< tt)))
 
 array-share-prefix-f : tie.Need-array-share-prefix-f
 array-share-prefix-f c =
-    let p = c .before .before .before .before .before .before .before in
+    let p = c .before .before .before .before in
     let f = p .curve-f in
     let s = p .before .before .before .before .before .before .before .before .before in
     let few : length (s .args .falls .now) + 1 ≤ 257 = omega (arith, s .pre .1 .1 .few) in
@@ -88,7 +68,7 @@ array-share-prefix-f c =
 
 slice-aggregate-fill-products : tie.Need-slice-aggregate-fill-products
 slice-aggregate-fill-products c =
-    let p = c .before .before .before .before .before .before .before .before in
+    let p = c .before .before .before .before .before in
     let f = p .curve-f in
     let s = p .before .before .before .before .before .before .before .before .before in
     let few : length (s .args .falls .now) + 1 ≤ 257 = omega (arith, s .pre .1 .1 .few) in
@@ -98,7 +78,7 @@ slice-aggregate-fill-products c =
 
 array-share-prefix-fs : tie.Need-array-share-prefix-fs
 array-share-prefix-fs c =
-    let p = c .before .before .before .before .before .before .before .before in
+    let p = c .before .before .before .before .before in
     let f = p .curve-f in
     let s = p .before .before .before .before .before .before .before .before .before in
     let few : length (s .args .falls .now) + 1 ≤ 257 = omega (arith, s .pre .1 .1 .few) in
@@ -107,7 +87,7 @@ array-share-prefix-fs c =
 
 slice-aggregate-fill-products-2 : tie.Need-slice-aggregate-fill-products-2
 slice-aggregate-fill-products-2 c =
-    let p = c .before .before .before .before .before .before .before .before .before in
+    let p = c .before .before .before .before .before .before in
     let f = p .curve-f in
     let s = p .before .before .before .before .before .before .before .before .before in
     let few : length (s .args .falls .now) + 1 ≤ 257 = omega (arith, s .pre .1 .1 .few) in
@@ -115,62 +95,21 @@ slice-aggregate-fill-products-2 c =
     let l = f .kept .1 .1 .1 .1 .1 .0 ∙ n in
     rw (take-at _ _ _ l) (sym l)
 
-array-share-prefix-g : tie.Need-array-share-prefix-g
-array-share-prefix-g c =
-    let p = c .before .before .before .before in
-    let g = p .curve-g in
-    let s = p .before .before .before .before .before .before .before .before .before .before .before .before .before .before in
-    let few : length (s .args .falls .now) + 1 ≤ 257 = omega (arith, s .pre .1 .1 .few) in
-    let n = length-take-le _ _ few in
-    rw (length-append, g .kept .1 .1 .1 .1 .0 ∙ n) (omega arith)
-
-slice-aggregate-fill-products-3 : tie.Need-slice-aggregate-fill-products-3
-slice-aggregate-fill-products-3 c =
-    let p = c .before .before .before .before .before in
-    let g = p .curve-g in
-    let s = p .before .before .before .before .before .before .before .before .before .before .before .before .before .before in
-    let few : length (s .args .falls .now) + 1 ≤ 257 = omega (arith, s .pre .1 .1 .few) in
-    let n = length-take-le _ _ few in
-    let l = g .kept .1 .1 .1 .1 .0 ∙ n in
-    rw (take-at _ _ _ l) (sym l)
-
-array-share-prefix-gs : tie.Need-array-share-prefix-gs
-array-share-prefix-gs c =
-    let p = c .before .before .before .before .before in
-    let g = p .curve-g in
-    let s = p .before .before .before .before .before .before .before .before .before .before .before .before .before .before in
-    let few : length (s .args .falls .now) + 1 ≤ 257 = omega (arith, s .pre .1 .1 .few) in
-    let n = length-take-le _ _ few in
-    rw (length-append, g .kept .1 .1 .1 .1 .1 .0 ∙ n) (omega arith)
-
-slice-aggregate-fill-products-4 : tie.Need-slice-aggregate-fill-products-4
-slice-aggregate-fill-products-4 c =
-    let p = c .before .before .before .before .before .before in
-    let g = p .curve-g in
-    let s = p .before .before .before .before .before .before .before .before .before .before .before .before .before .before in
-    let few : length (s .args .falls .now) + 1 ≤ 257 = omega (arith, s .pre .1 .1 .few) in
-    let n = length-take-le _ _ few in
-    let l = g .kept .1 .1 .1 .1 .1 .0 ∙ n in
-    rw (take-at _ _ _ l) (sym l)
-
 fill-products-requires : tie.Need-fill-products-requires
 fill-products-requires c κs =
     let p = c .before .before .before .before .before .before .before in
-    let g = p .curve-g in
-    let q = p .before .before .before .before .before in
-    let f = q .curve-f in
-    let s = q .before .before .before .before .before .before .before .before .before in
+    let f = p .curve-f in
+    let s = p .before .before .before .before .before .before .before .before .before in
     let few : length (s .args .falls .now) + 1 ≤ 257 = omega (arith, s .pre .1 .1 .few) in
     let n = length-take-le _ _ few in
     rw (
       take-at (f .last .1 .1 .1 .1 .0) _ _ (f .kept .1 .1 .1 .1 .0 ∙ n),
       take-at (f .last .1 .1 .1 .1 .1 .0) _ _ (f .kept .1 .1 .1 .1 .1 .0 ∙ n),
-      take-at (g .last .1 .1 .1 .1 .0) _ _ (g .kept .1 .1 .1 .1 .0 ∙ n),
-      take-at (g .last .1 .1 .1 .1 .1 .0) _ _ (g .kept .1 .1 .1 .1 .1 .0 ∙ n),
     ) (
       (
         subst (λ (k : ℕ). Curve k (f .last .1 .1 .1 .1 .0) (f .last .1 .1 .1 .1 .1 .0)) (sym (s .pre .0 .3)) (f .ensures .1),
-        subst (λ (k : ℕ). Curve k (g .last .1 .1 .1 .1 .0) (g .last .1 .1 .1 .1 .1 .0)) (sym (s .pre .0 .3)) (g .ensures .1),
+        rw (c .before .before .before .before .sub .ensures) (mod-lt _ (lit< tt)),
+        c .before .before .before .scaled-shift .ensures,
       ),
       (s .pre .1 .1, omega (arith, s .pre .1 .2)),
     )
@@ -181,16 +120,16 @@ same-length c = search needs
 returns : tie.Need-returns
 returns c =
     let p = c .before .before .before .before .before .before .before .before .before .before in
-    let g = p .curve-g in
-    let q = p .before .before .before .before .before in
-    let f = q .curve-f in
-    let s = q .before .before .before .before .before .before .before .before .before in
+    let f = p .curve-f in
+    let s = p .before .before .before .before .before .before .before .before .before in
     let few : length (s .args .falls .now) + 1 ≤ 257 = omega (arith, s .pre .1 .1 .few) in
+    let most : gatesIn (columnsOf (s .args .sheet .now)) ≤ 256 = omega (arith, s .pre .1 .1 .few, s .pre .0 .3) in
     let n = length-take-le _ _ few in
     h-from (s .args .x .now) (columnsOf (s .args .sheet .now)) (s .args .u) (s .args .v)
+    most (s .pre .0 .1) (s .pre .0 .2) (s .pre .0 .0 .elements)
     (c .before .before .fill-products .ensures) (s .pre .0 .3) (s .pre .1 .2)
     (take-at (f .last .1 .1 .1 .1 .0) _ _ (f .kept .1 .1 .1 .1 .0 ∙ n)) (f .ensures .0)
-    (take-at (g .last .1 .1 .1 .1 .0) _ _ (g .kept .1 .1 .1 .1 .0 ∙ n)) (g .ensures .0)
+    (c .before .before .before .before .before .before .before .sub .ensures)
 
 pub fill-with-spec : {M : Type 1} → statement M
 fill-with-spec =
@@ -202,19 +141,12 @@ fill-with-spec =
     array-borrow-prefix-fs
     slice-aggregate-curve-f-2
     curve-f-requires
-    array-borrow-prefix-g
-    slice-aggregate-curve-g
-    array-borrow-prefix-gs
-    slice-aggregate-curve-g-2
-    curve-g-requires
+    sub-requires
+    scaled-shift-requires
     array-share-prefix-f
     slice-aggregate-fill-products
     array-share-prefix-fs
     slice-aggregate-fill-products-2
-    array-share-prefix-g
-    slice-aggregate-fill-products-3
-    array-share-prefix-gs
-    slice-aggregate-fill-products-4
     fill-products-requires
     same-length
     returns)

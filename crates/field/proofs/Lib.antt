@@ -3,5 +3,6 @@ pub mod Reduction
 pub mod Below
 pub mod Parts
 pub mod Running
+pub mod Stretches
 pub mod Falling
 pub mod Recurrence

@@ -6,10 +6,11 @@ use Prim.Native.Nat.{ℕ, _+_, _≤_, _<_}
 use native.Mathlib.Numerals.{add-one}
 use native.Mathlib.Omega.{arith}
 use lib.Dec.{lit<}
-use lib.ListN.{length, length-set, set, drop}
+use lib.ListN.{length, length-set, set, take, drop}
+use lib.Seq.{take-at}
 use Rattle.algebra.specs.Sums.{product}
 use Rattle.algebra.specs.Lists.{tabulate}
-use Rattle.algebra.proofs.Tables.{fill-none, fill-next, fill-all}
+use Rattle.algebra.proofs.Tables.{length-tabulate, fill-none, fill-next, fill-all}
 use Rattle.field.specs.Residues.{prime, residues}
 use Rattle.field.proofs.Below.{product-below}
 
@@ -51,6 +52,12 @@ module _ (g : ℕ → ℕ) where
   pub finish : {d l : List ℕ} {acc i : ℕ} → Running d l acc i → length d ≤ i
       → l ≡ tabulate (λ j. product residues j g) (length d)
   finish {d} {l} {acc} {i} v h = fill-all run d l i h (v .within) (v .filled)
+
+  -- where the loop stops before the end of the buffer
+  pub first-filled : {d l : List ℕ} {acc i : ℕ} (n : ℕ) → Running d l acc i → i ≡ n
+      → take n l ≡ tabulate (λ j. product residues j g) n
+  first-filled {d} {l} {acc} {i} n v e =
+      rw (← e) (ap (take i) (v .filled) ∙ take-at (tabulate run i) (drop i d) i (length-tabulate run i))
 
   -- where the last entry is stored after the loop
   pub finish-last : {d l : List ℕ} {acc i : ℕ} → Running d l acc i → length d ≡ i + 1

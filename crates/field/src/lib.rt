@@ -3,7 +3,7 @@
 // an element, and no loop but that of `inverses` divides: / and % by TOP are a shift and a mask.
 ghost use mathlib.Core.Path.{_≡_};
 ghost use Prim.Native.Nat.{suc, _+_, _-_, _*_, _/_, _%_, _<_, _≤_};
-ghost use lib.ListN.{length, getD};
+ghost use lib.ListN.{length, getD, take};
 ghost use Rattle.algebra.specs.Ops.{minus};
 ghost use Rattle.algebra.specs.Sums.{product as Sums·product, inner as Sums·inner, power};
 ghost use Rattle.algebra.specs.Interpolation.{ascending as Interpolation·ascending, descending as Interpolation·descending};
@@ -151,18 +151,53 @@ pub fn running_products(xs: &[u32], out: &mut [u32])
     out[i] = acc;
 }
 
+// The first n powers of s: out[j] = s to the power j, each from the one before.
+fn chain(s: u32, n: usize, out: &mut [u32])
+    requires { ⌜ (s < prime) × (n ≤ length (now out)) ⌝ }
+    ensures { λ _. ⌜ take n (now (out .exit)) ≡ tabulate (power residues s) n ⌝ }
+{
+    let mut acc: u32 = 1;
+    let mut i = 0;
+    while i < n {
+        out[i] = acc;
+        acc = mul(acc, s);
+        i += 1;
+    }
+}
+
+// The first n where the first k are there: each is the one k places before it times s to the power k, so that k turns do
+// not wait for each other.
+fn stretch(s: u32, k: usize, n: usize, out: &mut [u32])
+    requires { ⌜ (s < prime) × (0 < k) × (k ≤ n) × (n ≤ length (now out)) ⌝ }
+    requires { ⌜ take k (now out) ≡ tabulate (power residues s) k ⌝ }
+    ensures { λ _. ⌜ take n (now (out .exit)) ≡ tabulate (power residues s) n ⌝ }
+{
+    let by = mul(out[k - 1], s);
+    let rest = n - k;
+    let mut i = 0;
+    while i < rest {
+        out[k + i] = mul(out[i], by);
+        i += 1;
+    }
+}
+
 // out[j] = s to the power j
 pub fn powers(s: u32, out: &mut [u32])
     requires { ⌜ s < prime ⌝ }
     ensures { λ _. ⌜ now (out .exit) ≡ tabulate (power residues s) (length (now (out .entry))) ⌝ }
 {
-    let mut acc: u32 = 1;
-    let mut i = 0;
-    while i < out.len() {
-        out[i] = acc;
-        acc = mul(acc, s);
-        i += 1;
+    let n = out.len();
+    if n <= 8 {
+        chain(s, n, out);
+        return;
     }
+    chain(s, 8, out);
+    if n <= 32 {
+        stretch(s, 8, n, out);
+        return;
+    }
+    stretch(s, 8, 32, out);
+    stretch(s, 32, n, out);
 }
 
 // out[i] = 1 / (i + 1). From P = (P / a) a + P % a, the inverse of a is that of P % a, which is below a, times - (P / a).

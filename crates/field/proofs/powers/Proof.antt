@@ -1,58 +1,56 @@
--- `field::powers` meets its contract: its loop runs through the products of the rule that is s everywhere. Assumes nothing.
+-- `field::powers` meets its contract: the first powers by the chain, the rest by one stretch or two, each of which starts
+-- from the powers that the call before it left. Assumes nothing.
 use borrow.Author.Needs.{needs}
-use Prim.Native.Nat.{_-_}
 use native.Mathlib.Omega.{arith}
-use lib.ListN.{length}
-use Rattle.field.proofs.Running.{Running, start, turn, finish}
+use Rattle.field.proofs.Stretches.{whole}
 use Rattle.field.proofs.powers.Statement.{statement}
 use Rattle.field.proofs.powers.Tie as tie
 
-abbrev Inv-loop : tie.InvT-loop
-Inv-loop s out₀ acc₀ i₀ out acc i = Running (λ i. s) out₀ out acc i
+chain-requires : tie.Need-chain-requires
+chain-requires c κs = search needs
 
-abbrev μ-loop : tie.MeasureT-loop
-μ-loop s out₀ acc₀ i₀ out acc i = length out₀ - i
+same-length : tie.Need-same-length
+same-length c = search needs
 
-loop-holds : tie.Need-loop-holds Inv-loop μ-loop
-loop-holds c = start _ _
+returns : tie.Need-returns
+returns c = whole _ _ _ (c .before .before .chain .ensures) (omega arith)
 
-mul-out : tie.Need-mul-out Inv-loop μ-loop
-mul-out c = search needs
+chain-requires-2 : tie.Need-chain-requires-2
+chain-requires-2 c κs = search needs
 
-slice-write-out : tie.Need-slice-write-out Inv-loop μ-loop
-slice-write-out c = search needs
+stretch-requires : tie.Need-stretch-requires
+stretch-requires c κs = search needs
 
-mul-requires : tie.Need-mul-requires Inv-loop μ-loop
-mul-requires c κs = search needs
+same-length-2 : tie.Need-same-length-2
+same-length-2 c = search needs
 
-add-i : tie.Need-add-i Inv-loop μ-loop
-add-i c = search needs
+returns-2 : tie.Need-returns-2
+returns-2 c = whole _ _ _ (c .before .before .stretch .ensures) (omega arith)
 
-loop-less : tie.Need-loop-less Inv-loop μ-loop
-loop-less c = search needs
+stretch-requires-2 : tie.Need-stretch-requires-2
+stretch-requires-2 c κs = search needs
 
-loop-again : tie.Need-loop-again Inv-loop μ-loop
-loop-again c =
-    let l = c .before .before .loop in turn _ (c .mul .result) (l .inv) (omega arith) (c .mul .ensures)
+stretch-requires-3 : tie.Need-stretch-requires-3
+stretch-requires-3 c κs = search needs
 
-same-length : tie.Need-same-length Inv-loop μ-loop
-same-length c = omega arith
+same-length-3 : tie.Need-same-length-3
+same-length-3 c = search needs
 
-returns : tie.Need-returns Inv-loop μ-loop
-returns c = finish _ (c .before .loop .inv) (omega arith)
+returns-3 : tie.Need-returns-3
+returns-3 c = whole _ _ _ (c .before .before .stretch3 .ensures) (omega arith)
 
 pub powers-spec : {M : Type 1} → statement M
 powers-spec =
     tie.close
     (tie.spec
-    Inv-loop
-    μ-loop
-    loop-holds
-    mul-out
-    slice-write-out
-    mul-requires
-    add-i
-    loop-less
-    loop-again
+    chain-requires
     same-length
-    returns)
+    returns
+    chain-requires-2
+    stretch-requires
+    same-length-2
+    returns-2
+    stretch-requires-2
+    stretch-requires-3
+    same-length-3
+    returns-3)

@@ -61,3 +61,8 @@ pub member-below : (s : List ℕ) (i : ℕ) → Elements s → getD s i 0 < prim
 member-below [] i e = lit< tt
 member-below (a ∷ s) zero (all∷ h e) = h
 member-below (a ∷ s) (suc i) (all∷ h e) = member-below s i e
+
+-- a product of two members
+pub product-members : (s t : List ℕ) (i : ℕ) → Elements s → Elements t
+    → getD s i 0 * getD t i 0 ≤ (prime - 1) * (prime - 1)
+product-members s t i e h = product-elements (getD s i 0) (getD t i 0) (member-below s i e) (member-below t i h)

@@ -2,6 +2,7 @@
 pub mod Reduction
 pub mod Below
 pub mod Parts
+pub mod Fours
 pub mod Running
 pub mod Stretches
 pub mod Falling

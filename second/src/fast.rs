@@ -20,7 +20,7 @@ pub use crate::recount::recount;
 pub use crate::table::Stage;
 
 /// The largest interpolation point, 2M for M = 256.
-const LAST_POINT: usize = 512;
+pub(crate) const LAST_POINT: usize = 512;
 
 // The arithmetic works on loose elements: numbers below 2^31 + 2^9, each of which stands
 // for its remainder by p = 2^31 - 1. Strict elements are below p. Both are kept in 64 bits,
@@ -28,35 +28,35 @@ const LAST_POINT: usize = 512;
 
 /// The product as a 64-bit number. The masks change nothing on loose elements; they tell
 /// the compiler that a 32-bit multiplication is enough.
-const fn product(a: u64, b: u64) -> u64 {
+pub(crate) const fn product(a: u64, b: u64) -> u64 {
     const LOW: u64 = 0xFFFF_FFFF;
     (a & LOW) * (b & LOW)
 }
 
 /// Adds the part above 2^31 to the part below: the same modulo p. The result is below 2^34,
 /// so that many can be added before a reduction.
-const fn fold(x: u64) -> u64 {
+pub(crate) const fn fold(x: u64) -> u64 {
     (x & P) + (x >> 31)
 }
 
 /// a × b, loose. The product is below 2^62 + 2^42; folded once it is below 2^32 + 2^12,
 /// folded twice at most p + 2.
-const fn mul(a: u64, b: u64) -> u64 {
+pub(crate) const fn mul(a: u64, b: u64) -> u64 {
     fold(fold(product(a, b)))
 }
 
 /// a × b + c, loose, for the same reason.
-const fn mul_add(a: u64, b: u64, c: u64) -> u64 {
+pub(crate) const fn mul_add(a: u64, b: u64, c: u64) -> u64 {
     fold(fold(product(a, b) + c))
 }
 
 /// The strict element that any number stands for.
-const fn strict(x: u64) -> u64 {
+pub(crate) const fn strict(x: u64) -> u64 {
     x % P
 }
 
 /// The strict element opposite to a loose one.
-const fn negate(x: u64) -> u64 {
+pub(crate) const fn negate(x: u64) -> u64 {
     strict(2 * P - x)
 }
 
@@ -83,15 +83,15 @@ fn dot(a: &[u64], b: &[u64]) -> u64 {
 
 /// 0!, 1!, ... and their inverses, and the inverses of 1, 2, ..., all modulo p. Number 0
 /// of `inverses` is not used.
-struct Tables {
-    factorials: [u64; LAST_POINT + 1],
-    inverse_factorials: [u64; LAST_POINT + 1],
+pub(crate) struct Tables {
+    pub factorials: [u64; LAST_POINT + 1],
+    pub inverse_factorials: [u64; LAST_POINT + 1],
     inverses: [u64; LAST_POINT + 1],
 }
 
-static TABLES: Tables = tables();
+pub(crate) static TABLES: Tables = tables();
 
-const fn tables() -> Tables {
+pub(crate) const fn tables() -> Tables {
     let mut tables = Tables {
         factorials: [1; LAST_POINT + 1],
         inverse_factorials: [1; LAST_POINT + 1],
@@ -426,7 +426,7 @@ impl Plan {
             a,
             b,
             c,
-            tau: strict(powers_sum(&self.tests, s)),
+            tau: strict(powers_sum(&self.tests, s, |wire| wire)),
         }
     }
 
@@ -507,24 +507,41 @@ fn test_wires(
     }
 }
 
-/// The sum of s^k times test wire k, loose. Eight runs of every eighth wire do not wait for
-/// one another.
-fn powers_sum(tests: &[u64], s: u64) -> u64 {
-    const RUNS: usize = 8;
-    let s2 = mul(s, s);
-    let s4 = mul(s2, s2);
-    let s8 = mul(s4, s4);
+/// The sum of s^k times test wire k, loose; `value` tells what stands for a wire. Every 32nd
+/// wire makes a run; the runs do not wait for one another.
+pub(crate) fn powers_sum<T: Copy>(tests: &[T], s: u64, value: impl Fn(T) -> u64) -> u64 {
+    const RUNS: usize = 32;
+    const FEW: usize = 8;
+    if tests.len() <= FEW {
+        let wires = tests.iter().rev();
+        return wires.fold(0, |sum, &wire| mul_add(sum, s, value(wire)));
+    }
+    // s to the powers 1, 2, 4, 8, 16, 32.
+    let mut powers = [s; 6];
+    for i in 1..powers.len() {
+        powers[i] = mul(powers[i - 1], powers[i - 1]);
+    }
+    let [squares @ .., step] = powers;
     let (chunks, rest) = tests.as_chunks::<RUNS>();
     let mut runs = [0; RUNS];
     for (run, &wire) in runs.iter_mut().zip(rest) {
-        *run = wire;
+        *run = value(wire);
     }
     for chunk in chunks.iter().rev() {
         for (run, &wire) in runs.iter_mut().zip(chunk) {
-            *run = mul_add(*run, s8, wire);
+            *run = mul_add(*run, step, value(wire));
         }
     }
-    runs.iter().rev().fold(0, |sum, &run| mul_add(sum, s, run))
+    // The upper half of the runs meets the lower one, until one is left.
+    let mut half = RUNS;
+    for power in squares.into_iter().rev() {
+        half /= 2;
+        let (lower, upper) = runs.split_at_mut(half);
+        for (run, &other) in lower.iter_mut().zip(&*upper) {
+            *run = mul_add(other, power, *run);
+        }
+    }
+    runs[0]
 }
 
 #[cfg(test)]
@@ -603,13 +620,13 @@ mod tests {
 
     #[test]
     fn powers_of_every_length() {
-        for length in 0..40u64 {
+        for length in 0..140u64 {
             let tests: Vec<u64> = (0..length).map(|k| P - 1 - k * k).collect();
             for s in [0, 1, 2, 12_345_678, P - 1] {
                 let terms = tests.iter().zip(0..);
                 let expected =
                     field::sum(terms.map(|(&wire, k)| field::mul(wire, field::pow(s, k))));
-                assert_eq!(strict(powers_sum(&tests, s)), expected);
+                assert_eq!(strict(powers_sum(&tests, s, |wire| wire)), expected);
             }
         }
     }

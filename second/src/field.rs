@@ -66,8 +66,10 @@ pub(crate) fn words(bytes: &[u8]) -> impl ExactSizeIterator<Item = u32> + '_ {
 
 /// Whether every 4-byte number of a run is below p.
 pub(crate) fn all_elements(bytes: &[u8]) -> bool {
-    // No early exit: the pass is the same for every run.
-    words(bytes).fold(true, |sound, word| sound & (u64::from(word) < P))
+    // No early exit: the pass is the same for every run. A number is p = 2^31 - 1 or more
+    // when it or the next one has the top bit.
+    let tops = |tops, word: u32| tops | word | word.wrapping_add(1);
+    words(bytes).fold(0, tops) >> 31 == 0
 }
 
 /// Reads a run of elements. `None` when one is not below p or bytes are left over.

@@ -24,7 +24,7 @@ pub fn join(
 ) -> Result<Joined, u32> {
     check_servers(servers)?;
     let sheet = Sheet::read(sheet)?;
-    check_limit(&sheet, limit)?;
+    check_limit(sheet.largest(), limit)?;
 
     let length = sheet.closing_length();
     if joined.len() != servers as usize * length {

@@ -34,9 +34,18 @@ pub(crate) fn basis(degree: u64, x: u64) -> Vec<u64> {
 /// the id and the element bytes, "shown as that part of the message it was given, not
 /// copied".
 pub fn share_parts<'a>(sheet: &Sheet, own: u32, message: &'a [u8]) -> Result<(u32, &'a [u8]), u32> {
+    parts_of_length(sheet.share_length(), own, message)
+}
+
+/// The same for the length that the sheet asks for.
+pub(crate) fn parts_of_length(
+    length: usize,
+    own: u32,
+    message: &[u8],
+) -> Result<(u32, &[u8]), u32> {
     match message {
         [SHARE, i0, i1, i2, i3, server, elements @ ..]
-            if u32::from(*server) == own && message.len() == sheet.share_length() =>
+            if u32::from(*server) == own && message.len() == length =>
         {
             Ok((u32::from_le_bytes([*i0, *i1, *i2, *i3]), elements))
         }
@@ -170,9 +179,9 @@ pub(crate) fn round_sums(round: &Round, joined: &[u8]) -> Result<(u64, u64), u32
         let start = ROUND_LENGTH * place as usize;
         let message = &joined[start..start + ROUND_LENGTH];
         let (x, y) = round_elements(round, place, message).ok_or(refusal::JOINED)?;
-        sums = (field::add(sums.0, x), field::add(sums.1, y));
+        sums = (sums.0 + x, sums.1 + y);
     }
-    Ok(sums)
+    Ok((sums.0 % P, sums.1 % P))
 }
 
 /// The two elements of the message at one place; `None` for a wrong kind, id, server or
@@ -185,15 +194,16 @@ fn round_elements(round: &Round, place: u32, message: &[u8]) -> Option<(u64, u64
     if !sound || (place == round.own && message != round.written) {
         return None;
     }
-    match field::elements(elements)?[..] {
-        [x, y] => Some((x, y)),
-        _ => None,
+    if !field::all_elements(elements) {
+        return None;
     }
+    let mut words = field::words(elements).map(u64::from);
+    Some((words.next()?, words.next()?))
 }
 
 /// "Challenges: r from M + 1 to p - 1, s from 0 to p - 1" (refusal 9).
-pub(crate) fn check_challenges(sheet: &Sheet, r: u64, s: u64) -> Result<(), u32> {
-    if r > sheet.multiplications() as u64 && r < P && s < P {
+pub(crate) fn check_challenges(gates: usize, r: u64, s: u64) -> Result<(), u32> {
+    if r > gates as u64 && r < P && s < P {
         Ok(())
     } else {
         Err(refusal::CHALLENGE)

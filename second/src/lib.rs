@@ -1,12 +1,13 @@
 //! A second program for the figures pool of document 01, written from the paper
 //! alone.
 //!
-//! Two forms of the same rules live here:
+//! Three forms of the same rules live here:
 //!
 //! * the plain form, one module for each part of the paper: [`field`], [`sheet`],
 //!   [`mod@circuit`], [`values`], [`making`], [`judging`], [`table`], [`joining`]
 //!   and [`mod@recount`];
-//! * the fast form, [`fast`], with the same calls and the same answers.
+//! * the fast form, [`fast`], with the same calls and the same answers;
+//! * the lent form, [`lent`], with the calls on a table in bytes that the host lends.
 //!
 //! [`gen`] makes random sheets, values, elements and whole scripts of calls from a
 //! seed.
@@ -24,6 +25,7 @@ pub mod field;
 pub mod gen;
 pub mod joining;
 pub mod judging;
+pub mod lent;
 pub mod making;
 pub mod recount;
 pub mod refusal;

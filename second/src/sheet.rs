@@ -24,6 +24,20 @@ pub enum Column {
 }
 
 impl Column {
+    /// Reads the first column of a run of bytes; gives it and what follows it, `None` at the
+    /// end. Kind and cut come first (refusal 1), then counts (refusal 2).
+    pub(crate) fn read(bytes: &[u8]) -> Result<Option<(Column, &[u8])>, u32> {
+        Ok(Some(match bytes {
+            [] => return Ok(None),
+            [17, next @ ..] => (Column::YesNo, next),
+            [18, options @ 2..=64, next @ ..] => (Column::Choice(*options), next),
+            [19, bits @ 1..=24, next @ ..] => (Column::Number(*bits), next),
+            [18 | 19, _, ..] => return Err(refusal::LIMIT),
+            // An unknown kind, or kind 18 or 19 as the last byte.
+            _ => return Err(refusal::KIND),
+        }))
+    }
+
     /// How many entries the column has.
     pub fn entries(self) -> usize {
         match self {
@@ -94,21 +108,7 @@ impl Sheet {
     pub fn read(bytes: &[u8]) -> Result<Sheet, u32> {
         let mut columns = Vec::new();
         let mut rest = bytes;
-        loop {
-            let (column, next) = match rest {
-                [] => break,
-                [17, next @ ..] => (Column::YesNo, next),
-                [18, options, next @ ..] => match options {
-                    2..=64 => (Column::Choice(*options), next),
-                    _ => return Err(refusal::LIMIT),
-                },
-                [19, bits, next @ ..] => match bits {
-                    1..=24 => (Column::Number(*bits), next),
-                    _ => return Err(refusal::LIMIT),
-                },
-                // An unknown kind, or kind 18 or 19 as the last byte.
-                _ => return Err(refusal::KIND),
-            };
+        while let Some((column, next)) = Column::read(rest)? {
             columns.push(column);
             rest = next;
         }
@@ -162,6 +162,12 @@ impl Sheet {
         self.tests
     }
 
+    /// The largest value of a published entry, of all columns.
+    pub(crate) fn largest(&self) -> u64 {
+        let largest = self.columns.iter().map(|column| column.largest());
+        largest.max().unwrap_or(0)
+    }
+
     /// "A share has L + 2M + 6 elements."
     pub fn share_elements(&self) -> usize {
         self.entries + 2 * self.multiplications + 6
@@ -197,13 +203,12 @@ pub(crate) fn check_servers(servers: u32) -> Result<(), u32> {
     }
 }
 
-/// "N (1 to 1,024 decided returns)", then refusal 4.
-pub(crate) fn check_limit(sheet: &Sheet, limit: u32) -> Result<(), u32> {
+/// "N (1 to 1,024 decided returns)", then refusal 4 for the largest value of all columns.
+pub(crate) fn check_limit(largest: u64, limit: u32) -> Result<(), u32> {
     if !(1..=MAX_LIMIT).contains(&limit) {
         return Err(refusal::LIMIT);
     }
-    let wraps = |column: &Column| u64::from(limit) * column.largest() >= P;
-    if sheet.columns.iter().any(wraps) {
+    if u64::from(limit) * largest >= P {
         return Err(refusal::WRAPS);
     }
     Ok(())

@@ -160,7 +160,7 @@ impl State {
             return Err(refusal::LIMIT);
         }
         let sheet = Sheet::read(sheet)?;
-        check_limit(&sheet, limit)?;
+        check_limit(sheet.largest(), limit)?;
         Ok(State {
             servers,
             own,
@@ -216,7 +216,7 @@ impl State {
         if self.decided.contains(&id) {
             return Err(refusal::DECIDED);
         }
-        check_challenges(&self.sheet, r, s)?;
+        check_challenges(self.sheet.multiplications(), r, s)?;
         if room < ROUND_LENGTH {
             return Err(refusal::ROOM);
         }

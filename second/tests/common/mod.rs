@@ -1,6 +1,8 @@
 //! Helpers of the tests.
 #![allow(dead_code)]
 
+pub mod lent_table;
+
 use second::field::{self, P};
 use second::{open, round_one, round_two, share, Table, Verdict};
 

@@ -1,0 +1,136 @@
+//! The lent form against the plain form.
+
+mod common;
+
+use common::lent_table::{Lent, FILL};
+use common::*;
+use second::field::P;
+use second::gen::{Answer, Call, Case, Origin, Return, Rng, Script, Server};
+use second::{lent, table, Sheet};
+
+#[test]
+fn scripts_agree() {
+    for seed in 3000..3400 {
+        let script = Script::random(seed);
+        let open = |own| Lent::open(script.servers, own, &script.sheet, script.limit).unwrap();
+        assert_eq!(script.play(open), Ok(()), "seed {seed}");
+    }
+}
+
+#[test]
+fn openings_agree() {
+    let mut rng = Rng::new(41);
+    for _ in 0..3000 {
+        let case = Case::random_open(&mut rng);
+        let Case::Open {
+            servers,
+            own,
+            sheet,
+            limit,
+        } = &case
+        else {
+            panic!("{case:?}");
+        };
+        let plain = table::open(*servers, *own, sheet, *limit);
+        let lent = Lent::open(*servers, *own, sheet, *limit);
+        assert_eq!(lent.as_ref().err(), plain.as_ref().err(), "{case:?}");
+        let Ok(Lent { length, bytes }) = lent else {
+            continue;
+        };
+        for room in [0, 1, 41, length / 2, length - 1] {
+            let mut short = vec![FILL; room];
+            assert_eq!(
+                lent::open(*servers, *own, sheet, *limit, &mut short),
+                Err(14)
+            );
+            assert!(short.iter().all(|&byte| byte == FILL));
+        }
+        let mut exact = vec![FILL; length];
+        assert_eq!(
+            lent::open(*servers, *own, sheet, *limit, &mut exact),
+            Ok(length)
+        );
+        assert_eq!(exact, bytes[..length]);
+    }
+}
+
+/// Sheets of every kind and of many sizes, with r at and around the points of h.
+#[test]
+fn shares_agree() {
+    let mut sheets: Vec<Vec<u8>> = vec![
+        vec![17; 256],
+        [18, 64].repeat(4),
+        [18, 2].repeat(128),
+        [19, 24].repeat(10).into_iter().chain([19, 5]).collect(),
+        [19, 1].repeat(128),
+        [17, 18, 3, 19, 7].repeat(21),
+    ];
+    sheets.extend((1..70).map(|count| vec![17; count]));
+    sheets.extend((2..20).map(|options| vec![18, options, 17]));
+    sheets.extend((1..24).map(|bits| vec![17, 19, bits]));
+    let mut rng = Rng::new(42);
+    for bytes in &sheets {
+        let sheet = Sheet::read(bytes).unwrap();
+        let given = Return::random(&mut rng, &sheet, 2, 9, Origin::Altered);
+        let gates = sheet.multiplications() as u64;
+        for r in [
+            gates + 1,
+            2 * gates,
+            2 * gates + 1,
+            rng.between(gates + 1, P - 1),
+            P - 1,
+        ] {
+            share_and_round_one(bytes, &given, r);
+        }
+    }
+}
+
+/// Takes a return through share and round one at two servers, in both forms.
+fn share_and_round_one(bytes: &[u8], given: &Return, r: u64) {
+    let mut plains = open_all(2, bytes, 1);
+    let lents = (0..2).map(|own| Lent::open(2, own, bytes, 1).unwrap());
+    let mut lents: Vec<Lent> = lents.collect();
+    let mut joined = Vec::new();
+    for own in 0..2 {
+        let call = Call::Share {
+            message: given.shares[own].clone(),
+            r,
+            s: given.s,
+            room: 14,
+        };
+        let answer = plains[own].call(&call);
+        assert_eq!(lents[own].call(&call), answer, "{bytes:?}");
+        if let Answer::Message(message) = answer {
+            joined.extend(message);
+        }
+    }
+    let call = Call::RoundOne { joined, room: 14 };
+    for (lent, plain) in lents.iter_mut().zip(&mut plains) {
+        assert_eq!(lent.call(&call), plain.call(&call), "{bytes:?}");
+    }
+}
+
+#[test]
+fn a_thousand_ids() {
+    let (sheet, elements) = ([17], [1, 2, 3, 4, 5, 6, 7, 8, 9]);
+    let mut table = Lent::open(2, 0, &sheet, 1024).unwrap();
+    let share = |id: u32| Call::Share {
+        message: share_message(id, 0, &elements),
+        r: 100,
+        s: 3,
+        room: 14,
+    };
+    for id in 0..1024u32 {
+        if id > 0 {
+            for decided in [0, id / 2, id - 1] {
+                assert_eq!(table.call(&share(decided)), Answer::Refused(10));
+            }
+        }
+        assert!(matches!(table.call(&share(id)), Answer::Message(_)));
+        assert_eq!(table.call(&Call::Drop), Answer::Dropped);
+    }
+    assert_eq!(table.call(&share(1024)), Answer::Refused(13));
+    assert_eq!(table.call(&share(3)), Answer::Refused(13));
+    let close = table.call(&Call::Close { room: 10 });
+    assert_eq!(close, Answer::Message(closing(0, 0, &[0])));
+}

@@ -175,11 +175,11 @@ fn sums(table: &Table, kind: u8, joined: &[u8]) -> Result<(u64, u64), u32> {
 
 /// Adds elements to totals, modulo p.
 fn add_up(totals: &mut [Word], elements: &[Word]) {
-    const LAST: u32 = P as u32;
     for (total, &element) in totals.iter_mut().zip(elements) {
-        // Both are below p, so the sum fits. It is 0 modulo p at p as well.
+        // Both are below p = 2^31 - 1, so the sum fits. Where sum + 1 has the top bit, p is
+        // taken off: 1 is added and the top bit cleared.
         let sum = u32::from_le_bytes(*total) + u32::from_le_bytes(element);
-        let sum = if sum >= LAST { sum - LAST } else { sum };
+        let sum = (sum + ((sum + 1) >> 31)) & P as u32;
         *total = sum.to_le_bytes();
     }
 }

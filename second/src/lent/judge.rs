@@ -6,10 +6,11 @@ use super::shape::Shape;
 use crate::fast::{fold, mul, negate, powers_sum, strict};
 use crate::field::P;
 use crate::judging::Findings;
-use crate::sheet::Column;
+use crate::sheet::{Column, MAX_MULTIPLICATIONS, MAX_TESTS};
 
 /// What the server finds on L + 2M + 6 elements below p; r is from M + 1 to p - 1 and s below
 /// p. Notes the published entries.
+#[inline(always)]
 pub(super) fn find(
     sheet: &[u8],
     shape: &Shape,
@@ -21,34 +22,33 @@ pub(super) fn find(
 ) -> Findings {
     let (entries, rest) = elements.split_at(shape.entries);
     let outputs = &rest[3..][..shape.gates];
-    // Yes/no columns alone: each entry is an input, each output a test.
-    if shape.tests == shape.gates {
-        published.copy_from_slice(entries);
-        let tau = powers_sum(outputs, s, value);
-        return find_with(shape.gates, first, entries, rest, r, tau);
-    }
-    let walk = Walk {
+    let mut walk = Walk {
         sheet,
-        first,
+        minus_one: if first { P - 1 } else { 0 },
         entries,
         outputs,
     };
-    let tau = if shape.gates <= SMALL {
-        walk.tau::<SMALL>(s)
-    } else {
-        walk.tau::<256>(s)
-    };
-    // Without numbers, each entry is an input.
-    if shape.entries == shape.gates {
+    let mut gathered;
+    let (inputs, tau) = if shape.entries == shape.gates {
+        // Without numbers, each entry is an input and is published. With yes/no columns alone,
+        // each output is a test and there are no others.
         published.copy_from_slice(entries);
-        return find_with(shape.gates, first, entries, rest, r, tau);
-    }
-    let mut inputs = [[0; 4]; 256];
-    walk.sort_out(&mut inputs, published);
-    find_with(shape.gates, first, &inputs[..shape.gates], rest, r, tau)
+        let tau = if shape.tests == shape.gates {
+            powers_sum(outputs, s, value)
+        } else {
+            walk.tau(shape, s, |_, _| {})
+        };
+        (entries, tau)
+    } else {
+        gathered = [[0; 4]; MAX_MULTIPLICATIONS as usize];
+        let tau = walk.gather(shape, s, &mut gathered, published);
+        (&gathered[..shape.gates], tau)
+    };
+    find_with(shape.gates, first, inputs, rest, r, tau)
 }
 
 /// The same once the inputs and tau are known. `rest` holds f(0), g(0), h(0)..h(2M), a, b, c.
+#[inline(always)]
 fn find_with(
     gates: usize,
     first: bool,
@@ -111,15 +111,16 @@ fn with_high(r: u64, values: &[Word], low_sum: u64, low_product: u64) -> u64 {
     mul(fold(joined), mul(above, below))
 }
 
-/// Sheets of at most so many multiplications need less room to gather in.
-const SMALL: usize = 16;
+/// So many tests need less room.
+const SMALL: usize = 32;
 
-/// A share's columns.
+/// A share's columns, those that are still to come.
 struct Walk<'a> {
     sheet: &'a [u8],
-    first: bool,
+    /// p - 1 at server 0, else 0.
+    minus_one: u64,
     entries: &'a [Word],
-    /// h(1)..h(M).
+    /// Their part of h(1)..h(M).
     outputs: &'a [Word],
 }
 
@@ -131,58 +132,73 @@ fn take<'a>(words: &mut &'a [Word], count: usize) -> &'a [Word] {
 }
 
 impl Walk<'_> {
-    /// Takes the columns one by one, with their entries and outputs.
-    fn each(&self, mut take_column: impl FnMut(Column, &[Word], &[Word])) {
-        let (mut sheet, mut entries, mut outputs) = (self.sheet, self.entries, self.outputs);
-        while let Ok(Some((column, next))) = Column::read(sheet) {
-            sheet = next;
-            let own_entries = take(&mut entries, column.entries());
-            let own_outputs = take(&mut outputs, column.multiplications());
-            take_column(column, own_entries, own_outputs);
+    /// tau, loose. Notes the inputs and the published entries.
+    fn gather(
+        &mut self,
+        shape: &Shape,
+        s: u64,
+        inputs: &mut [Word],
+        published: &mut [Word],
+    ) -> u64 {
+        let (mut checked, mut shown) = (0, 0);
+        self.tau(shape, s, |column, entries| {
+            // A number's first entry is published and is no input: the next one overwrites it.
+            // The other kinds' entries are both.
+            let lead = column.entries() - column.multiplications();
+            for (i, &entry) in entries.iter().enumerate() {
+                inputs[checked] = entry;
+                checked += usize::from(i >= lead);
+            }
+            for &entry in &entries[..column.published()] {
+                published[shown] = entry;
+                shown += 1;
+            }
+        })
+    }
+
+    /// tau, loose. Shows each column with its entries.
+    fn tau(&mut self, shape: &Shape, s: u64, show: impl FnMut(Column, &[Word])) -> u64 {
+        if shape.tests <= SMALL {
+            self.tau_within::<SMALL>(s, show)
+        } else {
+            self.tau_within::<{ MAX_TESTS as usize }>(s, show)
         }
     }
 
-    /// tau, loose, for at most N multiplications.
-    fn tau<const N: usize>(&self, s: u64) -> u64 {
-        let minus_one = if self.first { P - 1 } else { 0 };
-        let mut tests = [[0; N]; 2];
-        let tests = tests.as_flattened_mut();
+    fn tau_within<const N: usize>(&mut self, s: u64, mut show: impl FnMut(Column, &[Word])) -> u64 {
+        let mut tests = [0; N];
         let mut count = 0;
-        self.each(|column, entries, outputs| {
+        while let Ok(Some((column, next))) = Column::read(self.sheet) {
+            self.sheet = next;
+            let entries = take(&mut self.entries, column.entries());
+            let outputs = take(&mut self.outputs, column.multiplications());
             for (place, &output) in tests[count..].iter_mut().zip(outputs) {
                 *place = value(output);
             }
             count += column.tests();
-            // Below 2^31 + 2^55 before the reduction.
-            tests[count - 1] = match column {
-                Column::YesNo => return,
-                Column::Choice(_) => {
-                    strict(entries.iter().map(|&entry| value(entry)).sum::<u64>() + minus_one)
-                }
-                Column::Number(_) => {
-                    let bits = entries[1..].iter().zip(0u32..);
-                    let sum: u64 = bits.map(|(&bit, j)| value(bit) << j).sum();
-                    strict(sum + P - value(entries[0]))
-                }
-            };
-        });
+            if let Some(test) = self.last_test(column, entries) {
+                tests[count - 1] = test;
+            }
+            show(column, entries);
+        }
         powers_sum(&tests[..count], s, |wire| wire)
     }
 
-    /// Notes the entry of each bit check and the published entries.
-    fn sort_out(&self, inputs: &mut [Word], published: &mut [Word]) {
-        let (mut checked, mut shown) = (0, 0);
-        self.each(|column, entries, outputs| {
-            let bits = &entries[entries.len() - outputs.len()..];
-            for (place, &bit) in inputs[checked..].iter_mut().zip(bits) {
-                *place = bit;
+    /// The test of a choice's or a number's sum.
+    fn last_test(&self, column: Column, entries: &[Word]) -> Option<u64> {
+        // Below 2^31 + 2^55 before the reduction.
+        let sum = match column {
+            Column::YesNo => return None,
+            Column::Choice(_) => {
+                let options = entries.iter().map(|&entry| value(entry));
+                options.sum::<u64>() + self.minus_one
             }
-            checked += bits.len();
-            let open = &entries[..column.published()];
-            for (place, &entry) in published[shown..].iter_mut().zip(open) {
-                *place = entry;
+            Column::Number(_) => {
+                let bits = entries[1..].iter().zip(0u32..);
+                let sum: u64 = bits.map(|(&bit, j)| value(bit) << j).sum();
+                sum + P - value(entries[0])
             }
-            shown += open.len();
-        });
+        };
+        Some(strict(sum))
     }
 }

@@ -64,6 +64,8 @@ pub(super) struct Table<'a> {
 
 impl<'a> Table<'a> {
     /// Takes a table apart and looks it over, for a call that some stages allow (refusal 11).
+    /// Written into each call, so that the parts stay in registers.
+    #[inline(always)]
     pub fn look_over(bytes: &'a mut [u8], allows: impl Fn(u8) -> bool) -> Result<Self, u32> {
         match Table::parts(bytes) {
             Some(table) if allows(table.stage()) && table.sound() => Ok(table),
@@ -73,6 +75,7 @@ impl<'a> Table<'a> {
 
     /// The parts of a table; `None` when the slice is too short or the sheet, N or refusal 4's
     /// rule is broken.
+    #[inline(always)]
     fn parts(bytes: &'a mut [u8]) -> Option<Self> {
         let (header, rest) = bytes.split_first_chunk_mut::<HEADER>()?;
         let limit = usize::from(pair(header, LIMIT));
@@ -96,6 +99,7 @@ impl<'a> Table<'a> {
 
     /// Whether the server numbers, the stage, the counts and all elements that are held are
     /// within their limits.
+    #[inline(always)]
     fn sound(&self) -> bool {
         let held = match self.stage() {
             AWAITS_ONE => &self.header[MESSAGE..],

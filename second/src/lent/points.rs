@@ -12,7 +12,7 @@ use super::layout::{value, Word};
 use crate::fast::{fold, mul, negate, product, strict, tables, LAST_POINT, TABLES};
 
 /// Enough that the compiler makes vectors of them.
-const LANES: usize = 16;
+const LANES: usize = 8;
 
 /// Signed inverse factorials, and products of factorials.
 pub(super) struct Constants {
@@ -124,15 +124,12 @@ impl<const N: usize> Run<N> {
             // The upper half meets the lower one; with an odd number the middle lane stays.
             let half = lanes / 2;
             lanes -= half;
-            let (own, other) = self.product.split_at_mut(lanes);
-            for sums in &mut self.sums {
-                let (own_sums, other_sums) = sums.split_at_mut(lanes);
-                for i in 0..half {
-                    own_sums[i] = mul_mul(own_sums[i], other[i], other_sums[i], own[i]);
-                }
-            }
             for i in 0..half {
-                own[i] = mul(own[i], other[i]);
+                let (own, other) = (self.product[i], self.product[lanes + i]);
+                for sums in &mut self.sums {
+                    sums[i] = mul_mul(sums[i], other, sums[lanes + i], own);
+                }
+                self.product[i] = mul(own, other);
             }
         }
         (self.sums.map(|sums| sums[0]), self.product[0])

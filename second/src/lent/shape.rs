@@ -20,6 +20,7 @@ pub(super) struct Shape {
 
 impl Shape {
     /// Reads a sheet, and N with it. Order of refusals: sheet, N, 4.
+    #[inline(always)]
     pub fn opening(sheet: &[u8], limit: u32) -> Result<Shape, u32> {
         let shape = Shape::read(sheet)?;
         check_limit(shape.largest, limit)?;
@@ -27,6 +28,7 @@ impl Shape {
     }
 
     /// Reads a sheet; the total limits come last.
+    #[inline(always)]
     fn read(sheet: &[u8]) -> Result<Shape, u32> {
         let mut shape = Shape {
             entries: 0,

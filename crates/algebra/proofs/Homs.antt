@@ -6,7 +6,7 @@ use Prim.Native.Nat.{ℕ, zero, suc, _+_, _-_}
 use Rattle.algebra.specs.Ops.{Ops, Hom, minus}
 use Rattle.algebra.specs.Sums.{sum, product, inner, power}
 use Rattle.algebra.specs.Polynomial.{horner}
-use Rattle.algebra.specs.Interpolation.{ascending, descending, others, weight, basis, interpolate, sign}
+use Rattle.algebra.specs.Interpolation.{ascending, descending, others, weight, basis, interpolate, numerator, sign}
 use Rattle.algebra.proofs.Sums.{sum-ext, product-ext}
 
 module _ {A B : Ops} (h : Hom A B) where
@@ -61,6 +61,15 @@ module _ {A B : Ops} (h : Hom A B) where
   interpolate-hom n y x =
       inner-hom (suc n) y (λ j. basis A n j x)
       ∙ sum-ext B (suc n) _ _ (λ j l. ap (B ._⊗_ (φ (y j))) (basis-hom n j x))
+
+  pub numerator-hom : (s n : ℕ) (x : A .F) (t : ℕ → A .F)
+      → φ (numerator A s x n t) ≡ numerator B s (φ x) n (λ i. φ (t i))
+  unfolding numerator
+  numerator-hom s zero x t = nil
+  numerator-hom s (suc n) x t =
+      add _ _
+      ∙ ap₂ (B ._⊕_) (mul _ _ ∙ ap₂ (B ._⊗_) (numerator-hom s n x t) (minus-hom x (s + n)))
+      (mul _ _ ∙ ap (B ._⊗_ (φ (t n))) (ascending-hom s n x))
 
   pub sign-hom : (n : ℕ) → φ (sign A n) ≡ sign B n
   unfolding sign

@@ -30,7 +30,7 @@ module _ (𝓕 : Field) where
   O = 𝓕 .ops
 
   -- the two products are one
-  ascending-front : (s m : ℕ) (x : F) → ascending O s (suc m) x ≡ minus O x (ι s) ⊗ ascending O (suc s) m x
+  pub ascending-front : (s m : ℕ) (x : F) → ascending O s (suc m) x ≡ minus O x (ι s) ⊗ ascending O (suc s) m x
   ascending-front s m x =
       product-front 𝓕 m (λ i. minus O x (ι (s + i)))
       ∙ ap₂ _⊗_ (ap (λ k. minus O x (ι k)) (n-add-zero s))

@@ -12,6 +12,7 @@ pub mod Roots
 pub mod Interpolation
 pub mod Weights
 pub mod Shifts
+pub mod Fractions
 pub mod Count
 pub mod Pairs
 pub mod Homs

@@ -39,3 +39,9 @@ module _ (O : Ops) where
   unfoldable pub sign : ℕ → F
   sign zero = 𝟙
   sign (suc n) = O .neg (sign n)
+
+  -- the numerator of the sum of t i / (x - (s + i)) over i < n, whose denominator is ascending s n x: a loop that adds one
+  -- fraction after another computes it
+  unfoldable pub numerator : ℕ → F → ℕ → (ℕ → F) → F
+  numerator s x zero t = 𝟘
+  numerator s x (suc n) t = numerator s x n t ⊗ minus O x (ι (s + n)) ⊕ t n ⊗ ascending s n x

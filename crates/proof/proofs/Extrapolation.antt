@@ -17,9 +17,8 @@ use Rattle.algebra.proofs.Homs.{inner-hom, ascending-hom, weight-hom, interpola
 use Rattle.algebra.proofs.Interpolation.{interpolate-at}
 use Rattle.algebra.proofs.Weights.{extrapolate}
 use Rattle.field.specs.Residues.{prime, residues}
-use Rattle.field.proofs.Below.{inverse-below}
 use Rattle.proof.specs.Curves.{fallAt}
-use Rattle.snip.proofs.Numbers.{𝓕, values, not-zero, back}
+use Rattle.quotients.proofs.Numbers.{𝓕, values, not-zero, back}
 
 -- ---- the products of t - k, in a field
 module _ (𝓖 : Field) where
@@ -129,7 +128,3 @@ module _ (n : ℕ) (y : ℕ → ℕ) (below : (j : ℕ) → y j < prime) where
       (values .mul _ _ ∙ ap₂ (residues ._⊗_) (back (below j)) (weight-hom values n j))
       (values .rec _ ∙ ap (residues .inv) (back (let q : t - j < prime = omega arith in q)))))
       (ascending-hom values 0 (suc n) (𝓕 .ops .ι t) ∙ ap (ascending residues 0 (suc n)) (back l))
-
-pub weight-below : (n j : ℕ) → weight residues n j < prime
-unfolding weight
-weight-below n j = inverse-below _

@@ -20,7 +20,7 @@ use Rattle.rules.specs.Making.{fOf, gOf}
 use Rattle.rules.proofs.Walk.{walk-is-run}
 use Rattle.walk.specs.Walks.{plain, members}
 use Rattle.walk.proofs.Meanings.{list-lefts, list-rights}
-use Rattle.walk.proofs.Shifted.{right-shifted}
+use Rattle.walk.proofs.Shifted.{right-shifted, lefts-elements}
 use Rattle.proof.specs.Curves.{valueAt, shiftAt}
 use Rattle.proof.proofs.Shifts.{value-shifted}
 
@@ -37,14 +37,8 @@ module _ (xs : List ℕ) where
   rights cs = walkRights document01 (plain (prime - 1) (members xs)) 0 cs
 
   -- ---- elements
-  lefts-from : Elements xs → (cs : List Column) (e : ℕ) → Elements (walkLefts document01 (plain 0 (members xs)) e cs)
-  unfolding walkLefts columnLefts
-  lefts-from h [] e = all[]
-  lefts-from h (c ∷ cs) e =
-      all-append (tabulate-below _ (gatesOf c) (λ i. member-below xs _ h)) (lefts-from h cs (e + entriesOf c))
-
   pub f-elements : (cs : List Column) {u : ℕ} → u < prime → Elements xs → Elements (u ∷ lefts cs)
-  f-elements cs h k = all∷ h (lefts-from k cs 0)
+  f-elements cs h k = all∷ h (lefts-elements xs k cs 0)
 
   -- ---- the values of f and g
   module _ (cs : List Column) where

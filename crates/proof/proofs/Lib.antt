@@ -1,6 +1,7 @@
 -- Laws that the proofs of the functions cite, and that callers may.
 pub mod Extrapolation
-pub mod Signs
+pub mod Behind
+pub mod Weighted
 pub mod Backwards
 pub mod Falls
 pub mod CurveValues

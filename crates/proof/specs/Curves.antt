@@ -38,6 +38,10 @@ shiftAt n d j =
 abbrev pub scaledShift : ℕ → ℕ → ℕ
 scaledShift n d = residues ._⊗_ (minus residues d (prime - 1)) (weight residues n 0)
 
+-- the weights of the points 0, .., n
+pub record Weights (n : ℕ) (ws : List ℕ) : Type 0 where
+  pub are : ws ≡ tabulate (weight residues n) (suc n)
+
 -- the products at n + 1, .., 2n, and the inverses of 2n, .., 1
 pub record Ready (n : ℕ) (falls back : List ℕ) : Type 0 where
   pub few : n ≤ 256

@@ -7,7 +7,6 @@ ghost use mathlib.Core.List.{_∷_};
 ghost use Prim.Native.Nat.{suc, _+_, _-_, _<_, _≤_};
 ghost use lib.ListN.{length};
 ghost use Rattle.algebra.specs.Lists.{tabulate};
-ghost use Rattle.algebra.specs.Interpolation.{sign as Interpolation·sign, weight as Interpolation·weight};
 ghost use Rattle.field.specs.Residues.{prime, residues, Elements};
 ghost use Rattle.rules.specs.Settings.{document01};
 ghost use Rattle.rules.specs.Columns.{columnsOf};
@@ -15,35 +14,18 @@ ghost use Rattle.rules.specs.Circuit.{gatesIn};
 ghost use Rattle.rules.specs.Walk.{walkLefts};
 ghost use Rattle.rules.specs.Making.{fOf, gOf};
 ghost use Rattle.walk.specs.Walks.{plain, members, Entries};
-ghost use Rattle.snip.specs.Factorials.{Tables};
-ghost use Rattle.proof.specs.Curves.{scaledAt, fallAt, beyondAt, valueAt, scaledShift, shiftAt, Ready, Curve};
-
-// (- 1) to the power k
-fn sign(k: usize) -> u32
-    ensures { λ r. ⌜ r ≡ Interpolation·sign residues k ⌝ }
-{
-    if k % 2 == 0 { 1 } else { field::P - 1 }
-}
-
-// The weight of point j among 0, .., n.
-fn weight(factorials: &[u32], n: usize, j: usize) -> u32
-    requires { ⌜ Tables 0 (suc n) (now factorials) × (j ≤ n) ⌝ }
-    ensures { λ r. ⌜ r ≡ Interpolation·weight residues n j ⌝ }
-{
-    field::mul(factorials[j], field::mul(sign(n - j), factorials[n - j]))
-}
+ghost use Rattle.proof.specs.Curves.{scaledAt, fallAt, beyondAt, valueAt, scaledShift, shiftAt, Weights, Ready, Curve};
 
 // out[j] = y[j] times the weight of point j.
-fn scale(y: &[u32], factorials: &[u32], out: &mut [u32])
-    requires { ⌜ Tables 0 (length (now out)) (now factorials) × Elements (now y) ⌝ }
+fn scale(y: &[u32], weights: &[u32], out: &mut [u32])
+    requires { ⌜ Weights (length (now out) - 1) (now weights) × Elements (now y) ⌝ }
     requires { ⌜ (length (now y) ≡ length (now out)) × (0 < length (now out)) ⌝ }
     ensures { λ _. ⌜ now (out .exit)
         ≡ tabulate (scaledAt (length (now (out .entry)) - 1) (now (y .entry))) (length (now (out .entry))) ⌝ }
 {
-    let n = out.len() - 1;
     let mut j = 0;
     while j < out.len() {
-        out[j] = field::mul(y[j], weight(factorials, n, j));
+        out[j] = field::mul(y[j], weights[j]);
         j += 1;
     }
 }
@@ -91,16 +73,16 @@ fn fill_falls(inverses: &[u32], out: &mut [u32])
 }
 
 // The tables for polynomials of degree at most n, where n is the length of falls.
-fn fill_tables(factorials: &mut [u32], falls: &mut [u32], back: &mut [u32])
-    requires { ⌜ (length (now falls) ≤ 256) × (length (now factorials) ≡ suc (length (now falls)))
+fn fill_tables(weights: &mut [u32], falls: &mut [u32], back: &mut [u32])
+    requires { ⌜ (length (now falls) ≤ 256) × (length (now weights) ≡ suc (length (now falls)))
         × (length (now back) ≡ length (now falls) + length (now falls)) ⌝ }
-    ensures { λ _. ⌜ Tables 0 (suc (length (now (falls .entry)))) (now (factorials .exit))
+    ensures { λ _. ⌜ Weights (length (now (falls .entry))) (now (weights .exit))
         × Ready (length (now (falls .entry))) (now (falls .exit)) (now (back .exit)) ⌝ }
 {
     let mut inverses = [0u32; 512];
     let n = back.len();
     quotients::fill_inverses(&mut inverses[..n]);
-    quotients::fill_inverse_factorials(factorials);
+    quotients::fill_weights(weights);
     fill_back(&inverses[..n], back);
     fill_falls(&inverses[..n], falls);
 }
@@ -131,12 +113,12 @@ fn value(y: &[u32], scaled: &[u32], falls: &[u32], back: &[u32], j: usize) -> u3
     }
 }
 
-// d less the constant P - 1, times the weight of the point 0 among 0, .., n.
-fn scaled_shift(factorials: &[u32], n: usize, d: u32) -> u32
-    requires { ⌜ Tables 0 (suc n) (now factorials) × (d < prime) ⌝ }
-    ensures { λ r. ⌜ r ≡ scaledShift n d ⌝ }
+// d less the constant P - 1, times the weight of the point 0 among 0, .., n, where n + 1 is the length of weights.
+fn scaled_shift(weights: &[u32], d: u32) -> u32
+    requires { ⌜ Weights (length (now weights) - 1) (now weights) × (0 < length (now weights)) × (d < prime) ⌝ }
+    ensures { λ r. ⌜ r ≡ scaledShift (length (now (weights .entry)) - 1) d ⌝ }
 {
-    field::mul(field::sub(d, field::P - 1), weight(factorials, n, 0))
+    field::mul(field::sub(d, field::P - 1), weights[0])
 }
 
 // The value at j, up to 2n, of the polynomial that is d at 0 and P - 1 at 1, .., n, where n is the length of falls: beyond n
@@ -193,15 +175,15 @@ fn fill_products(
 }
 
 // f by its values, and these with their weights as factors.
-fn curve_f(sheet: &[u8], x: &[u32], u: u32, factorials: &[u32], f: &mut [u32], fs: &mut [u32])
+fn curve_f(sheet: &[u8], x: &[u32], u: u32, weights: &[u32], f: &mut [u32], fs: &mut [u32])
     requires { ⌜ Entries (now sheet) (now x) × (u < prime) × (length (now f) ≡ suc (gatesIn (columnsOf (now sheet)))) ⌝ }
-    requires { ⌜ Tables 0 (length (now f)) (now factorials) × (length (now fs) ≡ length (now f)) ⌝ }
+    requires { ⌜ Weights (gatesIn (columnsOf (now sheet))) (now weights) × (length (now fs) ≡ length (now f)) ⌝ }
     ensures { λ _. ⌜ (now (f .exit)
         ≡ u ∷ walkLefts document01 (plain 0 (members (now (x .entry)))) 0 (columnsOf (now (sheet .entry))))
         × Curve (gatesIn (columnsOf (now (sheet .entry)))) (now (f .exit)) (now (fs .exit)) ⌝ }
 {
     fill_f(sheet, x, u, f);
-    scale(f, factorials, fs);
+    scale(f, weights, fs);
 }
 
 // The same as `fill_h`, with the tables lent.
@@ -210,13 +192,13 @@ fn fill_with(
     x: &[u32],
     u: u32,
     v: u32,
-    factorials: &[u32],
+    weights: &[u32],
     falls: &[u32],
     back: &[u32],
     out: &mut [u32],
 )
     requires { ⌜ Entries (now sheet) (now x) × (u < prime) × (v < prime) × (length (now falls) ≡ gatesIn (columnsOf (now sheet))) ⌝ }
-    requires { ⌜ Tables 0 (suc (length (now falls))) (now factorials) × Ready (length (now falls)) (now falls) (now back)
+    requires { ⌜ Weights (length (now falls)) (now weights) × Ready (length (now falls)) (now falls) (now back)
         × (length (now out) ≡ suc (length (now falls) + length (now falls))) ⌝ }
     ensures { λ _. ⌜ now (out .exit) ≡ tabulate (λ j. residues ._⊗_
         (fOf residues document01 (columnsOf (now (sheet .entry))) (members (now (x .entry))) u (residues .ι j))
@@ -226,9 +208,9 @@ fn fill_with(
     let mut f = [0u32; 257];
     let mut fs = [0u32; 257];
     let n = falls.len() + 1;
-    curve_f(sheet, x, u, factorials, &mut f[..n], &mut fs[..n]);
+    curve_f(sheet, x, u, weights, &mut f[..n], &mut fs[..n]);
     let d = field::sub(v, u);
-    let k = scaled_shift(factorials, falls.len(), d);
+    let k = scaled_shift(weights, d);
     fill_products(&f[..n], &fs[..n], d, k, falls, back, out);
 }
 
@@ -241,23 +223,19 @@ pub fn fill_h(sheet: &[u8], x: &[u32], u: u32, v: u32, out: &mut [u32])
         (gOf residues document01 (columnsOf (now (sheet .entry))) (members (now (x .entry))) v (residues .ι j)))
         (suc (gatesIn (columnsOf (now (sheet .entry))) + gatesIn (columnsOf (now (sheet .entry))))) ⌝ }
 {
-    let mut factorials = [0u32; 257];
+    let mut weights = [0u32; 257];
     let mut falls = [0u32; 256];
     let mut back = [0u32; 512];
     let n = out.len() / 2;
     let points = n + 1;
     let twice = n + n;
-    fill_tables(
-        &mut factorials[..points],
-        &mut falls[..n],
-        &mut back[..twice],
-    );
+    fill_tables(&mut weights[..points], &mut falls[..n], &mut back[..twice]);
     fill_with(
         sheet,
         x,
         u,
         v,
-        &factorials[..points],
+        &weights[..points],
         &falls[..n],
         &back[..twice],
         out,

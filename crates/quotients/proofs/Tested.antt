@@ -17,7 +17,7 @@ use Rattle.algebra.specs.Sums.{product}
 use Rattle.algebra.proofs.Inverse.{inverse-right}
 use Rattle.algebra.proofs.Members.{and-left, and-right}
 use Rattle.algebra.proofs.Remainders.{mul-mod, mul-mod-mod, mod-mul-mod}
-use Rattle.algebra.proofs.Tables.{tabulate-cong, tabulate-getD}
+use Rattle.algebra.proofs.Tables.{tabulate-none, tabulate-cong, tabulate-getD}
 use Rattle.algebra.proofs.Trial.{prime-2147483647}
 use Rattle.field.specs.Residues.{prime, residues}
 use Rattle.field.proofs.Below.{inverse-below}
@@ -104,14 +104,14 @@ inverses-tested t n h few l =
     ∙ tabulate-cong _ _ n
     (λ i k. inverse-at 1 t (omega arith) (omega arith) h i (omega arith) ∙ ap (residues .inv) (omega arith))
 
--- and of a table of inverses of factorials
-pub factorials-tested : (t : List ℕ) (n : ℕ) → areInverseFactorials t ≡ true → length t < prime → n ≤ length t
-    → take n t ≡ tabulate inverseFactorial n
+-- a table of inverses of factorials that passes its test
+pub factorials-tested : (t : List ℕ) → areInverseFactorials t ≡ true → length t < prime
+    → t ≡ tabulate inverseFactorial (length t)
 unfolding product
-factorials-tested [] n h few l = sym (firsts [] n l) ∙ tabulate-cong _ _ n (λ i k. absurd (omega arith))
-factorials-tested (x ∷ s) n h few l =
+factorials-tested [] h few = sym (tabulate-none inverseFactorial)
+factorials-tested (x ∷ s) h few =
     let one : x ≡ inverseFactorial 0 = eqb-true x 1 (and-left (eqb x 1) (areQuotients x 1 s) h) in
-    sym (firsts (x ∷ s) n l)
-    ∙ tabulate-cong _ _ n
+    sym (tabulate-getD 0 (x ∷ s))
+    ∙ tabulate-cong _ _ (length (x ∷ s))
     (λ i k. factorial-at 0 x s (omega arith) one (and-right (eqb x 1) (areQuotients x 1 s) h) i (omega arith)
     ∙ ap inverseFactorial (zero-add i))

@@ -5,6 +5,7 @@ use mathlib.Core.List.{List}
 use Prim.Native.Nat.{ℕ, suc, _+_, _<_}
 use lib.ListN.{length}
 use Rattle.records.specs.Outcome.{ok}
+use Rattle.algebra.specs.Ops.{minus}
 use Rattle.algebra.specs.Interpolation.{interpolate}
 use Rattle.field.specs.Residues.{prime, residues, Elements}
 use Rattle.rules.specs.Settings.{document01}
@@ -36,6 +37,14 @@ inputsOf cs l m xs r = record {
   g =
       interpolate residues (gatesIn cs)
       (through residues (members xs (l + 1)) (walkRights document01 (plain m (members xs)) 0 cs)) r;
+}
+
+-- f and g at r from their values at 0, the basis of the point 0 and the part of f of the other points, where each right
+-- input is the left one plus m
+abbrev pub inputsFrom : ℕ → ℕ → ℕ → ℕ → ℕ → Inputs
+inputsFrom f0 g0 first rest m = record {
+  f = residues ._⊕_ (residues ._⊗_ first f0) rest;
+  g = residues ._⊕_ (residues ._⊗_ first (minus residues g0 m)) (residues ._⊕_ rest m);
 }
 
 -- the sheet s is read and comes to these counts, xs has the length of a share, and all are elements

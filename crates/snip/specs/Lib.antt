@@ -1,4 +1,2 @@
 -- What the contracts of this crate cite besides algebra, rules and field.
-pub mod Factorials
-pub mod Sides
 pub mod Judged

@@ -1,82 +1,94 @@
 // What a server works out from a share: d, e, r h(r) and tau, in time that grows with the entries and multiplications.
 ghost use mathlib.Core.Path.{_≡_};
-ghost use mathlib.Core.List.{_∷_};
 ghost use Prim.Native.Nat.{suc, _+_, _-_, _<_, _≤_};
 ghost use lib.ListN.{length};
-ghost use Rattle.algebra.specs.Sums.{inner};
-ghost use Rattle.algebra.specs.Interpolation.{interpolate};
+ghost use Rattle.algebra.specs.Lists.{tabulate};
+ghost use Rattle.algebra.specs.Interpolation.{weight, interpolate};
 ghost use Rattle.field.specs.Residues.{prime, residues, Elements};
+ghost use Rattle.interpolation.specs.Fractions.{sumOf, Element};
 ghost use Rattle.rules.specs.Settings.{document01};
 ghost use Rattle.rules.specs.Columns.{columnsOf};
 ghost use Rattle.rules.specs.Circuit.{gatesIn, testsIn};
-ghost use Rattle.rules.specs.Judging.{through, folded};
-ghost use Rattle.rules.specs.Walk.{walkLefts, walkRights, walkTests};
-ghost use Rattle.snip.specs.Sides.{Inverses};
-ghost use Rattle.snip.specs.Judged.{judgedOf, inputsOf, Share};
+ghost use Rattle.rules.specs.Judging.{folded};
+ghost use Rattle.rules.specs.Walk.{walkLefts, walkTests};
+ghost use Rattle.snip.specs.Judged.{judgedOf, inputsOf, inputsFrom, Share};
 ghost use Rattle.walk.specs.Walks.{held, plain, members, outputs, Entries, Outputs};
+use interpolation::Fraction;
 use sheet::Counts;
 
-// The values of f at the points 0, 1, ..: the member at `first`, then the left inputs.
-fn fill_f(sheet: &[u8], x: &[u32], first: usize, out: &mut [u32])
-    requires { ⌜ Entries (now sheet) (now x) × (first < length (now x)) × (length (now out) ≡ suc (gatesIn (columnsOf (now sheet)))) ⌝ }
-    ensures { λ _. ⌜ now (out .exit) ≡ members (now (x .entry)) first
-        ∷ walkLefts document01 (plain 0 (members (now (x .entry)))) 0 (columnsOf (now (sheet .entry))) ⌝ }
-{
-    out[0] = x[first];
-    walk::fill_lefts(sheet, x, &mut out[1..]);
+// f and g at r.
+pub struct Inputs {
+    pub f: u32,
+    pub g: u32,
 }
 
-// The values of g at the points 0, 1, ..: the member at `first`, then the right inputs.
-fn fill_g(sheet: &[u8], x: &[u32], first: usize, constant: u32, out: &mut [u32])
-    requires { ⌜ Entries (now sheet) (now x) × (first < length (now x)) × (length (now out) ≡ suc (gatesIn (columnsOf (now sheet)))) ⌝ }
-    requires { ⌜ constant < prime ⌝ }
-    ensures { λ _. ⌜ now (out .exit) ≡ members (now (x .entry)) first
-        ∷ walkRights document01 (plain constant (members (now (x .entry)))) 0 (columnsOf (now (sheet .entry))) ⌝ }
-{
-    out[0] = x[first];
-    walk::fill_rights(sheet, x, constant, &mut out[1..]);
+// d, e, r h(r) and tau of one server.
+pub struct Judged {
+    pub d: u32,
+    pub e: u32,
+    pub rh: u32,
+    pub tau: u32,
 }
 
-// f at the point of the weights.
-fn f_at(sheet: &[u8], x: &[u32], first: usize, weights: &[u32]) -> u32
-    requires { ⌜ Entries (now sheet) (now x) × (first < length (now x))
-        × (length (now weights) ≡ suc (gatesIn (columnsOf (now sheet)))) × (length (now weights) ≤ 257) ⌝ }
-    ensures { λ r. ⌜ r ≡ inner residues (length (now (weights .entry)))
-        (through residues (members (now (x .entry)) first)
-        (walkLefts document01 (plain 0 (members (now (x .entry)))) 0 (columnsOf (now (sheet .entry)))))
-        (members (now (weights .entry))) ⌝ }
+// The sum of the left inputs times their weights, over r - 1, r - 2, ..
+fn lefts_sum(sheet: &[u8], x: &[u32], weights: &[u32], r: u32) -> Fraction
+    requires { ⌜ Entries (now sheet) (now x) × Elements (now weights) × (r < prime)
+        × (length (now weights) ≡ gatesIn (columnsOf (now sheet))) × (length (now weights) ≤ 256) ⌝ }
+    ensures { λ q. ⌜ (q ≡ sumOf (walkLefts document01 (plain 0 (members (now (x .entry)))) 0 (columnsOf (now (sheet .entry))))
+        (now (weights .entry)) 1 r (gatesIn (columnsOf (now (sheet .entry))))) × Element q ⌝ }
 {
-    let mut points = [0u32; 257];
-    let n = weights.len();
-    fill_f(sheet, x, first, &mut points[..n]);
-    field::inner(&points[..n], weights)
+    let mut lefts = [0u32; 256];
+    let m = weights.len();
+    walk::fill_lefts(sheet, x, &mut lefts[..m]);
+    interpolation::sum(&lefts[..m], weights, 1, r)
 }
 
-// g at the point of the weights.
-fn g_at(sheet: &[u8], x: &[u32], first: usize, constant: u32, weights: &[u32]) -> u32
-    requires { ⌜ Entries (now sheet) (now x) × (first < length (now x))
-        × (length (now weights) ≡ suc (gatesIn (columnsOf (now sheet)))) × (length (now weights) ≤ 257) ⌝ }
-    requires { ⌜ constant < prime ⌝ }
-    ensures { λ r. ⌜ r ≡ inner residues (length (now (weights .entry)))
-        (through residues (members (now (x .entry)) first)
-        (walkRights document01 (plain constant (members (now (x .entry)))) 0 (columnsOf (now (sheet .entry)))))
-        (members (now (weights .entry))) ⌝ }
+// f and g at r from their values f0 and g0 at 0, where `first` is the basis of the point 0 and `rest` the part of f of the
+// other points. There the right inputs are the left ones and the constant.
+fn inputs_from(f0: u32, g0: u32, first: u32, rest: u32, constant: u32) -> Inputs
+    requires { ⌜ (f0 < prime) × (g0 < prime) × (first < prime) × (rest < prime) × (constant < prime) ⌝ }
+    ensures { λ q. ⌜ q ≡ inputsFrom f0 g0 first rest constant ⌝ }
 {
-    let mut points = [0u32; 257];
-    let n = weights.len();
-    fill_g(sheet, x, first, constant, &mut points[..n]);
-    field::inner(&points[..n], weights)
+    Inputs {
+        f: field::mul_add(first, f0, rest),
+        g: field::mul_add(first, field::sub(g0, constant), field::add(rest, constant)),
+    }
+}
+
+// The same as `inputs_at`, with the weights of the points 0, 1, .. lent.
+fn inputs_with(sheet: &[u8], x: &[u32], l: usize, weights: &[u32], constant: u32, r: u32) -> Inputs
+    requires { ⌜ Entries (now sheet) (now x) × (l + 1 < length (now x)) × (gatesIn (columnsOf (now sheet)) ≤ 256)
+        × (constant < prime) × (r < prime) ⌝ }
+    requires { ⌜ now weights
+        ≡ tabulate (weight residues (gatesIn (columnsOf (now sheet)))) (suc (gatesIn (columnsOf (now sheet)))) ⌝ }
+    ensures { λ q. ⌜ q ≡ inputsOf (columnsOf (now (sheet .entry))) l constant (now (x .entry)) r ⌝ }
+{
+    let q = lefts_sum(sheet, x, &weights[1..], r);
+    let first = field::mul(weights[0], q.under);
+    inputs_from(x[l], x[l + 1], first, field::mul(r, q.over), constant)
+}
+
+// f and g at r, from a share with l entries and m multiplications; f(0) stands behind the entries, then g(0).
+fn inputs_at(sheet: &[u8], x: &[u32], l: usize, m: usize, constant: u32, r: u32) -> Inputs
+    requires { ⌜ Entries (now sheet) (now x) × (l + 1 < length (now x)) × (m ≡ gatesIn (columnsOf (now sheet))) × (m ≤ 256)
+        × (constant < prime) × (r < prime) ⌝ }
+    ensures { λ q. ⌜ q ≡ inputsOf (columnsOf (now (sheet .entry))) l constant (now (x .entry)) r ⌝ }
+{
+    let mut weights = [0u32; 257];
+    let points = m + 1;
+    quotients::fill_weights(&mut weights[..points]);
+    inputs_with(sheet, x, l, &weights[..points], constant, r)
 }
 
 // The polynomial through the members of y at the points 0, 1, .., at r.
-fn interpolated(y: &[u32], r: u32, inverses: &[u32]) -> u32
-    requires { ⌜ Inverses r (length (now y)) (now inverses) × (0 < length (now y)) × (length (now y) ≤ 513) ⌝ }
+fn interpolated(y: &[u32], r: u32) -> u32
+    requires { ⌜ Elements (now y) × (r < prime) × (0 < length (now y)) × (length (now y) ≤ 513) ⌝ }
     ensures { λ q. ⌜ q ≡ interpolate residues (length (now (y .entry)) - 1) (members (now (y .entry))) r ⌝ }
 {
     let mut weights = [0u32; 513];
     let n = y.len();
-    crate::fill_basis(r, inverses, &mut weights[..n]);
-    field::inner(y, &weights[..n])
+    quotients::fill_weights(&mut weights[..n]);
+    interpolation::sum(y, &weights[..n], 0, r).over
 }
 
 // The sum of s^k times test k, of which there are `tests`.
@@ -93,62 +105,18 @@ fn tau_of(sheet: &[u8], x: &[u32], l: usize, constant: u32, tests: usize, s: u32
     field::inner(&powers[..tests], &values[..tests])
 }
 
-// f and g at r.
-pub struct Inputs {
-    pub f: u32,
-    pub g: u32,
-}
-
-// d, e, r h(r) and tau of one server.
-pub struct Judged {
-    pub d: u32,
-    pub e: u32,
-    pub rh: u32,
-    pub tau: u32,
-}
-
-// f and g at r, from a share with l entries; f(0) stands behind these, then g(0). There are n points.
-fn inputs_at(
-    sheet: &[u8],
-    x: &[u32],
-    l: usize,
-    n: usize,
-    constant: u32,
-    r: u32,
-    inverses: &[u32],
-) -> Inputs
-    requires { ⌜ Entries (now sheet) (now x) × (l + 1 < length (now x)) × (n ≡ suc (gatesIn (columnsOf (now sheet)))) × (n ≤ 257) ⌝ }
-    requires { ⌜ Inverses r n (now inverses) × (constant < prime) ⌝ }
-    ensures { λ q. ⌜ q ≡ inputsOf (columnsOf (now (sheet .entry))) l constant (now (x .entry)) r ⌝ }
-{
-    let mut weights = [0u32; 257];
-    crate::fill_basis(r, inverses, &mut weights[..n]);
-    let f = f_at(sheet, x, l, &weights[..n]);
-    let g = g_at(sheet, x, l + 1, constant, &weights[..n]);
-    Inputs { f: f, g: g }
-}
-
-// The same as `judge`, with the inverses lent.
-fn judge_with(
-    sheet: &[u8],
-    counts: Counts,
-    own: u32,
-    x: &[u32],
-    r: u32,
-    s: u32,
-    inverses: &[u32],
-) -> Judged
+// What server `own` works out from the share x, with the pair r, s.
+pub fn judge(sheet: &[u8], counts: Counts, own: u32, x: &[u32], r: u32, s: u32) -> Judged
     requires { ⌜ Share (now sheet) counts (now x) r s ⌝ }
-    requires { ⌜ Inverses r (suc (gatesIn (columnsOf (now sheet)) + gatesIn (columnsOf (now sheet)))) (now inverses) ⌝ }
     ensures { λ q. ⌜ q ≡ judgedOf (columnsOf (now (sheet .entry))) own (now (x .entry)) r s ⌝ }
 {
     let l = counts.entries;
     let m = counts.gates;
     let constant = field::mul(crate::first_only(own), field::P - 1);
-    let at = inputs_at(sheet, x, l, m + 1, constant, r, inverses);
+    let at = inputs_at(sheet, x, l, m, constant, r);
     let first = l + 2;
     let last = l + 3 + (m + m);
-    let h = interpolated(&x[first..last], r, inverses);
+    let h = interpolated(&x[first..last], r);
     let tau = tau_of(sheet, x, l, constant, counts.tests, s);
     Judged {
         d: field::sub(at.f, x[last]),
@@ -156,15 +124,4 @@ fn judge_with(
         rh: field::mul(r, h),
         tau: tau,
     }
-}
-
-// What server `own` works out from the share x, with the pair r, s.
-pub fn judge(sheet: &[u8], counts: Counts, own: u32, x: &[u32], r: u32, s: u32) -> Judged
-    requires { ⌜ Share (now sheet) counts (now x) r s ⌝ }
-    ensures { λ q. ⌜ q ≡ judgedOf (columnsOf (now (sheet .entry))) own (now (x .entry)) r s ⌝ }
-{
-    let mut inverses = [0u32; 513];
-    let points = counts.gates + counts.gates + 1;
-    field::inverses(&mut inverses[..points]);
-    judge_with(sheet, counts, own, x, r, s, &inverses[..points])
 }

@@ -4,9 +4,11 @@ use mathlib.Core.Path.{_≡_, refl, sym, ap, ap₂, _∙_}
 use mathlib.Core.List.{List, [], _∷_, _++_, map, map-append}
 use Prim.Native.Nat.{ℕ, _+_, _<_}
 use native.Mathlib.Omega.{arith}
-use Rattle.algebra.specs.Lists.{tabulate}
+use Rattle.algebra.specs.Lists.{all[], all∷, tabulate}
+use Rattle.algebra.proofs.Members.{all-append}
 use Rattle.algebra.proofs.Tables.{map-tabulate}
-use Rattle.field.specs.Residues.{residues}
+use Rattle.field.specs.Residues.{residues, Elements}
+use Rattle.field.proofs.Below.{tabulate-below, member-below}
 use Rattle.rules.specs.Settings.{document01}
 use Rattle.rules.specs.Columns.{Column, entriesOf}
 use Rattle.rules.specs.Circuit.{gatesOf, gatesIn}
@@ -42,3 +44,11 @@ module _ (c : ℕ) (x : ℕ → ℕ) where
   right-shifted cs e j h =
       ap (λ (l : List ℕ). members l j) (rights-shifted cs e)
       ∙ getD-map plus (walkLefts document01 (plain 0 x) e cs) j (omega (arith, length-lefts document01 (plain 0 x) cs e))
+
+-- left inputs are elements where the entries are
+pub lefts-elements : (xs : List ℕ) → Elements xs → (cs : List Column) (e : ℕ)
+    → Elements (walkLefts document01 (plain 0 (members xs)) e cs)
+unfolding walkLefts columnLefts
+lefts-elements xs h [] e = all[]
+lefts-elements xs h (c ∷ cs) e =
+    all-append (tabulate-below _ (gatesOf c) (λ i. member-below xs _ h)) (lefts-elements xs h cs (e + entriesOf c))

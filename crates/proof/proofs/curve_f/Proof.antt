@@ -4,9 +4,10 @@ use Prim.Native.Nat.{ℕ, _<_}
 use native.Mathlib.Omega.{arith}
 use lib.ListN.{length}
 use Rattle.field.specs.Residues.{Elements}
-use Rattle.snip.specs.Factorials.{Tables}
+use Rattle.proof.specs.Curves.{Weights}
 use Rattle.proof.proofs.CurveValues.{scaled-from}
 use Rattle.proof.proofs.Inputs.{f-elements}
+use Rattle.proof.proofs.Weighted.{last-point}
 use borrow.Author.Needs.{needs}
 use Rattle.proof.proofs.curve_f.Statement.{statement}
 use Rattle.proof.proofs.curve_f.Tie as tie
@@ -20,7 +21,7 @@ scale-requires c κs =
     let w = c .before .before .before .before .fill-f in
     let some : 0 < length (s .args .fs .now) = omega (arith, s .pre .1 .1, s .pre .0 .2) in (
       (
-        subst (λ (k : ℕ). Tables 0 k (s .args .factorials .now)) (sym (s .pre .1 .1)) (s .pre .1 .0),
+        subst (λ (k : ℕ). Weights k (s .args .weights .now)) (last-point (s .pre .1 .1 ∙ s .pre .0 .2)) (s .pre .1 .0),
         subst Elements (sym (w .ensures)) (f-elements (s .args .x .now) _ (s .pre .0 .1) (s .pre .0 .0 .elements)),
       ),
       (w .kept .1 .1 .1 .0 ∙ sym (s .pre .1 .1), some),

@@ -1,7 +1,7 @@
 -- `proof::fill_f` meets its contract: one store, and the inputs behind it. Assumes nothing.
 use native.Mathlib.Omega.{arith}
 use lib.ListN.{length-set}
-use Rattle.snip.proofs.Parts.{behind-first, length-behind, first-kept}
+use Rattle.proof.proofs.Behind.{behind-first, length-behind, first-kept}
 use borrow.Author.Needs.{needs}
 use Rattle.proof.proofs.fill_f.Statement.{statement}
 use Rattle.proof.proofs.fill_f.Tie as tie

@@ -1,11 +1,10 @@
 -- `proof::fill_h` meets its contract: with the tables that it makes. Assumes nothing.
 use mathlib.Core.Path.{sym, _∙_, subst}
-use Prim.Native.Nat.{ℕ, suc}
+use Prim.Native.Nat.{ℕ}
 use native.Mathlib.Omega.{arith}
 use lib.ListN.{length-append}
 use lib.Seq.{length-take-le, take-at}
-use Rattle.snip.specs.Factorials.{Tables}
-use Rattle.proof.specs.Curves.{Ready}
+use Rattle.proof.specs.Curves.{Weights, Ready}
 use Rattle.proof.proofs.HRoom.{room, most, one-more, doubled, odd}
 use borrow.Author.Needs.{needs}
 use Rattle.proof.proofs.fill_h.Statement.{statement}
@@ -17,8 +16,8 @@ add-points c = search needs
 add-twice : tie.Need-add-twice
 add-twice c = search needs
 
-array-borrow-prefix-factorials : tie.Need-array-borrow-prefix-factorials
-array-borrow-prefix-factorials c =
+array-borrow-prefix-weights : tie.Need-array-borrow-prefix-weights
+array-borrow-prefix-weights c =
     let s = c .before .before .before in
     let r = room (s .pre .0 .0) (s .pre .1) in
     r .some-more
@@ -60,8 +59,8 @@ fill-tables-requires c κs =
     let n = length-take-le _ _ (r .few) in
     (most n (r .few), one-more (length-take-le _ _ (r .some-more)) n, doubled (length-take-le _ _ (r .twice)) n)
 
-array-share-prefix-factorials : tie.Need-array-share-prefix-factorials
-array-share-prefix-factorials c =
+array-share-prefix-weights : tie.Need-array-share-prefix-weights
+array-share-prefix-weights c =
     let s = c .before .before .before .before .before .before .before .before .before .before in
     let r = room (s .pre .0 .0) (s .pre .1) in
     let t = c .before .before .before .fill-tables in
@@ -116,7 +115,7 @@ fill-with-requires c κs =
     rw (take-at (t .last .0) _ _ a, take-at (t .last .1 .0) _ _ l, take-at (t .last .1 .1 .0) _ _ b) (
       (s .pre .0 .0, s .pre .0 .1, s .pre .0 .2, l ∙ r .half),
       (
-        subst (λ (k : ℕ). Tables 0 (suc k) (t .last .0)) (sym (t .kept .1 .0)) (t .ensures .0),
+        subst (λ (k : ℕ). Weights k (t .last .0)) (sym (t .kept .1 .0)) (t .ensures .0),
         subst (λ (k : ℕ). Ready k (t .last .1 .0) (t .last .1 .1 .0)) (sym (t .kept .1 .0)) (t .ensures .1),
         odd (s .pre .1) (l ∙ r .half),
       ),
@@ -134,14 +133,14 @@ fill-h-spec =
     (tie.spec
     add-points
     add-twice
-    array-borrow-prefix-factorials
+    array-borrow-prefix-weights
     slice-aggregate-fill-tables
     array-borrow-prefix-falls
     slice-aggregate-fill-tables-2
     array-borrow-prefix-back
     slice-aggregate-fill-tables-3
     fill-tables-requires
-    array-share-prefix-factorials
+    array-share-prefix-weights
     slice-aggregate-fill-with
     array-share-prefix-falls
     slice-aggregate-fill-with-2

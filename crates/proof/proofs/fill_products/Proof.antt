@@ -6,7 +6,7 @@ use native.Mathlib.Omega.{arith}
 use lib.Dec.{lit<}
 use lib.ListN.{length}
 use Rattle.field.specs.Residues.{residues}
-use Rattle.snip.proofs.Points.{interpolate-below}
+use Rattle.interpolation.proofs.Through.{interpolate-below}
 use Rattle.walk.proofs.Filling.{Filling, start, turn, finish}
 use Rattle.proof.specs.Curves.{valueAt, shiftAt}
 use Rattle.proof.proofs.Shifts.{shift-below}

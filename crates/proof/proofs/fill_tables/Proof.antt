@@ -1,14 +1,13 @@
--- `proof::fill_tables` meets its contract: the inverses and the inverses of factorials are those of quotients' tables.
+-- `proof::fill_tables` meets its contract: the inverses and the weights are those that quotients fills.
 -- Assumes nothing.
 use mathlib.Core.Path.{_≡_, sym, ap, _∙_}
 use Prim.Native.Nat.{ℕ, suc, _+_, _-_, _≤_}
 use native.Mathlib.Omega.{arith}
-use lib.Dec.{lit<}
 use lib.ListN.{length, length-append}
 use lib.Seq.{length-take-le, take-at}
 use Rattle.algebra.specs.Lists.{tabulate}
 use Rattle.field.specs.Residues.{residues}
-use Rattle.quotients.specs.Factorials.{inverseFactorial}
+use Rattle.proof.proofs.Weighted.{weights-from}
 use borrow.Author.Needs.{needs}
 use Rattle.proof.proofs.fill_tables.Statement.{statement}
 use Rattle.proof.proofs.fill_tables.Tie as tie
@@ -43,10 +42,10 @@ are : (c : tie.After-fill-inverses)
     → c .fill-inverses .last .0 ≡ tabulate (λ i. residues .inv (suc i)) (length (c .fill-inverses .last .0))
 are c = c .fill-inverses .ensures ∙ ap (tabulate (λ (i : ℕ). residues .inv (suc i))) (sym (c .fill-inverses .kept .0))
 
-fill-inverse-factorials-requires : tie.Need-fill-inverse-factorials-requires
-fill-inverse-factorials-requires c κs =
+fill-weights-requires : tie.Need-fill-weights-requires
+fill-weights-requires c κs =
     let s = c .before .before .before .before .before .before .before in
-    omega (arith, s .pre .0, s .pre .1)
+    (omega (arith, s .pre .1), omega (arith, s .pre .0, s .pre .1))
 
 array-share-prefix-inverses : tie.Need-array-share-prefix-inverses
 array-share-prefix-inverses c =
@@ -91,14 +90,8 @@ same-length-3 c = search needs
 returns : tie.Need-returns
 returns c =
     let q = c .before .before .before .before .before .before .before .before .before .before .before .before in
-    let fs = q .fill-inverse-factorials in
     let s = q .before .before .before .before .before .before .before .before in (
-      record {
-        element = lit< tt;
-        enough = omega (arith, fs .kept .0, s .pre .1);
-        few = omega (arith, fs .kept .0, s .pre .1, s .pre .0);
-        are = fs .ensures ∙ ap (tabulate inverseFactorial) (sym (fs .kept .0));
-      },
+      weights-from _ _ (s .pre .1) (q .fill-weights .ensures),
       record {
         few = s .pre .0;
         falls-are = c .before .before .fill-falls .ensures;
@@ -115,7 +108,7 @@ fill-tables-spec =
     array-borrow-prefix-inverses
     slice-aggregate-fill-inverses
     fill-inverses-requires
-    fill-inverse-factorials-requires
+    fill-weights-requires
     array-share-prefix-inverses
     slice-aggregate-fill-back
     fill-back-requires

@@ -1,17 +1,16 @@
 -- `proof::fill_with` meets its contract: f by its values, g by its difference from f, then the products. Assumes nothing.
-use mathlib.Core.Path.{_≡_, sym, _∙_, subst}
+use mathlib.Core.Path.{_≡_, sym, ap, _∙_, subst}
 use Prim.Native.Nat.{ℕ, suc, _+_, _≤_}
 use native.Mathlib.Nat.{mod-lt}
-use native.Mathlib.Numerals.{add-one}
 use native.Mathlib.Omega.{arith}
 use lib.Dec.{lit<}
 use lib.ListN.{length, length-append}
 use lib.Seq.{length-take-le, take-at}
 use Rattle.rules.specs.Columns.{columnsOf}
 use Rattle.rules.specs.Circuit.{gatesIn}
-use Rattle.snip.specs.Factorials.{Tables}
-use Rattle.proof.specs.Curves.{Curve}
+use Rattle.proof.specs.Curves.{scaledShift, Weights, Curve}
 use Rattle.proof.proofs.Inputs.{h-from}
+use Rattle.proof.proofs.Weighted.{last-point, weights-long}
 use borrow.Author.Needs.{needs}
 use Rattle.proof.proofs.fill_with.Statement.{statement}
 use Rattle.proof.proofs.fill_with.Tie as tie
@@ -46,7 +45,7 @@ curve-f-requires c κs =
     let one : length (s .args .falls .now) + 1 ≡ suc (gatesIn (columnsOf (s .args .sheet .now))) = omega (arith, s .pre .0 .3) in
     let n = length-take-le _ _ few in (
       (s .pre .0 .0, s .pre .0 .1, n ∙ one),
-      (subst (λ (k : ℕ). Tables 0 k (s .args .factorials .now)) (sym (n ∙ add-one _)) (s .pre .1 .0), n ∙ sym n),
+      (subst (λ (k : ℕ). Weights k (s .args .weights .now)) (s .pre .0 .3) (s .pre .1 .0), n ∙ sym n),
     )
 
 sub-requires : tie.Need-sub-requires
@@ -55,7 +54,11 @@ sub-requires c κs = search needs
 scaled-shift-requires : tie.Need-scaled-shift-requires
 scaled-shift-requires c κs =
     let s = c .before .before .before .before .before .before .before .before .before .before .before .before in
-    (s .pre .1 .0, rw (c .sub .ensures) (mod-lt _ (lit< tt)))
+    let many = weights-long (s .pre .1 .0) in (
+      subst (λ (k : ℕ). Weights k (s .args .weights .now)) (last-point many) (s .pre .1 .0),
+      omega (arith, many),
+      rw (c .sub .ensures) (mod-lt _ (lit< tt)),
+    )
 
 array-share-prefix-f : tie.Need-array-share-prefix-f
 array-share-prefix-f c =
@@ -109,7 +112,9 @@ fill-products-requires c κs =
       (
         subst (λ (k : ℕ). Curve k (f .last .1 .1 .1 .1 .0) (f .last .1 .1 .1 .1 .1 .0)) (sym (s .pre .0 .3)) (f .ensures .1),
         rw (c .before .before .before .before .sub .ensures) (mod-lt _ (lit< tt)),
-        c .before .before .before .scaled-shift .ensures,
+        c .before .before .before .scaled-shift .ensures
+            ∙ ap (λ (k : ℕ). scaledShift k (c .before .before .before .before .sub .result))
+            (sym (last-point (weights-long (s .pre .1 .0)))),
       ),
       (s .pre .1 .1, omega (arith, s .pre .1 .2)),
     )

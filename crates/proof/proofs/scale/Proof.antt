@@ -1,27 +1,23 @@
 -- `proof::scale` meets its contract: its loop fills the buffer by the rule of its products. Assumes nothing.
-use mathlib.Core.Path.{_≡_, ap, _∙_, subst}
-use Prim.Native.Nat.{ℕ, suc, _-_}
+use mathlib.Core.Path.{ap, _∙_}
+use Prim.Native.Nat.{_-_}
 use native.Mathlib.Omega.{arith}
 use lib.ListN.{length}
 use Rattle.field.specs.Residues.{residues}
 use Rattle.field.proofs.Below.{member-below}
-use Rattle.snip.specs.Factorials.{Tables}
 use Rattle.walk.specs.Walks.{members}
 use Rattle.walk.proofs.Filling.{Filling, start, turn, finish}
 use Rattle.proof.specs.Curves.{scaledAt}
-use Rattle.proof.proofs.Extrapolation.{weight-below}
+use Rattle.proof.proofs.Weighted.{weights-long, weight-at, weight-low}
 use borrow.Author.Needs.{needs}
 use Rattle.proof.proofs.scale.Statement.{statement}
 use Rattle.proof.proofs.scale.Tie as tie
 
 abbrev Inv-loop : tie.InvT-loop
-Inv-loop y factorials out₀ n j₀ out j = Filling (scaledAt (length out₀ - 1) y) out₀ out j
+Inv-loop y weights out₀ j₀ out j = Filling (scaledAt (length out₀ - 1) y) out₀ out j
 
 abbrev μ-loop : tie.MeasureT-loop
-μ-loop y factorials out₀ n j₀ out j = length out₀ - j
-
-sub-n : tie.Need-sub-n Inv-loop μ-loop
-sub-n c = search needs
+μ-loop y weights out₀ j₀ out j = length out₀ - j
 
 loop-holds : tie.Need-loop-holds Inv-loop μ-loop
 loop-holds c = start _ _
@@ -32,16 +28,20 @@ mul-mul c = search needs
 shared-slice-read-mul : tie.Need-shared-slice-read-mul Inv-loop μ-loop
 shared-slice-read-mul c = search needs
 
-weight-requires : tie.Need-weight-requires Inv-loop μ-loop
-weight-requires c κs =
+mul-mul-2 : tie.Need-mul-mul-2 Inv-loop μ-loop
+mul-mul-2 c =
     let s = c .before .before .before .before .before .before in
-    let e : length (s .args .out .now) ≡ suc (length (s .args .out .now) - 1) = omega (arith, s .pre .1 .1) in
-    (subst (λ (k : ℕ). Tables 0 k (s .args .factorials .now)) e (s .pre .0 .0), omega (arith, c .before .before .loop .inv .same))
+    omega (arith, weights-long (s .pre .0 .0), c .before .before .loop .inv .same)
+
+shared-slice-read-mul-2 : tie.Need-shared-slice-read-mul-2 Inv-loop μ-loop
+shared-slice-read-mul-2 c =
+    let s = c .before .before .before .before .before .before .before in
+    omega (arith, weights-long (s .pre .0 .0), c .before .before .before .loop .inv .same)
 
 mul-requires : tie.Need-mul-requires Inv-loop μ-loop
 mul-requires c κs =
     let s = c .before .before .before .before .before .before .before in
-    (member-below _ _ (s .pre .0 .1), rw (c .weight .ensures) (weight-below _ _))
+    (member-below _ _ (s .pre .0 .1), weight-low (s .pre .0 .0) _)
 
 mul-out : tie.Need-mul-out Inv-loop μ-loop
 mul-out c = search needs
@@ -60,7 +60,9 @@ loop-again c =
     let l = c .before .before .before .before .loop in
     let s = c .before .before .before .before .before .before .before .before in
     turn _ (c .mul .result) (l .inv) (omega (arith, l .inv .same))
-    (c .mul .ensures ∙ ap (residues ._⊗_ (members (s .args .y .now) (l .j))) (c .before .weight .ensures))
+    (c .mul .ensures
+    ∙ ap (residues ._⊗_ (members (s .args .y .now) (l .j)))
+    (weight-at (s .pre .0 .0) (l .j) (omega (arith, l .inv .same))))
 
 same-length : tie.Need-same-length Inv-loop μ-loop
 same-length c = omega (arith, c .before .loop .inv .same)
@@ -74,11 +76,11 @@ scale-spec =
     (tie.spec
     Inv-loop
     μ-loop
-    sub-n
     loop-holds
     mul-mul
     shared-slice-read-mul
-    weight-requires
+    mul-mul-2
+    shared-slice-read-mul-2
     mul-requires
     mul-out
     slice-write-out

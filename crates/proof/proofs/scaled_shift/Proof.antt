@@ -1,9 +1,10 @@
 -- `proof::scaled_shift` meets its contract: a difference times a weight. Assumes nothing.
 use mathlib.Core.Path.{ap₂, _∙_}
 use native.Mathlib.Nat.{mod-lt}
+use native.Mathlib.Omega.{arith}
 use lib.Dec.{lit<}
 use Rattle.field.specs.Residues.{residues}
-use Rattle.proof.proofs.Extrapolation.{weight-below}
+use Rattle.proof.proofs.Weighted.{weight-at, weight-low}
 use borrow.Author.Needs.{needs}
 use Rattle.proof.proofs.scaled_shift.Statement.{statement}
 use Rattle.proof.proofs.scaled_shift.Tie as tie
@@ -14,15 +15,18 @@ sub-sub c = search needs
 sub-requires : tie.Need-sub-requires
 sub-requires c κs = search needs
 
-weight-requires : tie.Need-weight-requires
-weight-requires c κs = search needs
+shared-slice-read-mul : tie.Need-shared-slice-read-mul
+shared-slice-read-mul c = search needs
 
 mul-requires : tie.Need-mul-requires
 mul-requires c κs =
-    (rw (c .before .sub .ensures) (mod-lt _ (lit< tt)), rw (c .weight .ensures) (weight-below _ _))
+    let s = c .before .before .before in
+    (rw (c .before .sub .ensures) (mod-lt _ (lit< tt)), weight-low (s .pre .0) 0)
 
 returns : tie.Need-returns
-returns c = c .mul .ensures ∙ ap₂ (residues ._⊗_) (c .before .before .sub .ensures) (c .before .weight .ensures)
+returns c =
+    let s = c .before .before .before .before in
+    c .mul .ensures ∙ ap₂ (residues ._⊗_) (c .before .before .sub .ensures) (weight-at (s .pre .0) 0 (omega arith))
 
 pub scaled-shift-spec : {M : Type 1} → statement M
-scaled-shift-spec = tie.close (tie.spec sub-sub sub-requires weight-requires mul-requires returns)
+scaled-shift-spec = tie.close (tie.spec sub-sub sub-requires shared-slice-read-mul mul-requires returns)

@@ -1,109 +1,76 @@
--- `snip::judging::inputs_at` meets its contract: the two inner products with the basis at r. Assumes nothing.
-use mathlib.Core.Path.{_≡_, sym, ap, ap₂, _∙_, subst}
-use Prim.Native.Nat.{ℕ, _<_, _≤_}
-use native.Mathlib.Omega.{arith}
-use lib.ListN.{length, length-append}
-use lib.Seq.{length-take-le, take-at}
-use Rattle.snip.specs.declared.judging.Inputs.{Inputs}
-use Rattle.snip.specs.Sides.{Inverses}
-use Rattle.snip.proofs.Points.{inner-at}
+-- `snip::judging::inputs_at` meets its contract: with the weights that it makes. Assumes nothing.
 use borrow.Author.Needs.{needs}
+use mathlib.Core.Path.{_≡_, sym, ap, ap₂, _∙_}
+use Prim.Native.Nat.{ℕ, suc, _+_, _-_, _<_, _≤_}
+use native.Mathlib.Omega.{arith}
+use lib.ListN.{length-append}
+use lib.Seq.{length-take-le, take-at}
+use Rattle.algebra.specs.Lists.{tabulate}
+use Rattle.algebra.specs.Interpolation.{weight}
+use Rattle.field.specs.Residues.{residues}
 use Rattle.snip.proofs.judging.inputs_at.Statement.{statement}
 use Rattle.snip.proofs.judging.inputs_at.Tie as tie
 
-abbrev pair : ℕ → ℕ → Inputs
-pair u v = record { f = u; g = v }
+-- one point more than multiplications
+few : {m : ℕ} → m ≤ 256 → m + 1 ≤ 257
+few h = omega arith
+
+points : {a m : ℕ} → a ≡ m + 1 → m ≤ 256 → (0 < a) × (a ≤ 513)
+points e h = (omega arith, omega arith)
+
+table : {a m k : ℕ} → a ≡ m + 1 → m ≡ k → tabulate (weight residues (a - 1)) a ≡ tabulate (weight residues k) (suc k)
+table {a} {m} {k} e q =
+    let n : a - 1 ≡ k = omega arith in
+    let l : a ≡ suc k = omega arith in
+    ap₂ (λ (i j : ℕ). tabulate (weight residues i) j) n l
+
+add-points : tie.Need-add-points
+add-points c = search needs
 
 array-borrow-prefix-weights : tie.Need-array-borrow-prefix-weights
 array-borrow-prefix-weights c = search needs
 
-slice-aggregate-fill-basis : tie.Need-slice-aggregate-fill-basis
-slice-aggregate-fill-basis c = sym (length-take-le _ _ (c .before .before .before .before .pre .0 .3))
+slice-aggregate-fill-weights : tie.Need-slice-aggregate-fill-weights
+slice-aggregate-fill-weights c = sym (length-take-le _ _ (few (c .before .before .before .pre .3)))
 
-fill-basis-requires : tie.Need-fill-basis-requires
-fill-basis-requires c κs =
-    let s = c .before .before .before .before in
-    let n = length-take-le _ _ (s .pre .0 .3) in
-    (subst (λ (k : ℕ). Inverses (s .args .r) k (s .args .inverses .now)) (sym n) (s .pre .1 .0), omega (arith, n, s .pre .0 .3))
+fill-weights-requires : tie.Need-fill-weights-requires
+fill-weights-requires c κs =
+    let s = c .before .before .before in
+    points (length-take-le _ _ (few (s .pre .3))) (s .pre .3)
 
 array-share-prefix-weights : tie.Need-array-share-prefix-weights
 array-share-prefix-weights c =
+    let l = c .before .fill-weights .kept .0 ∙ length-take-le _ _ (few (c .before .before .before .before .before .pre .3)) in
+    rw (length-append, l) (omega arith)
+
+slice-aggregate-inputs-with : tie.Need-slice-aggregate-inputs-with
+slice-aggregate-inputs-with c =
+    let l = c .before .before .fill-weights .kept .0 ∙ length-take-le _ _ (few (c .before .before .before .before .before .before .pre .3)) in
+    rw (take-at _ _ _ l) (sym l)
+
+inputs-with-requires : tie.Need-inputs-with-requires
+inputs-with-requires c κs =
     let s = c .before .before .before .before .before .before in
-    let n = length-take-le _ _ (s .pre .0 .3) in
-    let w = c .before .fill-basis in
-    let l = w .kept .1 .1 .0 ∙ n in
-    rw (length-append, l) (omega arith)
-
-slice-aggregate-f-at : tie.Need-slice-aggregate-f-at
-slice-aggregate-f-at c =
-    let s = c .before .before .before .before .before .before .before in
-    let n = length-take-le _ _ (s .pre .0 .3) in
-    let w = c .before .before .fill-basis in
-    let l = w .kept .1 .1 .0 ∙ n in
-    rw (take-at _ _ _ l) (sym l)
-
-f-at-requires : tie.Need-f-at-requires
-f-at-requires c κs =
-    let s = c .before .before .before .before .before .before .before in
-    let n = length-take-le _ _ (s .pre .0 .3) in
-    let w = c .before .before .fill-basis in
-    let l = w .kept .1 .1 .0 ∙ n in
-    let fits : s .args .l < length (s .args .x .now) = omega (arith, s .pre .0 .1) in
-    rw (take-at _ _ _ l) (s .pre .0 .0, fits, l ∙ s .pre .0 .2, omega (arith, l, s .pre .0 .3))
-
-add-g-at : tie.Need-add-g-at
-add-g-at c = search needs
-
-array-share-prefix-weights-2 : tie.Need-array-share-prefix-weights-2
-array-share-prefix-weights-2 c =
-    let s = c .before .before .before .before .before .before .before .before in
-    let n = length-take-le _ _ (s .pre .0 .3) in
-    let w = c .before .before .before .fill-basis in
-    let l = w .kept .1 .1 .0 ∙ n in
-    rw (length-append, l) (omega arith)
-
-slice-aggregate-g-at : tie.Need-slice-aggregate-g-at
-slice-aggregate-g-at c =
-    let s = c .before .before .before .before .before .before .before .before .before in
-    let n = length-take-le _ _ (s .pre .0 .3) in
-    let w = c .before .before .before .before .fill-basis in
-    let l = w .kept .1 .1 .0 ∙ n in
-    rw (take-at _ _ _ l) (sym l)
-
-g-at-requires : tie.Need-g-at-requires
-g-at-requires c κs =
-    let s = c .before .before .before .before .before .before .before .before .before in
-    let n = length-take-le _ _ (s .pre .0 .3) in
-    let w = c .before .before .before .before .fill-basis in
-    let l = w .kept .1 .1 .0 ∙ n in
-    rw (take-at _ _ _ l)
-    ((s .pre .0 .0, s .pre .0 .1, l ∙ s .pre .0 .2, omega (arith, l, s .pre .0 .3)), s .pre .1 .1)
+    let w = c .before .before .fill-weights in
+    let n = length-take-le _ _ (few (s .pre .3)) in
+    let l = w .kept .0 ∙ n in
+    rw (take-at _ _ _ l) (
+      (s .pre .0, s .pre .1, omega (arith, s .pre .2, s .pre .3), s .pre .4, s .pre .5),
+      w .ensures ∙ table n (s .pre .2),
+    )
 
 returns : tie.Need-returns
-returns c =
-    let s = c .before .before .before .before .before .before .before .before .before .before in
-    let n = length-take-le _ _ (s .pre .0 .3) in
-    let w = c .before .before .before .before .before .fill-basis in
-    let l = w .kept .1 .1 .0 ∙ n in
-    let q = n ∙ s .pre .0 .2 in
-    ap₂ (λ (u v : ℕ). pair u v)
-    (c .before .before .f-at .ensures
-    ∙ rw (take-at _ _ _ l) (inner-at (w .last .1 .1 .0) _ _ (s .args .r) _ (w .ensures) (w .kept .1 .1 .0) q))
-    (c .g-at .ensures
-    ∙ rw (take-at _ _ _ l) (inner-at (w .last .1 .1 .0) _ _ (s .args .r) _ (w .ensures) (w .kept .1 .1 .0) q))
+returns c = c .inputs-with .ensures
 
 pub inputs-at-spec : {M : Type 1} → statement M
 inputs-at-spec =
     tie.close
     (tie.spec
+    add-points
     array-borrow-prefix-weights
-    slice-aggregate-fill-basis
-    fill-basis-requires
+    slice-aggregate-fill-weights
+    fill-weights-requires
     array-share-prefix-weights
-    slice-aggregate-f-at
-    f-at-requires
-    add-g-at
-    array-share-prefix-weights-2
-    slice-aggregate-g-at
-    g-at-requires
+    slice-aggregate-inputs-with
+    inputs-with-requires
     returns)

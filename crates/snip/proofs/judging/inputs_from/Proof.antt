@@ -1,0 +1,33 @@
+-- `snip::judging::inputs_from` meets its contract: the two sums. Assumes nothing.
+use borrow.Author.Needs.{needs}
+use mathlib.Core.Path.{ap, ap₂, _∙_}
+use native.Mathlib.Nat.{mod-lt}
+use lib.Dec.{lit<}
+use Rattle.field.specs.Residues.{residues}
+use Rattle.snip.proofs.Curves.{inputs}
+use Rattle.snip.proofs.judging.inputs_from.Statement.{statement}
+use Rattle.snip.proofs.judging.inputs_from.Tie as tie
+
+mul-add-requires : tie.Need-mul-add-requires
+mul-add-requires c κs = search needs
+
+sub-requires : tie.Need-sub-requires
+sub-requires c κs = search needs
+
+add-requires : tie.Need-add-requires
+add-requires c κs = search needs
+
+mul-add-requires-2 : tie.Need-mul-add-requires-2
+mul-add-requires-2 c κs =
+    let s = c .before .before .before in
+    (s .pre .2, rw (c .before .sub .ensures) (mod-lt _ (lit< tt)), rw (c .add .ensures) (mod-lt _ (lit< tt)))
+
+returns : tie.Need-returns
+returns c =
+    let s = c .before .before .before .before in
+    inputs (c .before .before .before .mul-add .ensures)
+    (c .mul-add2 .ensures
+    ∙ ap₂ (λ d e. residues ._⊕_ (residues ._⊗_ (s .args .first) d) e) (c .before .before .sub .ensures) (c .before .add .ensures))
+
+pub inputs-from-spec : {M : Type 1} → statement M
+inputs-from-spec = tie.close (tie.spec mul-add-requires sub-requires add-requires mul-add-requires-2 returns)

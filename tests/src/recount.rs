@@ -7,11 +7,10 @@ use std::process::{Command, Stdio};
 use std::thread::sleep;
 use std::time::Duration;
 
-use second::gen::{Case, Exchange, Rng, Script};
+use second::gen::{Case, Exchange, Hex, Rng, Script};
 
 use crate::examples::example_totals;
 use crate::suite::Verdict;
-use crate::tell::Hex;
 
 /// The program: the one that POOL_RECOUNT names, or target/bin/recount below the current folder; `None` where there is
 /// none.

@@ -1,11 +1,12 @@
 //! Damaged tables. What a call does is told by the layout's rule; the limits are told here by hand as well.
 
+use second::gen::Hex;
+
 use crate::calls::{Call, Function};
 use crate::fixture::Fixture;
 use crate::layout::{put_short, put_word, sound, word, Table};
 use crate::reference::own_message;
 use crate::suite::{Suite, Verdict};
-use crate::tell::Hex;
 
 const P: u64 = 2_147_483_647;
 

@@ -2,19 +2,9 @@
 
 use std::fmt;
 
+use second::gen::Hex;
+
 use crate::calls::{Call, Function, Outcome};
-
-/// Bytes in hex; `-` for none.
-pub struct Hex<'a>(pub &'a [u8]);
-
-impl fmt::Display for Hex<'_> {
-    fn fmt(&self, f: &mut fmt::Formatter) -> fmt::Result {
-        if self.0.is_empty() {
-            return f.write_str("-");
-        }
-        self.0.iter().try_for_each(|byte| write!(f, "{byte:02x}"))
-    }
-}
 
 /// The function with its arguments by the header's names: numbers in decimal, bytes in hex, rooms as lengths.
 impl fmt::Display for Call {

@@ -7,6 +7,7 @@
 
 mod cases;
 mod circuits;
+mod hex;
 mod returns;
 mod rng;
 mod scripts;
@@ -14,6 +15,7 @@ mod sheets;
 
 pub use cases::{Case, CaseAnswer, Exchange};
 pub use circuits::{circuit, damaged_circuit};
+pub use hex::Hex;
 pub use returns::{added_up, lets_in, pair, Origin, Return};
 pub use rng::Rng;
 pub use scripts::{Answer, Call, Script, Server, Step};

@@ -4,7 +4,7 @@ use std::collections::BTreeMap;
 use std::fmt;
 
 use super::cases::{any_id, any_room, damage_closings, recount_input, Case, CaseAnswer, Exchange};
-use super::{added_up, pair, sheets, Origin, Return, Rng};
+use super::{added_up, pair, sheets, Hex, Origin, Return, Rng};
 use crate::fast;
 use crate::field::{self, P};
 use crate::joining::Joined;
@@ -718,18 +718,6 @@ impl Builder {
             joins,
             truth,
         }
-    }
-}
-
-/// Bytes in hex; `-` for none.
-struct Hex<'a>(&'a [u8]);
-
-impl fmt::Display for Hex<'_> {
-    fn fmt(&self, f: &mut fmt::Formatter) -> fmt::Result {
-        if self.0.is_empty() {
-            return f.write_str("-");
-        }
-        self.0.iter().try_for_each(|byte| write!(f, "{byte:02x}"))
     }
 }
 

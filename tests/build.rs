@@ -1,4 +1,4 @@
-//! Links libpool.a, from target/staticlib or from the folder that POOL_LIB names, and compiles the sizes of the header.
+//! Finds libpool.a, in target/staticlib or in the folder that POOL_LIB names, and compiles the sizes of the header.
 
 use std::env;
 use std::path::{Path, PathBuf};
@@ -34,5 +34,4 @@ fn main() {
     println!("cargo:rustc-link-search=native={}", out.display());
     println!("cargo:rustc-link-search=native={}", folder.display());
     println!("cargo:rustc-link-lib=static=sizes");
-    println!("cargo:rustc-link-lib=static=pool");
 }

@@ -1,76 +1,7 @@
 // The functions of libpool.a. A slice is passed as a pointer and a length. Each answers what it wrote or handed back,
 // or the number of the refusal.
-mod c {
-    #[link(name = "pool", kind = "static")]
-    extern "C" {
-        pub fn pool_read_sheet(s: *const u8, n: usize, c: *mut u32, e: *mut u32, m: *mut u32, p: *mut u32) -> u32;
-        pub fn pool_circuit(s: *const u8, n: usize, out: *mut u8, room: usize, written: *mut usize) -> u32;
-        pub fn pool_make(
-            sheet: *const u8,
-            sheet_len: usize,
-            servers: u32,
-            id: u32,
-            values: *const u8,
-            values_len: usize,
-            random: *const u8,
-            random_len: usize,
-            out: *mut u8,
-            room: usize,
-            written: *mut usize,
-        ) -> u32;
-        pub fn pool_open(
-            servers: u32,
-            own: u32,
-            sheet: *const u8,
-            sheet_len: usize,
-            returns: u32,
-            table: *mut u8,
-            room: usize,
-            written: *mut usize,
-        ) -> u32;
-        pub fn pool_share(
-            table: *mut u8,
-            table_len: usize,
-            message: *const u8,
-            message_len: usize,
-            r: u64,
-            s: u64,
-            out: *mut u8,
-            room: usize,
-            written: *mut usize,
-        ) -> u32;
-        pub fn pool_round_one(
-            table: *mut u8,
-            table_len: usize,
-            joined: *const u8,
-            joined_len: usize,
-            out: *mut u8,
-            room: usize,
-            written: *mut usize,
-        ) -> u32;
-        pub fn pool_round_two(
-            t: *mut u8,
-            t_len: usize,
-            joined: *const u8,
-            joined_len: usize,
-            accepted: *mut u32,
-        ) -> u32;
-        pub fn pool_drop(table: *mut u8, table_len: usize) -> u32;
-        pub fn pool_close(table: *mut u8, table_len: usize, out: *mut u8, room: usize, written: *mut usize) -> u32;
-        pub fn pool_join(
-            servers: u32,
-            sheet: *const u8,
-            sheet_len: usize,
-            returns: u32,
-            joined: *const u8,
-            joined_len: usize,
-            out: *mut u8,
-            room: usize,
-            accepted: *mut u32,
-            written: *mut usize,
-        ) -> u32;
-    }
-}
+#[path = "../../include/pool.rs"]
+mod c;
 
 fn done<T>(answer: u32, result: T) -> Result<T, u32> {
     if answer == 0 {

@@ -1,17 +1,11 @@
 // Compares reading a sheet and writing a circuit by libpool.a with the same loops in Rust: their speed, or with --check
 // their results.
+#[path = "../../include/pool.rs"]
+mod c;
 mod loops;
 #[path = "../timing.rs"]
 mod timing;
 use std::hint::black_box;
-
-mod c {
-    #[link(name = "pool", kind = "static")]
-    extern "C" {
-        pub fn pool_read_sheet(s: *const u8, n: usize, c: *mut u32, e: *mut u32, m: *mut u32, p: *mut u32) -> u32;
-        pub fn pool_circuit(s: *const u8, n: usize, out: *mut u8, room: usize, written: *mut usize) -> u32;
-    }
-}
 
 type Read = fn(&[u8], &mut u32, &mut u32, &mut u32, &mut u32) -> u32;
 type Write = fn(&[u8], &mut [u8], &mut usize) -> u32;

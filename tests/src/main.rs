@@ -1,5 +1,6 @@
 //! The library behind include/pool.h against the second program. See README.md beside the package.
 
+#[path = "../../include/pool.rs"]
 mod c;
 mod calls;
 mod circuits;

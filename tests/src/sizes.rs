@@ -3,10 +3,18 @@
 use second::gen;
 use second::Sheet;
 
-use crate::c;
 use crate::calls::{Call, Function};
 use crate::fixture::Fixture;
 use crate::suite::{Suite, Verdict};
+
+// The functions of sizes.c.
+extern "C" {
+    fn sizes_share(entries: u32, multiplications: u32) -> usize;
+    fn sizes_random(servers: u32, entries: u32, multiplications: u32) -> usize;
+    fn sizes_totals(published: u32) -> usize;
+    fn sizes_table(sheet_len: usize, entries: u32, multiplications: u32, published: u32, returns: u32) -> usize;
+    fn sizes_constant(number: u32) -> usize;
+}
 
 /// After the refusals 0 to 14: p, S from and to, the most returns and entries, the column kinds, a round message's
 /// length, and the largest sizes.
@@ -14,7 +22,7 @@ const CONSTANTS: [usize; 14] = [2_147_483_647, 2, 8, 1024, 256, 17, 18, 19, 14, 
 
 pub fn constants(_: &mut Suite) -> Verdict {
     for (number, must) in (0..15).chain(CONSTANTS).enumerate() {
-        let is = unsafe { c::sizes_constant(number as u32) };
+        let is = unsafe { sizes_constant(number as u32) };
         if is != must {
             return Err(format!("constant {number} of pool.h is {is}\nmust be {must}"));
         }
@@ -51,8 +59,8 @@ pub fn lengths(suite: &mut Suite) -> Verdict {
         let returns = rng.between(2, u64::from(gen::largest_limit(&sheet)).min(9)) as u32;
         let servers = rng.between(2, 8) as u32;
         let fixture = Fixture::new(suite, servers, 0, &bytes, returns)?;
-        let (share, random) = unsafe { (c::sizes_share(l, m), c::sizes_random(servers, l, m)) };
-        let (totals, table) = unsafe { (c::sizes_totals(p), c::sizes_table(bytes.len(), l, m, p, returns)) };
+        let (share, random) = unsafe { (sizes_share(l, m), sizes_random(servers, l, m)) };
+        let (totals, table) = unsafe { (sizes_totals(p), sizes_table(bytes.len(), l, m, p, returns)) };
         let is = (share, totals, table);
         if is != (fixture.share.len(), fixture.closing, fixture.idle.len()) {
             return Err(format!("the sizes of a share, totals and a table are {is:?} for the sheet {bytes:?}"));

@@ -1,5 +1,7 @@
-//! The functions of include/pool.h, and those of sizes.c.
+//! The functions of pool.h, declared for Rust. A program that includes this file uses those that it needs.
+#![allow(dead_code)]
 
+#[link(name = "pool", kind = "static")]
 extern "C" {
     pub fn pool_read_sheet(
         sheet: *const u8,
@@ -92,12 +94,4 @@ extern "C" {
         accepted: *mut u32,
         written: *mut usize,
     ) -> u32;
-}
-
-extern "C" {
-    pub fn sizes_share(entries: u32, multiplications: u32) -> usize;
-    pub fn sizes_random(servers: u32, entries: u32, multiplications: u32) -> usize;
-    pub fn sizes_totals(published: u32) -> usize;
-    pub fn sizes_table(sheet_len: usize, entries: u32, multiplications: u32, published: u32, returns: u32) -> usize;
-    pub fn sizes_constant(number: u32) -> usize;
 }

@@ -1,4 +1,4 @@
-// Times two ways of doing one thing, in turns, and compares the medians of the rounds.
+// Times some ways of doing one thing, in turns, and compares the medians of the rounds.
 use std::time::Instant;
 
 pub const ROUNDS: usize = 31;
@@ -18,26 +18,23 @@ fn median(mut times: Vec<f64>) -> f64 {
     times[times.len() / 2]
 }
 
-// The medians of both, where each tells its own time.
-pub fn medians(ours: &mut dyn FnMut() -> f64, other: &mut dyn FnMut() -> f64) -> (f64, f64) {
-    let (mut a, mut b) = (Vec::new(), Vec::new());
+// The median of each side, where each tells its own time. The side that begins a round is last in the next.
+pub fn medians<const N: usize>(sides: [&mut dyn FnMut() -> f64; N]) -> [f64; N] {
+    let mut times = [(); N].map(|()| Vec::new());
     for round in 0..ROUNDS {
-        if round % 2 == 0 {
-            a.push(ours());
-            b.push(other());
-        } else {
-            b.push(other());
-            a.push(ours());
+        for turn in 0..N {
+            let side = (round + turn) % N;
+            times[side].push(sides[side]());
         }
     }
-    (median(a), median(b))
+    times.map(median)
 }
 
 // The medians of both, in nanoseconds for a call.
-pub fn compare(ours: &mut dyn FnMut(), other: &mut dyn FnMut()) -> (f64, f64) {
+pub fn compare(ours: &mut dyn FnMut(), other: &mut dyn FnMut()) -> [f64; 2] {
     let once = time(other, 100).max(1.0);
     let times = (ROUND_NS / once) as usize + 1;
-    medians(&mut || time(ours, times), &mut || time(other, times))
+    medians([&mut || time(ours, times), &mut || time(other, times)])
 }
 
 pub fn cpu() -> String {

@@ -1,7 +1,8 @@
-// Results: every call that is measured, on both sides, and what was written compared.
+// Results: every call that is measured, on every side, and what was written compared.
 use crate::pool;
 use crate::setting::{settings, Setting, ID, RETURNS, ROOM};
-use second::{fast, Sheet, Verdict};
+use crate::tables::{Lent, Ours, Table};
+use second::{fast, Sheet};
 
 struct Count {
     passed: u32,
@@ -45,33 +46,39 @@ fn stateless(count: &mut Count, x: &Setting) {
     }
 }
 
-// One return taken to the totals, and one dropped; each call also where the stage does not allow it.
-fn at_server(count: &mut Count, x: &Setting, own: u32) {
-    let mut table = vec![0; x.table_bytes(RETURNS as usize)];
-    let ours = pool::open(x.servers, own, &x.sheet, RETURNS, &mut table).map(|n| n == table.len());
-    let mut second = fast::open(x.servers, own, &x.sheet, RETURNS).expect("a table");
-    count.same("open", x, ours, Ok(true));
-    let t = &mut table[..];
+// What a call gives, in bytes, or the number of its refusal.
+type Answer = Result<Vec<u8>, u32>;
+
+// The answers of a server's calls by their names: one return dropped, and one taken to the totals; each call also where
+// it is refused, by the stage or, for opening, by the own number.
+fn answers<T: Table>(x: &Setting, own: u32) -> Vec<(&'static str, Answer)> {
+    let mut said = vec![("open", T::fresh(x, x.servers).map(|_| Vec::new()))];
+    let mut t = T::fresh(x, own).expect("a table");
     let mut other = x.share(own).to_vec();
     other[1] ^= 1;
     for message in [&other, x.share(own), x.share(own)] {
-        let ours = written(14, |out| pool::share(t, message, x.r, x.s, out));
-        count.same("share", x, ours, fast::share(&mut second, message, x.r, x.s, 14).map(Vec::from));
+        said.push(("share", t.share(message, x.r, x.s).map(Vec::from)));
         if *message == *other {
-            count.same("drop", x, pool::drop(t), fast::drop(&mut second));
-            count.same("drop", x, pool::drop(t), fast::drop(&mut second));
+            said.extend([t.drop(), t.drop()].map(|done| ("drop", done.map(|()| Vec::new()))));
         }
     }
+    let ones = [t.round_one(&x.ones), t.round_one(&x.ones)];
+    said.extend(ones.map(|message| ("round one", message.map(Vec::from))));
+    let twos = [t.round_two(&x.twos), t.round_two(&x.twos)];
+    said.extend(twos.map(|verdict| ("round two", verdict.map(|accepted| vec![u8::from(accepted)]))));
+    let mut out = vec![0xa5; ROOM];
     for _ in 0..2 {
-        let ours = written(14, |out| pool::round_one(t, &x.ones, out));
-        count.same("round one", x, ours, fast::round_one(&mut second, &x.ones, 14).map(Vec::from));
+        said.push(("close", t.close(&mut out).map(Vec::from)));
     }
-    for _ in 0..2 {
-        let verdict = fast::round_two(&mut second, &x.twos).map(|v| v == Verdict::Accepted);
-        count.same("round two", x, pool::round_two(t, &x.twos), verdict);
-    }
-    for _ in 0..2 {
-        count.same("close", x, written(ROOM, |out| pool::close(t, out)), fast::close(&mut second, ROOM));
+    said
+}
+
+fn at_server(count: &mut Count, x: &Setting, own: u32) {
+    let ours = answers::<Ours>(x, own);
+    for others in [answers::<fast::Table>(x, own), answers::<Lent>(x, own)] {
+        for ((call, ours), (_, other)) in ours.iter().zip(&others) {
+            count.same(call, x, ours, other);
+        }
     }
 }
 

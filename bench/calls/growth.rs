@@ -1,7 +1,8 @@
 // How the cost of a share and of making grows with M: sheets of M yes/no, S = 2. Each M is timed in turns with half of
 // it, so that the ratio is taken in one stretch of time.
-use crate::series::{series, Call, Ours};
+use crate::series::{series, Call};
 use crate::setting::{Setting, ROOM};
+use crate::tables::Ours;
 use crate::{speed, timing};
 
 fn share(x: &Setting) -> f64 {
@@ -20,7 +21,7 @@ pub fn run() {
         for m in [1, 2, 4, 8, 16, 32, 64, 128, 256] {
             let whole = Setting::new("yes/no", vec![17; m], 2);
             let half = Setting::new("yes/no", vec![17; m.div_ceil(2)], 2);
-            let (ours, before) = timing::medians(&mut || measure(&whole), &mut || measure(&half));
+            let [ours, before] = timing::medians([&mut || measure(&whole), &mut || measure(&half)]);
             let ratio = if m > 1 { format!("{:.2}", ours / before) } else { "-".to_string() };
             println!("{call:<11} {m:>4} {ours:>11.1} {ratio:>16}");
         }

@@ -1,8 +1,10 @@
-// Sharing and making against the bare kernels: the inverses, products, powers and inner products that the call works
-// with, through libkernels.a, on lent slices of the same lengths. The kernel leaves out the products member by member
-// (three for each point of the bases, and those of h), for which it has no function, and everything on bytes.
-use crate::series::{series, Call, Ours};
+// Sharing and making against the bare arithmetic: interpolation in separate passes, inverses, running products, powers
+// and inner products, by the kernels of libkernels.a on lent slices. It is a fixed bar, not what the library does: the
+// library need not work out what it has as constants and may take passes together. Left out are the products member by
+// member, for which there is no kernel, and everything on bytes.
+use crate::series::{series, Call};
 use crate::setting::{Setting, ROOM};
+use crate::tables::Ours;
 use crate::{kernels, speed, timing};
 use std::hint::black_box;
 
@@ -53,7 +55,7 @@ fn share(w: &mut Space, m: usize, k: usize, r: u32, s: u32) {
     inner(&w.given[..k], &w.up[..k]);
 }
 
-// Making a return: f and g at the points M + 1 to 2M, an inner product of M + 1 members for each.
+// Making a return: f and g at the points M + 1 to 2M, an inner product of M + 1 members for each value.
 fn make(w: &mut Space, m: usize) {
     factorials(w, 2 * m, m + 1);
     assert!(kernels::ascending(m as u32 + 1, &mut w.up[..m + 2]) == 0);
@@ -64,27 +66,19 @@ fn make(w: &mut Space, m: usize) {
 }
 
 // Nanoseconds of a share, and of its kernel.
-fn of_share(x: &Setting) -> (f64, f64) {
+fn of_share(x: &Setting) -> [f64; 2] {
     let mut w = Space::new();
     let mut kernel = || share(&mut w, x.gates, x.tests, x.r as u32, x.s as u32);
-    timing::medians(&mut || series::<Ours>(x, Call::Share), &mut || timing::time(&mut kernel, 200))
+    timing::medians([&mut || series::<Ours>(x, Call::Share), &mut || timing::time(&mut kernel, 200)])
 }
 
 // Nanoseconds of making, and of its kernel.
-fn of_make(x: &Setting) -> (f64, f64) {
+fn of_make(x: &Setting) -> [f64; 2] {
     let (mut w, mut out) = (Space::new(), vec![0; ROOM]);
     timing::compare(&mut || speed::our_make(x, &mut out), &mut || make(&mut w, x.gates))
 }
 
 pub fn run(settings: &[Setting]) {
-    println!(
-        "{:<11} {:<14} {:>4} {:>3} {:>11} {:>11} {:>7}",
-        "call", "sheet", "M", "S", "ours, ns", "kernel, ns", "ratio"
-    );
-    let measured: [(&str, fn(&Setting) -> (f64, f64)); 2] = [("share", of_share), ("make", of_make)];
-    for (call, measure) in measured {
-        for x in settings.iter().filter(|x| x.servers == 2) {
-            speed::row(call, x, measure(x));
-        }
-    }
+    let two = settings.iter().filter(|x| x.servers == 2);
+    speed::table(two, ["ours", "kernel"], &[("share", &of_share), ("make", &of_make)]);
 }

@@ -5,7 +5,7 @@ use crate::setting::{Setting, RETURNS};
 use crate::{pool, timing};
 use std::hint::black_box;
 
-fn times(x: &Setting) -> (f64, f64) {
+fn times(x: &Setting) -> [f64; 2] {
     let mut idle = vec![0; x.table_bytes(RETURNS as usize)];
     let mut out = vec![0; 14 + x.totals_bytes()];
     pool::open(x.servers, 0, &x.sheet, RETURNS, &mut idle).expect("opened");
@@ -20,7 +20,7 @@ pub fn run(settings: &[Setting]) {
     println!("nanoseconds to look a table over");
     println!("{:<14} {:>4} {:>11} {:>16}", "sheet", "M", "idle", "a return waits");
     for x in settings.iter().filter(|x| x.servers == 2) {
-        let (idle, waiting) = times(x);
+        let [idle, waiting] = times(x);
         println!("{:<14} {:>4} {idle:>11.1} {waiting:>16.1}", x.name, x.gates);
     }
 }

@@ -1,5 +1,5 @@
-// Compares the C functions of libpool.a with the second program's fast form and with the bare kernels of libkernels.a:
-// their speed, how it grows and the memory, or with --check the results.
+// Compares the C functions of libpool.a with the second program's fast and lent forms and with the bare kernels of
+// libkernels.a: their speed, how it grows and the memory, or with --check the results.
 mod check;
 mod growth;
 mod kernel;
@@ -11,6 +11,7 @@ mod pool;
 mod series;
 mod setting;
 mod speed;
+mod tables;
 #[path = "../timing.rs"]
 mod timing;
 

@@ -1,17 +1,14 @@
-// The calls on a table. They change it, so each is timed where returns come one after another, on both sides alike. A
+// The calls on a table. They change it, so each is timed where returns come one after another, on every side alike. A
 // table is opened for N = 64 returns. For each id the calls that lead up to the measured one are made unmeasured, then
 // the measured one is timed, then the return is dropped unmeasured. After 64 returns a fresh table is opened,
-// unmeasured. So a share looks through 32 decided ids on the average, and the second program's list of ids grows as it
-// does in use (a clone of its table would have to make room at every call). Closing alone is timed on a table that is
-// restored before each call, unmeasured: by a copy of the bytes, and by a clone.
+// unmeasured. So a share looks through 32 decided ids on the average, and the fast form's list of ids grows as it does
+// in use (a clone of its table would have to make room at every call). Closing alone is timed on a table that is
+// restored before each call, unmeasured: by a copy of the bytes, or by a clone. No call may be refused.
 //
 // The clock is read once for several tables in the same state, and the time of an empty turn is taken off. At M = 256
-// it is one table: more would push the second program's work space, which it keeps in each table, out of the nearest
-// cache. A table of the second program is no run of bytes, so its calls do not look it over first, as document 01 asks
-// of a table in bytes (refusal 11).
-use crate::pool;
+// it is one table: more would push the fast form's work space, which it keeps in each table, out of the nearest cache.
 use crate::setting::{Setting, RETURNS, ROOM};
-use second::fast;
+use crate::tables::Table;
 use std::hint::black_box;
 use std::time::Instant;
 
@@ -23,96 +20,6 @@ pub enum Call {
     RoundTwo,
     Drop,
     Close,
-}
-
-// A server's table on one side. No call may be refused.
-pub trait Table: Sized {
-    fn fresh(x: &Setting) -> Self;
-    // A table opened in the place of another, whose memory is given back later or used again.
-    fn open(&mut self, x: &Setting) -> Option<Self>;
-    fn share(&mut self, message: &[u8], r: u64, s: u64);
-    fn round_one(&mut self, joined: &[u8]);
-    fn round_two(&mut self, joined: &[u8]);
-    fn drop(&mut self);
-    fn close(&mut self, out: &mut [u8]);
-    fn restore(&mut self, from: &Self);
-}
-
-pub struct Ours(Vec<u8>);
-
-impl Table for Ours {
-    fn fresh(x: &Setting) -> Ours {
-        let mut table = Ours(vec![0; x.table_bytes(RETURNS as usize)]);
-        table.open(x);
-        table
-    }
-
-    fn open(&mut self, x: &Setting) -> Option<Ours> {
-        pool::open(x.servers, 0, &x.sheet, RETURNS, &mut self.0).expect("opened");
-        None
-    }
-
-    fn share(&mut self, message: &[u8], r: u64, s: u64) {
-        let mut out = [0; 14];
-        pool::share(&mut self.0, message, r, s, &mut out).expect("taken");
-        black_box(&out);
-    }
-
-    fn round_one(&mut self, joined: &[u8]) {
-        let mut out = [0; 14];
-        pool::round_one(&mut self.0, joined, &mut out).expect("taken");
-        black_box(&out);
-    }
-
-    fn round_two(&mut self, joined: &[u8]) {
-        assert!(pool::round_two(&mut self.0, joined) == Ok(true));
-    }
-
-    fn drop(&mut self) {
-        pool::drop(&mut self.0).expect("dropped");
-    }
-
-    fn close(&mut self, out: &mut [u8]) {
-        black_box(pool::close(&mut self.0, out).expect("closed"));
-    }
-
-    fn restore(&mut self, from: &Ours) {
-        self.0.copy_from_slice(&from.0);
-    }
-}
-
-impl Table for fast::Table {
-    fn fresh(x: &Setting) -> fast::Table {
-        fast::open(x.servers, 0, &x.sheet, RETURNS).expect("opened")
-    }
-
-    fn open(&mut self, x: &Setting) -> Option<fast::Table> {
-        Some(fast::Table::fresh(x))
-    }
-
-    fn share(&mut self, message: &[u8], r: u64, s: u64) {
-        black_box(fast::share(self, message, r, s, 14).expect("taken"));
-    }
-
-    fn round_one(&mut self, joined: &[u8]) {
-        black_box(fast::round_one(self, joined, 14).expect("taken"));
-    }
-
-    fn round_two(&mut self, joined: &[u8]) {
-        assert!(fast::round_two(self, joined) == Ok(second::Verdict::Accepted));
-    }
-
-    fn drop(&mut self) {
-        fast::drop(self).expect("dropped");
-    }
-
-    fn close(&mut self, out: &mut [u8]) {
-        black_box(fast::close(self, out.len()).expect("closed"));
-    }
-
-    fn restore(&mut self, from: &fast::Table) {
-        *self = from.clone();
-    }
 }
 
 // How many tables are called while the clock runs once.
@@ -155,19 +62,23 @@ impl Messages {
     }
 }
 
+fn taken<A>(answer: Result<A, u32>) {
+    black_box(answer.expect("taken"));
+}
+
 // Takes one return on each table; gives the time of the measured call.
 fn one_return<T: Table>(x: &Setting, call: Call, m: &Messages, tables: &mut [T]) -> f64 {
-    let share = all(tables, |t| t.share(&m.share, x.r, x.s));
+    let share = all(tables, |t| taken(t.share(&m.share, x.r, x.s)));
     if call == Call::Drop || call == Call::Share {
-        let drop = all(tables, |t| t.drop());
+        let drop = all(tables, |t| taken(t.drop()));
         return if call == Call::Drop { drop } else { share };
     }
-    let one = all(tables, |t| t.round_one(&m.ones));
+    let one = all(tables, |t| taken(t.round_one(&m.ones)));
     if call == Call::RoundOne {
-        all(tables, |t| t.drop());
+        all(tables, |t| taken(t.drop()));
         return one;
     }
-    all(tables, |t| t.round_two(&m.twos))
+    all(tables, |t| assert!(t.round_two(&m.twos) == Ok(true)))
 }
 
 // Opens in the place of each table.
@@ -180,14 +91,14 @@ fn closings<T: Table>(tables: &mut [T], was: &T, out: &mut [u8]) -> f64 {
     for table in tables.iter_mut() {
         table.restore(was);
     }
-    all(tables, |t| t.close(out))
+    all(tables, |t| taken(t.close(out)))
 }
 
 // Nanoseconds for a call, over the returns of one table.
 pub fn series<T: Table>(x: &Setting, call: Call) -> f64 {
     let n = tables_for(x);
-    let mut tables: Vec<T> = (0..n).map(|_| T::fresh(x)).collect();
-    let was = T::fresh(x);
+    let fresh = || T::fresh(x, 0).expect("opened");
+    let (mut tables, was): (Vec<T>, T) = ((0..n).map(|_| fresh()).collect(), fresh());
     let (mut messages, mut out) = (Messages::of(x), vec![0; ROOM]);
     let (mut spent, mut empty) = (0.0, 0.0);
     for id in 0..RETURNS {

@@ -1,23 +1,44 @@
-// Speed of each call against the same call of the second program's fast form (of its plain form where the fast one has
-// none of its own: sheets, circuits, joining), both compiled for any x86-64. The second program answers with lists of
+// Speed of each call against the same call of the second program, all compiled for any x86-64. A call on a table has two
+// others beside it, of the fast form and of the lent form (see tables.rs). The other calls have the fast form's (the
+// plain form's where the fast one has none of its own: sheets, circuits, joining). The fast form answers with lists of
 // bytes that it allots; allotting and giving back counts, but for a table that is opened, which is given back
-// unmeasured. The library writes into lent buffers.
-use crate::series::{series, Call, Ours};
+// unmeasured. The library and the lent form write into lent buffers.
+use crate::series::{series, Call};
 use crate::setting::{Setting, ID, RETURNS, ROOM};
+use crate::tables::{Lent, Ours};
 use crate::{pool, timing};
 use second::{fast, Sheet};
 use std::hint::black_box;
 
-pub fn row(call: &str, x: &Setting, (ours, second): (f64, f64)) {
-    let (name, m, s) = (x.name, x.gates, x.servers);
-    println!("{call:<11} {name:<14} {m:>4} {s:>3} {ours:>11.1} {second:>11.1} {:>7.2}", ours / second);
+// A row for each call and setting: the time on each side, ours first, then the ratio of ours to each other.
+pub fn table<'a, const N: usize>(
+    settings: impl Iterator<Item = &'a Setting> + Clone,
+    sides: [&str; N],
+    measured: &[(&str, &dyn Fn(&Setting) -> [f64; N])],
+) {
+    print!("{:<11} {:<14} {:>4} {:>3}", "call", "sheet", "M", "S");
+    sides.iter().for_each(|side| print!(" {:>11}", format!("{side}, ns")));
+    sides[1..].iter().for_each(|side| print!(" {:>9}", format!("to {side}")));
+    println!();
+    for (call, measure) in measured {
+        for x in settings.clone() {
+            let times = measure(x);
+            print!("{call:<11} {:<14} {:>4} {:>3}", x.name, x.gates, x.servers);
+            times.iter().for_each(|time| print!(" {time:>11.1}"));
+            times[1..].iter().for_each(|other| print!(" {:>9.2}", times[0] / other));
+            println!();
+        }
+    }
 }
 
-fn on_table(x: &Setting, call: Call) -> (f64, f64) {
-    timing::medians(&mut || series::<Ours>(x, call), &mut || series::<fast::Table>(x, call))
+fn on_table(x: &Setting, call: Call) -> [f64; 3] {
+    let mut ours = || series::<Ours>(x, call);
+    let mut fast = || series::<fast::Table>(x, call);
+    let mut lent = || series::<Lent>(x, call);
+    timing::medians([&mut ours, &mut fast, &mut lent])
 }
 
-fn read_sheet(x: &Setting) -> (f64, f64) {
+fn read_sheet(x: &Setting) -> [f64; 2] {
     timing::compare(
         &mut || {
             black_box(pool::read_sheet(black_box(&x.sheet)).expect("read"));
@@ -28,7 +49,7 @@ fn read_sheet(x: &Setting) -> (f64, f64) {
     )
 }
 
-fn circuit(x: &Setting) -> (f64, f64) {
+fn circuit(x: &Setting) -> [f64; 2] {
     let mut out = vec![0; ROOM];
     timing::compare(
         &mut || {
@@ -48,12 +69,12 @@ pub fn our_make(x: &Setting, out: &mut [u8]) {
     black_box(pool::make(&x.sheet, x.servers, ID, black_box(&x.values), &x.random, out).expect("made"));
 }
 
-fn make(x: &Setting) -> (f64, f64) {
+fn make(x: &Setting) -> [f64; 2] {
     let mut out = vec![0; ROOM];
     timing::compare(&mut || our_make(x, &mut out), &mut || second_make(x))
 }
 
-fn join(x: &Setting) -> (f64, f64) {
+fn join(x: &Setting) -> [f64; 2] {
     let mut out = vec![0; ROOM];
     timing::compare(
         &mut || {
@@ -65,29 +86,23 @@ fn join(x: &Setting) -> (f64, f64) {
     )
 }
 
+// Reading a sheet and writing its circuit know of no S: they are measured once for a sheet.
 pub fn run(settings: &[Setting]) {
-    println!(
-        "{:<11} {:<14} {:>4} {:>3} {:>11} {:>11} {:>7}",
-        "call", "sheet", "M", "S", "ours, ns", "second, ns", "ratio"
+    let two = settings.iter().filter(|x| x.servers == 2);
+    table(two, ["ours", "fast"], &[("read sheet", &read_sheet), ("circuit", &circuit)]);
+    println!();
+    table(settings.iter(), ["ours", "fast"], &[("make", &make), ("join", &join)]);
+    println!();
+    table(
+        settings.iter(),
+        ["ours", "fast", "lent"],
+        &[
+            ("open", &|x| on_table(x, Call::Open)),
+            ("share", &|x| on_table(x, Call::Share)),
+            ("round one", &|x| on_table(x, Call::RoundOne)),
+            ("round two", &|x| on_table(x, Call::RoundTwo)),
+            ("drop", &|x| on_table(x, Call::Drop)),
+            ("close", &|x| on_table(x, Call::Close)),
+        ],
     );
-    let measured: [(&str, &dyn Fn(&Setting) -> (f64, f64)); 10] = [
-        ("read sheet", &read_sheet),
-        ("circuit", &circuit),
-        ("make", &make),
-        ("open", &|x| on_table(x, Call::Open)),
-        ("share", &|x| on_table(x, Call::Share)),
-        ("round one", &|x| on_table(x, Call::RoundOne)),
-        ("round two", &|x| on_table(x, Call::RoundTwo)),
-        ("drop", &|x| on_table(x, Call::Drop)),
-        ("close", &|x| on_table(x, Call::Close)),
-        ("join", &join),
-    ];
-    for (call, measure) in measured {
-        for x in settings {
-            // reading a sheet and writing its circuit know of no S
-            if x.servers == 2 || !["read sheet", "circuit"].contains(&call) {
-                row(call, x, measure(x));
-            }
-        }
-    }
 }

@@ -10,7 +10,7 @@ fn compare(name: &str, n: usize, size: usize, ours: Call, rust: Call) {
     let mut a = vec![0; size];
     let mut b = vec![0; size];
     assert!(ours(&mut a) == 0 && rust(&mut b) == 0 && a == b, "{name} at length {n}: the results differ");
-    let (o, r) = timing::compare(&mut || assert!(ours(black_box(&mut a)) == 0), &mut || assert!(rust(black_box(&mut b)) == 0));
+    let [o, r] = timing::compare(&mut || assert!(ours(black_box(&mut a)) == 0), &mut || assert!(rust(black_box(&mut b)) == 0));
     println!("{name:<17} {n:>6} {o:>11.1} {r:>11.1} {:>7.2}", o / r);
 }
 

@@ -52,7 +52,7 @@ fn speed() {
         let call = |f: Read| {
             black_box(read(f, black_box(s)));
         };
-        let (ours, rust) = timing::compare(&mut || call(our_sheet), &mut || call(loops::sheet));
+        let [ours, rust] = timing::compare(&mut || call(our_sheet), &mut || call(loops::sheet));
         println!("{:<17} {name:<17} {ours:>11.1} {rust:>11.1} {:>7.2}", "read sheet", ours / rust);
     }
     for (name, sheet) in sheets() {
@@ -62,7 +62,7 @@ fn speed() {
             let mut written = 0;
             assert!(f(black_box(s), black_box(out), &mut written) == 0);
         };
-        let (ours, rust) = timing::compare(&mut || call(our_circuit, &mut out), &mut || call(loops::circuit, &mut same));
+        let [ours, rust] = timing::compare(&mut || call(our_circuit, &mut out), &mut || call(loops::circuit, &mut same));
         println!("{:<17} {name:<17} {ours:>11.1} {rust:>11.1} {:>7.2}", "write circuit", ours / rust);
     }
 }

@@ -153,10 +153,11 @@ static void begin(const char *name)
     lent_count = 0;
 }
 
-static void end(void)
+static uint32_t end(uint32_t answer)
 {
     for (int k = 0; lending == HEAP && k < lent_count; k++)
         free(lents[k].at);
+    return answer;
 }
 
 /* Checks */
@@ -211,10 +212,15 @@ static void answered(uint32_t answer, uint32_t allowed)
         fail("an answer that the header does not name");
 }
 
-/* What was written into an output buffer. */
-static void take(int k, const struct result_size *written, struct run *out)
+/* An output buffer after a call: what was written, or all as it was. */
+static void take(int k, const struct result_size *written, uint32_t answer, struct run *out)
 {
     const struct lent *l = &lents[k];
+    check_size(written, answer);
+    if (answer != 0) {
+        kept(k);
+        return;
+    }
     if (written->value > l->len)
         fail("more written than there is room");
     kept_filler(k, written->value, 0);
@@ -223,17 +229,25 @@ static void take(int k, const struct result_size *written, struct run *out)
         memcpy(out->at, l->at, out->len);
 }
 
-/* A table after a call that is done. */
-static void take_table(int k, struct run *table)
+/* A table after a call: changed by one that is done, else as it was. */
+static void take_table(int k, uint32_t answer, struct run *table)
 {
+    if (answer != 0) {
+        kept(k);
+        return;
+    }
     kept_filler(k, table->len, table->len);
     if (table->len > 0)
         memcpy(table->at, lents[k].at, table->len);
 }
 
-static void length_is(const struct run *out, size_t len)
+/* The same for a table and the round message that the call wrote. */
+static void take_round(int t, struct run *table, int o, const struct result_size *written, uint32_t answer,
+                       struct run *out)
 {
-    if (out->len != len)
+    take_table(t, answer, table);
+    take(o, written, answer, out);
+    if (answer == 0 && out->len != POOL_ROUND_BYTES)
         fail("a length that the header does not give");
 }
 
@@ -253,8 +267,7 @@ uint32_t call_read_sheet(const struct run *sheet, struct sheet_counts *counts)
     check32(&p, answer);
     if (answer == 0)
         *counts = (struct sheet_counts){c.value, e.value, m.value, p.value};
-    end();
-    return answer;
+    return end(answer);
 }
 
 uint32_t call_circuit(const struct run *sheet, size_t room, struct run *out)
@@ -265,13 +278,8 @@ uint32_t call_circuit(const struct run *sheet, size_t room, struct run *out)
     uint32_t answer = pool_circuit(LENT(s), LENT(o), &w.value);
     answered(answer, SHEET | MAY(POOL_ROOM));
     kept(s);
-    check_size(&w, answer);
-    if (answer == 0)
-        take(o, &w, out);
-    else
-        kept(o);
-    end();
-    return answer;
+    take(o, &w, answer, out);
+    return end(answer);
 }
 
 uint32_t call_read_circuit(uint32_t entries, const struct run *circuit, struct circuit_counts *counts)
@@ -287,8 +295,7 @@ uint32_t call_read_circuit(uint32_t entries, const struct run *circuit, struct c
     check32(&t, answer);
     if (answer == 0)
         *counts = (struct circuit_counts){w.value, m.value, t.value};
-    end();
-    return answer;
+    return end(answer);
 }
 
 uint32_t call_make(const struct run *sheet, uint32_t servers, uint32_t id, const struct run *values,
@@ -302,13 +309,8 @@ uint32_t call_make(const struct run *sheet, uint32_t servers, uint32_t id, const
     kept(s);
     kept(v);
     kept(x);
-    check_size(&w, answer);
-    if (answer == 0)
-        take(o, &w, out);
-    else
-        kept(o);
-    end();
-    return answer;
+    take(o, &w, answer, out);
+    return end(answer);
 }
 
 uint32_t call_open(uint32_t servers, uint32_t own, const struct run *sheet, uint32_t returns, size_t room,
@@ -320,13 +322,8 @@ uint32_t call_open(uint32_t servers, uint32_t own, const struct run *sheet, uint
     uint32_t answer = pool_open(servers, own, LENT(s), returns, LENT(t), &w.value);
     answered(answer, SHEET | MAY(POOL_WRAP) | MAY(POOL_ROOM));
     kept(s);
-    check_size(&w, answer);
-    if (answer == 0)
-        take(t, &w, table);
-    else
-        kept(t);
-    end();
-    return answer;
+    take(t, &w, answer, table);
+    return end(answer);
 }
 
 uint32_t call_share(struct run *table, size_t extra, const struct run *message, uint64_t r, uint64_t s, size_t room,
@@ -339,17 +336,8 @@ uint32_t call_share(struct run *table, size_t extra, const struct run *message, 
     answered(answer, MAY(POOL_STAGE) | MAY(POOL_FULL) | MAY(POOL_SHARE) | MAY(POOL_ELEMENT) | MAY(POOL_DECIDED) |
                          MAY(POOL_PAIR) | MAY(POOL_ROOM));
     kept(m);
-    check_size(&w, answer);
-    if (answer == 0) {
-        take_table(t, table);
-        take(o, &w, out);
-        length_is(out, POOL_ROUND_BYTES);
-    } else {
-        kept(t);
-        kept(o);
-    }
-    end();
-    return answer;
+    take_round(t, table, o, &w, answer, out);
+    return end(answer);
 }
 
 uint32_t call_round_one(struct run *table, size_t extra, const struct run *joined, size_t room, struct run *out)
@@ -360,17 +348,8 @@ uint32_t call_round_one(struct run *table, size_t extra, const struct run *joine
     uint32_t answer = pool_round_one(LENT(t), LENT(j), LENT(o), &w.value);
     answered(answer, MAY(POOL_STAGE) | MAY(POOL_JOINED) | MAY(POOL_ROOM));
     kept(j);
-    check_size(&w, answer);
-    if (answer == 0) {
-        take_table(t, table);
-        take(o, &w, out);
-        length_is(out, POOL_ROUND_BYTES);
-    } else {
-        kept(t);
-        kept(o);
-    }
-    end();
-    return answer;
+    take_round(t, table, o, &w, answer, out);
+    return end(answer);
 }
 
 uint32_t call_round_two(struct run *table, size_t extra, const struct run *joined, uint32_t *accepted)
@@ -382,16 +361,13 @@ uint32_t call_round_two(struct run *table, size_t extra, const struct run *joine
     answered(answer, MAY(POOL_STAGE) | MAY(POOL_JOINED));
     kept(j);
     check32(&a, answer);
+    take_table(t, answer, table);
     if (answer == 0) {
         if (a.value > 1)
             fail("a verdict that is neither 0 nor 1");
-        take_table(t, table);
         *accepted = a.value;
-    } else {
-        kept(t);
     }
-    end();
-    return answer;
+    return end(answer);
 }
 
 uint32_t call_drop(struct run *table, size_t extra)
@@ -400,12 +376,8 @@ uint32_t call_drop(struct run *table, size_t extra)
     int t = lend_both(table, extra);
     uint32_t answer = pool_drop(LENT(t));
     answered(answer, MAY(POOL_STAGE));
-    if (answer == 0)
-        take_table(t, table);
-    else
-        kept(t);
-    end();
-    return answer;
+    take_table(t, answer, table);
+    return end(answer);
 }
 
 uint32_t call_close(struct run *table, size_t extra, size_t room, struct run *out)
@@ -415,16 +387,9 @@ uint32_t call_close(struct run *table, size_t extra, size_t room, struct run *ou
     struct result_size w = RESULT_SIZE;
     uint32_t answer = pool_close(LENT(t), LENT(o), &w.value);
     answered(answer, MAY(POOL_STAGE) | MAY(POOL_ROOM));
-    check_size(&w, answer);
-    if (answer == 0) {
-        take_table(t, table);
-        take(o, &w, out);
-    } else {
-        kept(t);
-        kept(o);
-    }
-    end();
-    return answer;
+    take_table(t, answer, table);
+    take(o, &w, answer, out);
+    return end(answer);
 }
 
 uint32_t call_join(uint32_t servers, const struct run *sheet, uint32_t returns, const struct run *joined, size_t room,
@@ -439,13 +404,8 @@ uint32_t call_join(uint32_t servers, const struct run *sheet, uint32_t returns, 
     kept(s);
     kept(j);
     check32(&a, answer);
-    check_size(&w, answer);
-    if (answer == 0) {
-        take(o, &w, out);
+    take(o, &w, answer, out);
+    if (answer == 0)
         *accepted = a.value;
-    } else {
-        kept(o);
-    }
-    end();
-    return answer;
+    return end(answer);
 }

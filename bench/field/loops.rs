@@ -81,15 +81,35 @@ pub fn running_products(xs: &[u32], out: &mut [u32]) -> u32 {
     0
 }
 
+// The powers of s, each from the one before.
+fn chain(s: u32, out: &mut [u32]) {
+    let mut acc = 1;
+    for o in out {
+        *o = acc;
+        acc = mul(acc, s);
+    }
+}
+
+// The same where the first k are there: each from the one k places before it.
+fn stretch(s: u32, k: usize, out: &mut [u32]) {
+    let by = mul(out[k - 1], s);
+    for i in k..out.len() {
+        out[i] = mul(out[i - k], by);
+    }
+}
+
 #[inline(never)]
 pub fn powers(s: u32, out: &mut [u32]) -> u32 {
     if s >= P {
         return 1;
     }
-    let mut acc = 1;
-    for o in out {
-        *o = acc;
-        acc = mul(acc, s);
+    let n = out.len();
+    chain(s, &mut out[..n.min(8)]);
+    if n > 8 {
+        stretch(s, 8, &mut out[..n.min(32)]);
+    }
+    if n > 32 {
+        stretch(s, 32, out);
     }
     0
 }

@@ -1,7 +1,7 @@
 // Sharing and making against the bare arithmetic: interpolation in separate passes, inverses, running products, powers
-// and inner products, by the kernels of libkernels.a on lent slices. It is a fixed bar, not what the library does: the
-// library need not work out what it has as constants and may take passes together. Left out are the products member by
-// member, for which there is no kernel, and everything on bytes.
+// and inner products, by the kernels of libkernels.a on lent slices. It is a bar to hold the calls to, not what they do:
+// the library need not work out what it has as constants, and may take passes together. Left out are the products
+// member by member, for which there is no kernel, and everything on bytes.
 use crate::series::{series, Call};
 use crate::setting::{Setting, ROOM};
 use crate::tables::Ours;

@@ -2,7 +2,7 @@
 // and inner products, by the kernels of libkernels.a on lent slices. It is a bar to hold the calls to, not what they do:
 // the library need not work out what it has as constants, and may take passes together. Left out are the products
 // member by member, for which there is no kernel, and everything on bytes.
-use crate::series::{series, Call};
+use crate::series::{calls_for, series, Call};
 use crate::setting::{Setting, ROOM};
 use crate::tables::Ours;
 use crate::{kernels, speed, timing};
@@ -65,11 +65,11 @@ fn make(w: &mut Space, m: usize) {
     }
 }
 
-// Nanoseconds of a share, and of its kernel.
+// Nanoseconds of a share, and of its kernel, over as many calls.
 fn of_share(x: &Setting) -> [f64; 2] {
     let mut w = Space::new();
     let mut kernel = || share(&mut w, x.gates, x.tests, x.r as u32, x.s as u32);
-    timing::medians([&mut || series::<Ours>(x, Call::Share), &mut || timing::time(&mut kernel, 200)])
+    timing::medians([&mut || series::<Ours>(x, Call::Share), &mut || timing::time(&mut kernel, calls_for(x))])
 }
 
 // Nanoseconds of making, and of its kernel.

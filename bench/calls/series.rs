@@ -27,6 +27,11 @@ fn tables_for(x: &Setting) -> usize {
     (256 / x.gates).clamp(1, 16)
 }
 
+// How many calls a series times.
+pub fn calls_for(x: &Setting) -> usize {
+    RETURNS as usize * tables_for(x)
+}
+
 // Nanoseconds of one call on each table.
 fn all<T>(tables: &mut [T], mut call: impl FnMut(&mut T)) -> f64 {
     let start = Instant::now();
@@ -96,9 +101,9 @@ fn closings<T: Table>(tables: &mut [T], was: &T, out: &mut [u8]) -> f64 {
 
 // Nanoseconds for a call, over the returns of one table.
 pub fn series<T: Table>(x: &Setting, call: Call) -> f64 {
-    let n = tables_for(x);
     let fresh = || T::fresh(x, 0).expect("opened");
-    let (mut tables, was): (Vec<T>, T) = ((0..n).map(|_| fresh()).collect(), fresh());
+    let mut tables: Vec<T> = (0..tables_for(x)).map(|_| fresh()).collect();
+    let was = fresh();
     let (mut messages, mut out) = (Messages::of(x), vec![0; ROOM]);
     let (mut spent, mut empty) = (0.0, 0.0);
     for id in 0..RETURNS {
@@ -110,5 +115,5 @@ pub fn series<T: Table>(x: &Setting, call: Call) -> f64 {
             _ => one_return(x, call, &messages, &mut tables),
         };
     }
-    (spent - empty) / (f64::from(RETURNS) * n as f64)
+    (spent - empty) / calls_for(x) as f64
 }

@@ -4,13 +4,14 @@ use mathlib.Core.Path.{_≡_, ap, _∙_}
 use mathlib.Core.List.{List}
 use Prim.Native.Nat.{ℕ, suc, _+_, _-_, _<_, _≤_}
 use native.Mathlib.Omega.{arith}
-use lib.ListN.{length, take, drop}
-use lib.Seq.{getD-take, getD-drop}
+use lib.ListN.{length, take, drop, length-drop}
+use lib.Seq.{getD-take, getD-drop, length-take-le}
 use Rattle.algebra.specs.Lists.{tabulate}
 use Rattle.algebra.specs.Sums.{inner}
 use Rattle.algebra.proofs.Tables.{length-tabulate, getD-tabulate}
 use Rattle.algebra.proofs.Sums.{sum-ext}
-use Rattle.field.specs.Residues.{prime, residues}
+use Rattle.words.proofs.Below.{all-take, all-drop}
+use Rattle.field.specs.Residues.{prime, residues, Elements}
 use Rattle.field.proofs.Below.{product-below, inverse-below, tabulate-below, member-below}
 use Rattle.walk.specs.Walks.{members}
 use Rattle.proof.specs.Curves.{fallAt, Ready}
@@ -65,6 +66,15 @@ module _ {n : ℕ} {falls back : List ℕ} (r : Ready n falls back) where
       ∙ ap (λ (l : List ℕ). members l (n - 1 - i + j)) (r .back-are)
       ∙ getD-tabulate (λ i. residues .inv (n + n - i)) (n + n) (n - 1 - i + j) 0 b
       ∙ ap (residues .inv) t
+
+  pub stretch-long : (i : ℕ) → i < n → length (take (n + n - i - (n - 1 - i)) (drop (n - 1 - i) back)) ≡ suc n
+  stretch-long i h =
+      length-take-le (n + n - i - (n - 1 - i)) (drop (n - 1 - i) back) (rw (length-drop, back-long) (omega arith)) ∙ omega arith
+
+  pub stretch-elements : (i : ℕ) → Elements (take (n + n - i - (n - 1 - i)) (drop (n - 1 - i) back))
+  stretch-elements i =
+      all-take _ (n + n - i - (n - 1 - i))
+      (all-drop _ (n - 1 - i) (rw (r .back-are) (tabulate-below _ (n + n) (λ i. inverse-below (n + n - i)))))
 
   pub inner-stretch : (scaled part : List ℕ) (i : ℕ) → length scaled ≡ suc n → i < n
       → part ≡ take (n + n - i - (n - 1 - i)) (drop (n - 1 - i) back)

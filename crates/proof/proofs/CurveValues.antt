@@ -3,13 +3,15 @@
 use mathlib.Core.Path.{_≡_, sym, ap, ap₂, _∙_}
 use mathlib.Core.List.{List}
 use Prim.Native.Nat.{ℕ, suc, _+_, _-_, _<_, _≤_}
+use native.Mathlib.Nat.{mod-lt}
 use native.Mathlib.Omega.{arith}
+use lib.Dec.{lit<}
 use lib.ListN.{length}
 use Rattle.algebra.specs.Lists.{tabulate}
 use Rattle.algebra.proofs.Tables.{length-tabulate, getD-tabulate}
 use Rattle.algebra.proofs.Sums.{sum-ext}
-use Rattle.field.specs.Residues.{residues}
-use Rattle.field.proofs.Below.{member-below}
+use Rattle.field.specs.Residues.{residues, Elements}
+use Rattle.field.proofs.Below.{member-below, tabulate-below}
 use Rattle.walk.specs.Walks.{members}
 use Rattle.proof.specs.Curves.{fallAt, scaledAt, beyondAt, valueAt, Curve}
 use Rattle.proof.proofs.Extrapolation.{value-at-point, value-beyond}
@@ -17,6 +19,9 @@ use Rattle.proof.proofs.Extrapolation.{value-at-point, value-beyond}
 module _ {n : ℕ} {ys scaled : List ℕ} (v : Curve n ys scaled) (few : n ≤ 256) where
   pub scaled-long : length scaled ≡ suc n
   scaled-long = ap length (v .scaled-are) ∙ length-tabulate _ (suc n)
+
+  pub scaled-elements : Elements scaled
+  scaled-elements = rw (v .scaled-are) (tabulate-below (scaledAt n ys) (suc n) (λ j. mod-lt _ (lit< tt)))
 
   pub value-given : (j : ℕ) → j < length ys → members ys j ≡ valueAt n ys j
   value-given j h =

@@ -17,7 +17,7 @@ ghost use Rattle.walk.specs.Walks.{plain, members, Entries};
 ghost use Rattle.proof.specs.Curves.{scaledAt, fallAt, beyondAt, valueAt, scaledShift, shiftAt, Weights, Ready, Curve};
 
 // out[j] = y[j] times the weight of point j.
-fn scale(y: &[u32], weights: &[u32], out: &mut [u32])
+fn scale(y: &[u32], weights: &[u32], out: &mut [u64])
     requires { ⌜ Weights (length (now out) - 1) (now weights) × Elements (now y) ⌝ }
     requires { ⌜ (length (now y) ≡ length (now out)) × (0 < length (now out)) ⌝ }
     ensures { λ _. ⌜ now (out .exit)
@@ -25,13 +25,13 @@ fn scale(y: &[u32], weights: &[u32], out: &mut [u32])
 {
     let mut j = 0;
     while j < out.len() {
-        out[j] = field::mul(y[j], weights[j]);
+        out[j] = field::mul(y[j], weights[j]) as u64;
         j += 1;
     }
 }
 
 // out[i] = 1 / (n - i), where n is the length of out: the inverses in the other order.
-fn fill_back(inverses: &[u32], out: &mut [u32])
+fn fill_back(inverses: &[u32], out: &mut [u64])
     requires { ⌜ (length (now inverses) ≡ length (now out))
         × (now inverses ≡ tabulate (λ i. residues .inv (suc i)) (length (now out))) ⌝ }
     ensures { λ _. ⌜ now (out .exit)
@@ -39,7 +39,7 @@ fn fill_back(inverses: &[u32], out: &mut [u32])
 {
     let mut i = 0;
     while i < out.len() {
-        out[i] = inverses[out.len() - 1 - i];
+        out[i] = inverses[out.len() - 1 - i] as u64;
         i += 1;
     }
 }
@@ -73,7 +73,7 @@ fn fill_falls(inverses: &[u32], out: &mut [u32])
 }
 
 // The tables for polynomials of degree at most n, where n is the length of falls.
-fn fill_tables(weights: &mut [u32], falls: &mut [u32], back: &mut [u32])
+fn fill_tables(weights: &mut [u32], falls: &mut [u32], back: &mut [u64])
     requires { ⌜ (length (now falls) ≤ 256) × (length (now weights) ≡ suc (length (now falls)))
         × (length (now back) ≡ length (now falls) + length (now falls)) ⌝ }
     ensures { λ _. ⌜ Weights (length (now (falls .entry))) (now (weights .exit))
@@ -88,20 +88,20 @@ fn fill_tables(weights: &mut [u32], falls: &mut [u32], back: &mut [u32])
 }
 
 // The value at t = n + 1 + i, where n is the length of falls: the inner product of the scaled values and the inverses of
-// t - j, which are a stretch of the table, times the product of t - k.
-fn beyond(scaled: &[u32], falls: &[u32], back: &[u32], i: usize) -> u32
+// t - j, which are a stretch of the table, times the product of t - k. Both are kept in 64 bits for this product.
+fn beyond(scaled: &[u64], falls: &[u32], back: &[u64], i: usize) -> u32
     requires { ⌜ Ready (length (now falls)) (now falls) (now back) × (length (now scaled) ≡ suc (length (now falls)))
-        × (i < length (now falls)) ⌝ }
+        × (i < length (now falls)) × Elements (now scaled) ⌝ }
     ensures { λ r. ⌜ r ≡ beyondAt (length (now (falls .entry))) (now (scaled .entry)) i ⌝ }
 {
     let n = falls.len();
     let first = n - 1 - i;
     let last = n + n - i;
-    field::mul(field::inner(scaled, &back[first..last]), falls[i])
+    field::mul(field::inner_wide(scaled, &back[first..last]), falls[i])
 }
 
 // The value at j, up to 2n, of the polynomial whose values at 0, .., n are y.
-fn value(y: &[u32], scaled: &[u32], falls: &[u32], back: &[u32], j: usize) -> u32
+fn value(y: &[u32], scaled: &[u64], falls: &[u32], back: &[u64], j: usize) -> u32
     requires { ⌜ Curve (length (now falls)) (now y) (now scaled) × Ready (length (now falls)) (now falls) (now back)
         × (j < suc (length (now falls) + length (now falls))) ⌝ }
     ensures { λ r. ⌜ r ≡ valueAt (length (now (falls .entry))) (now (y .entry)) j ⌝ }
@@ -123,7 +123,7 @@ fn scaled_shift(weights: &[u32], d: u32) -> u32
 
 // The value at j, up to 2n, of the polynomial that is d at 0 and P - 1 at 1, .., n, where n is the length of falls: beyond n
 // it is P - 1 plus k times the product of j - i over the points i = 1, .., n.
-fn shift(d: u32, k: u32, falls: &[u32], back: &[u32], j: usize) -> u32
+fn shift(d: u32, k: u32, falls: &[u32], back: &[u64], j: usize) -> u32
     requires { ⌜ (d < prime) × (k ≡ scaledShift (length (now falls)) d) × Ready (length (now falls)) (now falls) (now back)
         × (j < suc (length (now falls) + length (now falls))) ⌝ }
     ensures { λ r. ⌜ r ≡ shiftAt (length (now (falls .entry))) d j ⌝ }
@@ -133,7 +133,8 @@ fn shift(d: u32, k: u32, falls: &[u32], back: &[u32], j: usize) -> u32
     } else if j <= falls.len() {
         field::P - 1
     } else {
-        let others = field::mul(falls[j - falls.len() - 1], back[back.len() - j]);
+        let inverse = back[back.len() - j] as u32;
+        let others = field::mul(falls[j - falls.len() - 1], inverse);
         field::mul_add(k, others, field::P - 1)
     }
 }
@@ -152,11 +153,11 @@ fn fill_f(sheet: &[u8], x: &[u32], u: u32, out: &mut [u32])
 // factors, and k is what `scaled_shift` gives.
 fn fill_products(
     f: &[u32],
-    fs: &[u32],
+    fs: &[u64],
     d: u32,
     k: u32,
     falls: &[u32],
-    back: &[u32],
+    back: &[u64],
     out: &mut [u32],
 )
     requires { ⌜ Curve (length (now falls)) (now f) (now fs) × (d < prime) × (k ≡ scaledShift (length (now falls)) d) ⌝ }
@@ -175,7 +176,7 @@ fn fill_products(
 }
 
 // f by its values, and these with their weights as factors.
-fn curve_f(sheet: &[u8], x: &[u32], u: u32, weights: &[u32], f: &mut [u32], fs: &mut [u32])
+fn curve_f(sheet: &[u8], x: &[u32], u: u32, weights: &[u32], f: &mut [u32], fs: &mut [u64])
     requires { ⌜ Entries (now sheet) (now x) × (u < prime) × (length (now f) ≡ suc (gatesIn (columnsOf (now sheet)))) ⌝ }
     requires { ⌜ Weights (gatesIn (columnsOf (now sheet))) (now weights) × (length (now fs) ≡ length (now f)) ⌝ }
     ensures { λ _. ⌜ (now (f .exit)
@@ -194,7 +195,7 @@ fn fill_with(
     v: u32,
     weights: &[u32],
     falls: &[u32],
-    back: &[u32],
+    back: &[u64],
     out: &mut [u32],
 )
     requires { ⌜ Entries (now sheet) (now x) × (u < prime) × (v < prime) × (length (now falls) ≡ gatesIn (columnsOf (now sheet))) ⌝ }
@@ -206,7 +207,7 @@ fn fill_with(
         (suc (gatesIn (columnsOf (now (sheet .entry))) + gatesIn (columnsOf (now (sheet .entry))))) ⌝ }
 {
     let mut f = [0u32; 257];
-    let mut fs = [0u32; 257];
+    let mut fs = [0u64; 257];
     let n = falls.len() + 1;
     curve_f(sheet, x, u, weights, &mut f[..n], &mut fs[..n]);
     let d = field::sub(v, u);
@@ -225,7 +226,7 @@ pub fn fill_h(sheet: &[u8], x: &[u32], u: u32, v: u32, out: &mut [u32])
 {
     let mut weights = [0u32; 257];
     let mut falls = [0u32; 256];
-    let mut back = [0u32; 512];
+    let mut back = [0u64; 512];
     let n = out.len() / 2;
     let points = n + 1;
     let twice = n + n;

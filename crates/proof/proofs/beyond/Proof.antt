@@ -1,9 +1,9 @@
 -- `proof::beyond` meets its contract: the part of the table is the stretch of the inverses. Assumes nothing.
-use mathlib.Core.Path.{refl, ap₂, _∙_}
+use mathlib.Core.Path.{refl, sym, ap₂, _∙_}
 use native.Mathlib.Omega.{arith}
 use Rattle.field.specs.Residues.{residues}
 use Rattle.field.proofs.Below.{sum-below}
-use Rattle.proof.proofs.Backwards.{back-long, fall-at, fall-low, inner-stretch}
+use Rattle.proof.proofs.Backwards.{back-long, fall-at, fall-low, stretch-long, stretch-elements, inner-stretch}
 use borrow.Author.Needs.{needs}
 use Rattle.proof.proofs.beyond.Statement.{statement}
 use Rattle.proof.proofs.beyond.Tie as tie
@@ -20,22 +20,29 @@ add-last c = search needs
 sub-last : tie.Need-sub-last
 sub-last c = search needs
 
-mul-inner : tie.Need-mul-inner
-mul-inner c = search needs
+mul-inner-wide : tie.Need-mul-inner-wide
+mul-inner-wide c = search needs
 
-sub-inner : tie.Need-sub-inner
-sub-inner c = search needs
+sub-inner-wide : tie.Need-sub-inner-wide
+sub-inner-wide c = search needs
 
-part-inner-start : tie.Need-part-inner-start
-part-inner-start c = search needs
+part-inner-wide-start : tie.Need-part-inner-wide-start
+part-inner-wide-start c = search needs
 
-part-inner-end : tie.Need-part-inner-end
-part-inner-end c =
+part-inner-wide-end : tie.Need-part-inner-wide-end
+part-inner-wide-end c =
     let s = c .before .before .before in
     omega (arith, back-long (s .pre .0))
 
-inner-requires : tie.Need-inner-requires
-inner-requires c κs = search needs
+inner-wide-requires : tie.Need-inner-wide-requires
+inner-wide-requires c κs =
+    let s = c .before .before .before .before in
+    let l = stretch-long (s .pre .0) (s .args .i) (s .pre .2) in (
+      s .pre .1 ∙ sym l,
+      omega (arith, s .pre .0 .few, s .pre .1),
+      s .pre .3,
+      stretch-elements (s .pre .0) (s .args .i),
+    )
 
 mul-mul : tie.Need-mul-mul
 mul-mul c = search needs
@@ -46,14 +53,14 @@ shared-slice-read-mul c = search needs
 mul-requires : tie.Need-mul-requires
 mul-requires c κs =
     let s = c .before .before .before .before .before .before in
-    (rw (c .before .inner .ensures) (sum-below _ _), fall-low (s .pre .0) _ (s .pre .2))
+    (rw (c .before .inner-wide .ensures) (sum-below _ _), fall-low (s .pre .0) _ (s .pre .2))
 
 returns : tie.Need-returns
 returns c =
     let s = c .before .before .before .before .before .before .before in
     c .mul .ensures
     ∙ ap₂ (residues ._⊗_)
-    (c .before .before .inner .ensures
+    (c .before .before .inner-wide .ensures
     ∙ inner-stretch (s .pre .0) (s .args .scaled .now) _ (s .args .i) (s .pre .1) (s .pre .2) refl)
     (fall-at (s .pre .0) _ (s .pre .2))
 
@@ -65,11 +72,11 @@ beyond-spec =
     sub-first-2
     add-last
     sub-last
-    mul-inner
-    sub-inner
-    part-inner-start
-    part-inner-end
-    inner-requires
+    mul-inner-wide
+    sub-inner-wide
+    part-inner-wide-start
+    part-inner-wide-end
+    inner-wide-requires
     mul-mul
     shared-slice-read-mul
     mul-requires

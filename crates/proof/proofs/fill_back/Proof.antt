@@ -1,13 +1,17 @@
 -- `proof::fill_back` meets its contract: its loop fills the buffer with the inverses in the other order. Assumes nothing.
-use Prim.Native.Nat.{_-_, _<_}
+use Prim.Native.Nat.{ℕ, _-_, _^_, _<_}
 use native.Mathlib.Omega.{arith}
 use lib.ListN.{length}
-use Rattle.field.specs.Residues.{residues}
+use Rattle.field.specs.Residues.{prime, residues}
 use Rattle.walk.proofs.Filling.{Filling, start, turn, finish}
-use Rattle.proof.proofs.Backwards.{inverse-back}
+use Rattle.proof.proofs.Backwards.{inverse-back, inverse-low}
 use borrow.Author.Needs.{needs}
 use Rattle.proof.proofs.fill_back.Statement.{statement}
 use Rattle.proof.proofs.fill_back.Tie as tie
+
+-- an element fits 64 bits
+below-word : {x : ℕ} → x < prime → x < 2 ^ 64
+below-word h = omega arith
 
 abbrev Inv-loop : tie.InvT-loop
 Inv-loop inverses out₀ i₀ out i = Filling (λ i. residues .inv (length out₀ - i)) out₀ out i
@@ -29,6 +33,11 @@ mul-out c = search needs
 
 shared-slice-read-out : tie.Need-shared-slice-read-out Inv-loop μ-loop
 shared-slice-read-out c = search needs
+
+cast-out : tie.Need-cast-out Inv-loop μ-loop
+cast-out c =
+    let s = c .before .before .before in
+    record { fits = below-word (inverse-low (s .args .inverses .now) _ _ (s .pre .1)) }
 
 mul-out-2 : tie.Need-mul-out-2 Inv-loop μ-loop
 mul-out-2 c = search needs
@@ -66,6 +75,7 @@ fill-back-spec =
     sub-out-2
     mul-out
     shared-slice-read-out
+    cast-out
     mul-out-2
     slice-write-out
     add-i

@@ -43,6 +43,9 @@ mul-requires c κs =
     let s = c .before .before .before .before .before .before .before in
     (member-below _ _ (s .pre .0 .1), weight-low (s .pre .0 .0) _)
 
+cast-out : tie.Need-cast-out Inv-loop μ-loop
+cast-out c = search needs
+
 mul-out : tie.Need-mul-out Inv-loop μ-loop
 mul-out c = search needs
 
@@ -82,6 +85,7 @@ scale-spec =
     mul-mul-2
     shared-slice-read-mul-2
     mul-requires
+    cast-out
     mul-out
     slice-write-out
     add-j

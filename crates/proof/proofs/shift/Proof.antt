@@ -1,17 +1,41 @@
 -- `proof::shift` meets its contract: at a point the given number, beyond them the one that follows. Assumes nothing.
 use mathlib.Core.Path.{ap, _∙_}
-use Prim.Native.Nat.{_+_, _≤_}
+use Prim.Native.Nat.{_+_, _-_, _<_, _≤_}
 use native.Mathlib.Omega.{arith}
-use lib.ListN.{length}
-use Rattle.field.specs.Residues.{residues}
+use lib.ListN.{length, getD}
+use Rattle.field.specs.Residues.{prime, residues}
 use Rattle.proof.proofs.Backwards.{back-long, fall-low, inverse-at-low}
 use Rattle.proof.proofs.Shifts.{shift-at-first, shift-at-other, shift-after}
 use borrow.Author.Needs.{needs}
 use Rattle.proof.proofs.shift.Statement.{statement}
 use Rattle.proof.proofs.shift.Tie as tie
 
+-- the inverse that is read
+inverse-low : (c : tie.After-shared-slice-known3)
+    → getD (c .before .before .before .before .before .args .back .now) (length (c .before .before .before .before .before .args .back .now) - c .before .before .before .before .before .args .j) 0 < prime
+inverse-low c =
+    let s = c .before .before .before .before .before in
+    let within : s .args .j ≤ length (s .args .falls .now) + length (s .args .falls .now) = omega (arith, s .pre .3) in
+    inverse-at-low (s .pre .2) (s .args .j) (omega arith) within
+
 sub-result : tie.Need-sub-result
 sub-result c = search needs
+
+sub-inverse : tie.Need-sub-inverse
+sub-inverse c =
+    let s = c .before .before .before .before in
+    omega (arith, back-long (s .pre .2), s .pre .3)
+
+mul-inverse : tie.Need-mul-inverse
+mul-inverse c = search needs
+
+shared-slice-read-inverse : tie.Need-shared-slice-read-inverse
+shared-slice-read-inverse c =
+    let s = c .before .before .before .before .before in
+    omega (arith, back-long (s .pre .2), s .pre .3)
+
+cast-inverse : tie.Need-cast-inverse
+cast-inverse c = omega (arith, inverse-low c)
 
 sub-mul : tie.Need-sub-mul
 sub-mul c = search needs
@@ -25,24 +49,10 @@ mul-mul c = search needs
 shared-slice-read-mul : tie.Need-shared-slice-read-mul
 shared-slice-read-mul c = search needs
 
-sub-mul-3 : tie.Need-sub-mul-3
-sub-mul-3 c =
-    let s = c .before .before .before .before .before in
-    omega (arith, back-long (s .pre .2), s .pre .3)
-
-mul-mul-2 : tie.Need-mul-mul-2
-mul-mul-2 c = search needs
-
-shared-slice-read-mul-2 : tie.Need-shared-slice-read-mul-2
-shared-slice-read-mul-2 c =
-    let s = c .before .before .before .before .before .before in
-    omega (arith, back-long (s .pre .2), s .pre .3)
-
 mul-requires : tie.Need-mul-requires
 mul-requires c κs =
     let s = c .before .before .before .before .before .before in
-    let within : s .args .j ≤ length (s .args .falls .now) + length (s .args .falls .now) = omega (arith, s .pre .3) in
-    (fall-low (s .pre .2) _ (omega (arith, s .pre .3)), inverse-at-low (s .pre .2) (s .args .j) (omega arith) within)
+    (fall-low (s .pre .2) _ (omega (arith, s .pre .3)), inverse-low (c .before))
 
 sub-mul-add : tie.Need-sub-mul-add
 sub-mul-add c = search needs
@@ -73,13 +83,14 @@ shift-spec =
     tie.close
     (tie.spec
     sub-result
+    sub-inverse
+    mul-inverse
+    shared-slice-read-inverse
+    cast-inverse
     sub-mul
     sub-mul-2
     mul-mul
     shared-slice-read-mul
-    sub-mul-3
-    mul-mul-2
-    shared-slice-read-mul-2
     mul-requires
     sub-mul-add
     mul-add-requires

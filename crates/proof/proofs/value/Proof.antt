@@ -1,7 +1,7 @@
 -- `proof::value` meets its contract: at a point the given value, beyond them the one that follows. Assumes nothing.
 use mathlib.Core.Path.{_∙_}
 use native.Mathlib.Omega.{arith}
-use Rattle.proof.proofs.CurveValues.{scaled-long, value-given, value-follows}
+use Rattle.proof.proofs.CurveValues.{scaled-long, scaled-elements, value-given, value-follows}
 use borrow.Author.Needs.{needs}
 use Rattle.proof.proofs.value.Statement.{statement}
 use Rattle.proof.proofs.value.Tie as tie
@@ -18,8 +18,12 @@ sub-beyond c = search needs
 beyond-requires : tie.Need-beyond-requires
 beyond-requires c κs =
     let s = c .before .before .before .before .before in
-    let k = c .if1 .left in
-    (s .pre .1, scaled-long (s .pre .0) (s .pre .1 .few), omega (arith, s .pre .0 .size, s .pre .2))
+    let k = c .if1 .left in (
+      s .pre .1,
+      scaled-long (s .pre .0) (s .pre .1 .few),
+      omega (arith, s .pre .0 .size, s .pre .2),
+      scaled-elements (s .pre .0) (s .pre .1 .few),
+    )
 
 returns : tie.Need-returns
 returns c =

@@ -34,6 +34,10 @@ module _ (f : ℕ → ℕ) where
   pub finish : {d l : List ℕ} {i : ℕ} → Filling d l i → length d ≤ i → l ≡ tabulate f (length d)
   finish {d} {l} {i} w h = fill-all f d l i h (w .within) (w .filled)
 
+  -- a buffer of one place, filled by one store
+  pub one-place : (d : List ℕ) (v : ℕ) → length d ≡ 1 → v ≡ f 0 → set d 0 v ≡ tabulate f (length d)
+  one-place d v h e = finish (turn v (start d) (omega arith) e) (omega arith)
+
 -- a sum that is an element
 module _ (x : ℕ → ℕ) (a : ℕ) (f : ℕ → ℕ) where
   pub record Adding (acc i : ℕ) : Type 0 where

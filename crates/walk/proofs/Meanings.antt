@@ -22,6 +22,9 @@ use Rattle.walk.proofs.Filling.{sum-same}
 use Rattle.walk.proofs.Walking.{walked, Parts}
 
 -- ---- the parts of the walks
+abbrev pub leftPart : Meaning ℕ → ℕ → ℕ → Column → List ℕ
+leftPart μ e t c = columnLefts document01 μ e c
+
 abbrev pub rightPart : Meaning ℕ → ℕ → ℕ → Column → List ℕ
 rightPart μ e t c = columnRights document01 μ e c
 
@@ -29,6 +32,10 @@ abbrev pub testPart : Meaning ℕ → ℕ → ℕ → Column → List ℕ
 testPart μ e t c = columnTests document01 μ e t c
 
 module _ (μ : Meaning ℕ) where
+  pub lefts : Parts (leftPart μ) gatesOf gatesIn
+  unfolding columnLefts
+  lefts = record { total = gates; each = λ e t c. length-tabulate _ (gatesOf c) }
+
   pub rights : Parts (rightPart μ) gatesOf gatesIn
   unfolding columnRights
   rights = record { total = gates; each = λ e t c. length-tabulate _ (gatesOf c) }
@@ -48,6 +55,11 @@ module _ (μ : Meaning ℕ) where
 
   pub tests : Parts (testPart μ) testsOf testsIn
   tests = record { total = test-count; each = length-test }
+
+  pub lefts-walked : (cs : List Column) (e t : ℕ) → walked (leftPart μ) e t cs ≡ walkLefts document01 μ e cs
+  unfolding walked walkLefts
+  lefts-walked [] e t = refl
+  lefts-walked (c ∷ cs) e t = ap (columnLefts document01 μ e c ++_) (lefts-walked cs (e + entriesOf c) (t + gatesOf c))
 
   pub rights-walked : (cs : List Column) (e t : ℕ) → walked (rightPart μ) e t cs ≡ walkRights document01 μ e cs
   unfolding walked walkRights

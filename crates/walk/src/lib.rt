@@ -8,7 +8,7 @@ ghost use Rattle.field.specs.Residues.{prime, residues, Elements};
 ghost use Rattle.rules.specs.Settings.{document01};
 ghost use Rattle.rules.specs.Columns.{columnsOf, entriesOf};
 ghost use Rattle.rules.specs.Circuit.{gatesOf, testsOf, gatesIn, testsIn};
-ghost use Rattle.rules.specs.Walk.{sumFrom, bitsAt, sumTests, columnTests, walkLefts, walkRights, walkTests};
+ghost use Rattle.rules.specs.Walk.{sumFrom, bitsAt, sumTests, columnLefts, columnTests, walkLefts, walkRights, walkTests};
 ghost use Rattle.sheet.specs.Cursor.{back};
 ghost use Rattle.walk.specs.Walks.{held, plain, members, outputs, Entries, Outputs, Asked};
 use sheet::columns;
@@ -134,13 +134,34 @@ pub fn fill_rights(s: &[u8], x: &[u32], constant: u32, out: &mut [u32])
     }
 }
 
-// The left inputs of the multiplications: the right ones with nothing added.
+// The left inputs of one column, whose first entry is e: its bits.
+fn column_lefts(x: &[u32], e: usize, column: Column, out: &mut [u32])
+    requires { ⌜ (e + entriesOf (back column) ≤ length (now x)) × (length (now out) ≡ gatesOf (back column)) ⌝ }
+    ensures { λ _. ⌜ now (out .exit) ≡ columnLefts document01 (plain 0 (members (now (x .entry)))) e (back column) ⌝ }
+{
+    match column {
+        Column::YesNo => out[0] = x[e],
+        Column::Choice(_) => copy(x, e, out),
+        Column::Number(_) => copy(x, e + 1, out),
+    }
+}
+
+// The left inputs of the multiplications.
 pub fn fill_lefts(s: &[u8], x: &[u32], out: &mut [u32])
     requires { ⌜ Entries (now s) (now x) × (length (now out) ≡ gatesIn (columnsOf (now s))) ⌝ }
     ensures { λ _. ⌜ now (out .exit)
         ≡ walkLefts document01 (plain 0 (members (now (x .entry)))) 0 (columnsOf (now (s .entry))) ⌝ }
 {
-    fill_rights(s, x, 0, out);
+    let mut c = columns::start();
+    while c.at < s.len() {
+        let step = columns::next(s, c);
+        let column = step.column;
+        let from = c.gates;
+        let to = from + gates_of(column);
+        column_lefts(x, c.entry, column, &mut out[from..to]);
+        let after = step.next;
+        c = after;
+    }
 }
 
 // The tests of one column, whose first entry is e, with t multiplications before it: the outputs of its multiplications,

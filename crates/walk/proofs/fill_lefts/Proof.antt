@@ -1,25 +1,138 @@
--- `walk::fill_lefts` meets its contract: right inputs with nothing added are the left ones. Assumes nothing.
-use mathlib.Core.Path.{_∙_}
-use lib.Dec.{lit<}
-use borrow.Author.Needs.{needs}
+-- `walk::fill_lefts` meets its contract: each turn writes the inputs of one column behind those of the columns before.
+-- Assumes nothing.
+use mathlib.Core.Path.{_≡_, sym, ap, _∙_, subst}
+use Prim.Native.Nat.{ℕ, _+_, _-_, _≤_}
+use native.Mathlib.Omega.{arith}
+use borrow.Rule.Slice.PartMut.{mid-len}
+use lib.ListN.{length}
 use Rattle.rules.specs.Columns.{columnsOf}
-use Rattle.walk.proofs.Meanings.{rights-are-lefts}
+use Rattle.rules.specs.Circuit.{gatesIn, gatesOf}
+use Rattle.rules.specs.Run.{Meaning}
+use Rattle.sheet.specs.declared.columns.Cursor.{Cursor}
+use Rattle.sheet.specs.Cursor.{back}
+use Rattle.sheet.proofs.Sums.{gates}
+use Rattle.walk.specs.Walks.{plain, members}
+use Rattle.walk.proofs.Walking.{Walking, Turned, turned, walk-start, stands, walk-put, walk-finish}
+use Rattle.walk.proofs.Meanings.{leftPart, lefts, lefts-walked}
 use Rattle.walk.proofs.fill_lefts.Statement.{statement}
 use Rattle.walk.proofs.fill_lefts.Tie as tie
 
-fill-rights-requires : tie.Need-fill-rights-requires
-fill-rights-requires c κs =
+abbrev Inv-loop : tie.InvT-loop
+Inv-loop s x out₀ c₀ out c =
+    Walking (leftPart (plain 0 (members x))) gatesIn s out₀ out c (c .gates)
+
+abbrev μ-loop : tie.MeasureT-loop
+μ-loop s x out₀ c₀ out c = length s - c .at
+
+abbrev given : tie.At-loop Inv-loop μ-loop → tie.Start Inv-loop μ-loop
+given l = l .before .before .before .before .before
+
+abbrev meaning : tie.Start Inv-loop μ-loop → Meaning ℕ
+meaning z = plain 0 (members (z .args .x .now))
+
+-- ---- a turn, once its column is read
+abbrev round : tie.After-next Inv-loop μ-loop → tie.At-loop Inv-loop μ-loop
+round n = n .before .before .before
+
+turn : (n : tie.After-next Inv-loop μ-loop)
+    → Turned (given (round n) .args .s .now) (round n .loop .c) (n .next .result)
+turn n =
+    turned (n .next .result) (given (round n) .pre .0 .is-read) (round n .loop .inv .here) (n .before .if1 .taken)
+    (n .next .ensures)
+
+-- the inputs of the column, with those before it, are no more than the buffer has places for
+fits : (n : tie.After-next Inv-loop μ-loop)
+    → round n .loop .c .gates + gatesOf (back (n .next .result .column)) ≤ length (given (round n) .args .out .now)
+fits n = omega (arith, turn n .gates-next, turn n .gates-fit, given (round n) .pre .1)
+
+-- ---- the steps
+start-requires : tie.Need-start-requires Inv-loop μ-loop
+start-requires c κs = tt
+
+loop-holds : tie.Need-loop-holds Inv-loop μ-loop
+loop-holds c =
     let z = c .before .before .before .before in
-    (z .pre .0, z .pre .1, lit< tt)
+    let out = z .args .out .now in
+    let none : c .start .result .gates ≡ 0 = ap (λ (u : Cursor). u .gates) (c .start .ensures) ∙ gates .nothing in
+    subst (Walking (leftPart (meaning z)) gatesIn (z .args .s .now) out out (c .start .result)) (sym none)
+    (walk-start (lefts (meaning z)) out (c .start .result) (c .start .ensures))
 
-same-length : tie.Need-same-length
-same-length c = search needs
+next-requires : tie.Need-next-requires Inv-loop μ-loop
+next-requires c κs =
+    let l = c .before .before in stands (given l .pre .0 .is-read) (l .loop .inv .here) (c .if1 .taken)
 
-returns : tie.Need-returns
+gates-of-requires : tie.Need-gates-of-requires Inv-loop μ-loop
+gates-of-requires c κs = tt
+
+add-to : tie.Need-add-to Inv-loop μ-loop
+add-to c = omega (arith, c .gates-of .ensures, fits (c .before))
+
+mul-column-lefts : tie.Need-mul-column-lefts Inv-loop μ-loop
+mul-column-lefts c = record { fits = omega (arith, fits (c .before)) }
+
+sub-column-lefts : tie.Need-sub-column-lefts Inv-loop μ-loop
+sub-column-lefts c = omega arith
+
+part-column-lefts-start : tie.Need-part-column-lefts-start Inv-loop μ-loop
+part-column-lefts-start c = omega arith
+
+part-column-lefts-end : tie.Need-part-column-lefts-end Inv-loop μ-loop
+part-column-lefts-end c =
+    let n = c .before in omega (arith, c .gates-of .ensures, fits n, round n .loop .inv .same)
+
+column-lefts-requires : tie.Need-column-lefts-requires Inv-loop μ-loop
+column-lefts-requires c κs =
+    let n = c .before .before in
+    let l = round n .loop in
+    let count = c .before .gates-of in
+    let fit : l .c .gates + count .result ≤ length (l .out) = omega (arith, count .ensures, fits n, l .inv .same) in (
+      omega (arith, turn n .entries-fit, given (round n) .pre .0 .enough),
+      mid-len (l .c .gates) (l .c .gates + count .result) (l .out) fit ∙ omega (arith, count .ensures),
+    )
+
+loop-less : tie.Need-loop-less Inv-loop μ-loop
+loop-less c = turn (c .before .before .before .before .before .before) .less
+
+loop-again : tie.Need-loop-again Inv-loop μ-loop
+loop-again c =
+    let n = c .before .before .before .before .before .before in
+    let count = c .before .before .before .before .before .gates-of in
+    let filled = c .before .before .before .column-lefts in
+    let z = given (round n) in
+    let l = round n .loop in
+    let end : l .c .gates + count .result ≡ n .next .result .next .gates
+    = omega (arith, count .ensures, turn n .gates-next) in
+    subst (Walking (leftPart (meaning z)) gatesIn (z .args .s .now) (z .args .out .now) _ (n .next .result .next)) end
+    (walk-put (lefts (meaning z)) (n .next .result) (filled .last .1 .1 .1 .0) (l .c .gates + count .result) (l .inv)
+    (turn n) (filled .ensures) (ap (l .c .gates +_) (count .ensures)) (omega (arith, count .ensures, fits n)))
+
+same-length : tie.Need-same-length Inv-loop μ-loop
+same-length c = c .before .before .loop .inv .same
+
+returns : tie.Need-returns Inv-loop μ-loop
 returns c =
-    let z = c .before .before .before .before .before .before .before in
-    c .before .before .fill-rights .ensures
-    ∙ rights-are-lefts (z .args .x .now) (z .pre .0 .elements) (columnsOf (z .args .s .now))
+    let l = c .before .before in
+    let z = given l in
+    walk-finish (lefts (meaning z)) (z .pre .0 .is-read) (l .loop .inv) (c .if1 .left) (z .pre .1)
+    ∙ lefts-walked (meaning z) (columnsOf (z .args .s .now)) 0 0
 
 pub fill-lefts-spec : {M : Type 1} → statement M
-fill-lefts-spec = tie.close (tie.spec fill-rights-requires same-length returns)
+fill-lefts-spec =
+    tie.close
+    (tie.spec
+    Inv-loop
+    μ-loop
+    start-requires
+    loop-holds
+    next-requires
+    gates-of-requires
+    add-to
+    mul-column-lefts
+    sub-column-lefts
+    part-column-lefts-start
+    part-column-lefts-end
+    column-lefts-requires
+    loop-less
+    loop-again
+    same-length
+    returns)

@@ -1,0 +1,137 @@
+-- `walk::column_lefts` meets its contract: by the kinds of columns, the entries from the first bit on. Assumes nothing.
+use borrow.Author.Needs.{needs}
+use mathlib.Core.Path.{_≡_, refl, sym, ap, ap₂, _∙_}
+use mathlib.Core.List.{List}
+use Prim.Native.Nat.{ℕ, _+_}
+use native.Mathlib.Nat.{add-zero}
+use native.Mathlib.Numerals.{add-one}
+use native.Mathlib.Omega.{arith}
+use lib.ListN.{length}
+use Rattle.algebra.specs.Lists.{tabulate}
+use Rattle.rules.specs.Settings.{document01}
+use Rattle.rules.specs.Columns.{entriesOf}
+use Rattle.rules.specs.Circuit.{gatesOf}
+use Rattle.rules.specs.Walk.{bitsAt, columnLefts}
+use Rattle.sheet.specs.declared.columns.Column as code
+use Rattle.sheet.specs.Cursor.{back}
+use Rattle.walk.specs.Walks.{plain, members}
+use Rattle.walk.proofs.Filling.{one-place}
+use Rattle.walk.proofs.Meanings.{bits-fit}
+use Rattle.walk.proofs.column_lefts.Statement.{statement}
+use Rattle.walk.proofs.column_lefts.Tie as tie
+
+-- the first bit, the multiplications and the entries of a column that is told
+bits : {a b : code.Column} (xs : List ℕ) (e : ℕ) → a ≡ b
+    → bitsAt document01 (plain 0 (members xs)) e (back a) ≡ bitsAt document01 (plain 0 (members xs)) e (back b)
+bits xs e q = ap (λ (k : code.Column). bitsAt document01 (plain 0 (members xs)) e (back k)) q
+
+gates : {a b : code.Column} → a ≡ b → gatesOf (back a) ≡ gatesOf (back b)
+gates q = ap (λ (k : code.Column). gatesOf (back k)) q
+
+entries : {a b : code.Column} → a ≡ b → entriesOf (back a) ≡ entriesOf (back b)
+entries q = ap (λ (k : code.Column). entriesOf (back k)) q
+
+-- n members from b on, once b is the first bit
+from-bits : (a : code.Column) (xs : List ℕ) (e b n : ℕ) → bitsAt document01 (plain 0 (members xs)) e (back a) ≡ b
+    → n ≡ gatesOf (back a)
+    → tabulate (λ i. members xs (b + i)) n ≡ columnLefts document01 (plain 0 (members xs)) e (back a)
+unfolding columnLefts
+from-bits a xs e b n p q = ap₂ (λ (b n : ℕ). tabulate (λ i. members xs (b + i)) n) (sym p) q
+
+enum-told : tie.Need-enum-told
+enum-told c = search needs
+
+mul-out : tie.Need-mul-out
+mul-out c = search needs
+
+shared-slice-read-out : tie.Need-shared-slice-read-out
+unfolding entriesOf
+shared-slice-read-out c =
+    omega (arith, c .before .before .before .before .before .pre .0, entries (c .before .enum-told .given .1))
+
+slice-write-out : tie.Need-slice-write-out
+unfolding gatesOf
+slice-write-out c =
+    omega (arith, c .before .before .before .before .before .pre .1, gates (c .before .enum-told .given .1))
+
+enum-told-2 : tie.Need-enum-told-2
+enum-told-2 c = search needs
+
+copy-requires : tie.Need-copy-requires
+unfolding bitsAt
+copy-requires c κs =
+    let z = c .before .before .before .before .before in
+    let first = bits (z .args .x .now) (z .args .e) (c .before .enum-told2 .given .1) in
+    let last = bits-fit (plain 0 (members (z .args .x .now))) (z .args .e) (back (z .args .column)) in
+    omega (arith, z .pre .0, z .pre .1, first, last)
+
+enum-told-3 : tie.Need-enum-told-3
+enum-told-3 c = search needs
+
+add-copy : tie.Need-add-copy
+add-copy c = search needs
+
+copy-requires-2 : tie.Need-copy-requires-2
+unfolding bitsAt
+copy-requires-2 c κs =
+    let z = c .before .before .before .before .before in
+    let first = bits (z .args .x .now) (z .args .e) (c .before .enum-told3 .given .1) in
+    let last = bits-fit (plain 0 (members (z .args .x .now))) (z .args .e) (back (z .args .column)) in
+    omega (arith, z .pre .0, z .pre .1, first, last)
+
+same-length : tie.Need-same-length
+same-length c = search needs
+
+returns : tie.Need-returns
+unfolding bitsAt gatesOf
+returns c =
+    let z = c .before .before .before .before .before in
+    let a = z .args in
+    let told = c .before .enum-told .given .1 in
+    one-place (λ i. members (a .x .now) (a .e + i)) (a .out .now) (members (a .x .now) (a .e)) (z .pre .1 ∙ gates told)
+    (ap (members (a .x .now)) (sym (add-zero (a .e))))
+    ∙ from-bits (a .column) (a .x .now) (a .e) (a .e) _ (bits (a .x .now) (a .e) told) (z .pre .1)
+
+same-length-2 : tie.Need-same-length-2
+same-length-2 c = search needs
+
+returns-2 : tie.Need-returns-2
+unfolding bitsAt
+returns-2 c =
+    let z = c .before .before .before .before .before .before .before .before in
+    let a = z .args in
+    let told = c .before .before .before .before .enum-told2 .given .1 in
+    let first = bits (a .x .now) (a .e) told in
+    c .before .before .copy .ensures ∙ from-bits (a .column) (a .x .now) (a .e) (a .e) _ first (z .pre .1)
+
+same-length-3 : tie.Need-same-length-3
+same-length-3 c = search needs
+
+returns-3 : tie.Need-returns-3
+unfolding bitsAt
+returns-3 c =
+    let z = c .before .before .before .before .before .before .before .before in
+    let a = z .args in
+    let told = c .before .before .before .before .enum-told3 .given .1 in
+    let first = bits (a .x .now) (a .e) told ∙ sym (add-one (a .e)) in
+    c .before .before .copy2 .ensures ∙ from-bits (a .column) (a .x .now) (a .e) (a .e + 1) _ first (z .pre .1)
+
+pub column-lefts-spec : {M : Type 1} → statement M
+column-lefts-spec =
+    tie.close
+    (tie.spec
+    enum-told
+    mul-out
+    shared-slice-read-out
+    slice-write-out
+    enum-told-2
+    copy-requires
+    enum-told-3
+    add-copy
+    copy-requires-2
+    same-length
+    returns
+    same-length-2
+    returns-2
+    same-length-3
+    returns-3)

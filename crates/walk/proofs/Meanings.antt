@@ -2,14 +2,12 @@
 -- has no constant but p - 1. By induction on the columns. Assumes nothing.
 use mathlib.Core.Path.{_≡_, refl, ap, ap₂, _∙_}
 use mathlib.Core.List.{List, [], _∷_, _++_}
-use Prim.Native.Nat.{ℕ, zero, suc, _+_, _%_}
-use native.Mathlib.Nat.{add-zero, mod-eq-of-lt}
+use Prim.Native.Nat.{ℕ, zero, suc, _+_}
 use native.Mathlib.Omega.{arith}
 use lib.ListN.{length, length-append}
 use Rattle.algebra.specs.Lists.{tabulate}
 use Rattle.algebra.proofs.Tables.{length-tabulate}
-use Rattle.field.specs.Residues.{prime, residues, Elements}
-use Rattle.field.proofs.Below.{member-below}
+use Rattle.field.specs.Residues.{residues}
 use Rattle.rules.specs.Settings.{document01}
 use Rattle.rules.specs.Columns.{Column, yesNo, choice, number, entriesOf}
 use Rattle.rules.specs.Circuit.{gatesOf, testsOf, gatesIn, testsIn}
@@ -18,7 +16,6 @@ use Rattle.rules.specs.Walk.{sumFrom, lessOne, bitOut, bitsAt, columnLefts, col
 use Rattle.rules.specs.Walk.{walkLefts, walkRights, walkTests}
 use Rattle.sheet.proofs.Sums.{gates, tests as test-count}
 use Rattle.walk.specs.Walks.{held, plain, members}
-use Rattle.walk.proofs.Filling.{sum-same}
 use Rattle.walk.proofs.Walking.{walked, Parts}
 
 -- ---- the parts of the walks
@@ -59,7 +56,8 @@ module _ (μ : Meaning ℕ) where
   pub lefts-walked : (cs : List Column) (e t : ℕ) → walked (leftPart μ) e t cs ≡ walkLefts document01 μ e cs
   unfolding walked walkLefts
   lefts-walked [] e t = refl
-  lefts-walked (c ∷ cs) e t = ap (columnLefts document01 μ e c ++_) (lefts-walked cs (e + entriesOf c) (t + gatesOf c))
+  lefts-walked (c ∷ cs) e t =
+      ap (columnLefts document01 μ e c ++_) (lefts-walked cs (e + entriesOf c) (t + gatesOf c))
 
   pub rights-walked : (cs : List Column) (e t : ℕ) → walked (rightPart μ) e t cs ≡ walkRights document01 μ e cs
   unfolding walked walkRights
@@ -97,25 +95,6 @@ module _ (μ ν : Meaning ℕ) where
   unfolding walkRights
   rights-same q [] e = refl
   rights-same q (c ∷ cs) e = ap₂ _++_ (right-same q e c) (rights-same q cs (e + entriesOf c))
-
--- ---- left inputs are right inputs with nothing added
-module _ (μ : Meaning ℕ) (q : lessOne document01 μ ≡ μ .entryAt) where
-  column-lefts : (e : ℕ) (c : Column) → columnRights document01 μ e c ≡ columnLefts document01 μ e c
-  unfolding columnRights columnLefts
-  column-lefts e c = ap (λ (f : ℕ → ℕ). tabulate (λ i. f (bitsAt document01 μ e c + i)) (gatesOf c)) q
-
-  lefts-by-rights : (cs : List Column) (e : ℕ) → walkRights document01 μ e cs ≡ walkLefts document01 μ e cs
-  unfolding walkRights walkLefts
-  lefts-by-rights [] e = refl
-  lefts-by-rights (c ∷ cs) e = ap₂ _++_ (column-lefts e c) (lefts-by-rights cs (e + entriesOf c))
-
-nothing-added : (xs : List ℕ) → Elements xs → (e : ℕ) → residues ._⊕_ (members xs e) 0 ≡ members xs e
-nothing-added xs h e = ap (λ t. t % prime) (add-zero (members xs e)) ∙ mod-eq-of-lt (member-below xs e h)
-
-pub rights-are-lefts : (xs : List ℕ) → Elements xs → (cs : List Column)
-    → walkRights document01 (plain 0 (members xs)) 0 cs ≡ walkLefts document01 (plain 0 (members xs)) 0 cs
-unfolding lessOne
-rights-are-lefts xs h cs = lefts-by-rights (plain 0 (members xs)) (λ k e. nothing-added xs h e k) cs 0
 
 -- ---- the meanings at a server and on a list
 module _ (k : ℕ) (x h : ℕ → ℕ) where
@@ -159,19 +138,12 @@ module _ (x : ℕ → ℕ) where
   unfolding lessOne
   list-rights cs = rights-same (onList residues x) (plain 2147483646 x) refl cs 0
 
--- the bit entries of a column, and its sum test, by any meaning
+-- the bit entries of a column, by any meaning
 pub bits-same : (μ ν : Meaning ℕ) (e : ℕ) (c : Column) → bitsAt document01 μ e c ≡ bitsAt document01 ν e c
 unfolding bitsAt
 bits-same μ ν e yesNo = refl
 bits-same μ ν e (choice n) = refl
 bits-same μ ν e (number n) = refl
-
-pub sum-test-same : (m : ℕ) (x h : ℕ → ℕ) (e : ℕ) (c : Column)
-    → sumTests document01 (plain m x) e c ≡ sumTests document01 (held m x h) e c
-unfolding sumTests
-sum-test-same m x h e yesNo = refl
-sum-test-same m x h e (choice n) = ap (_∷ []) (sum-same m m x x _ h _ _ n)
-sum-test-same m x h e (number n) = ap (_∷ []) (sum-same m m x x _ h _ _ n)
 
 -- the bit entries of a column are the last of its entries
 pub bits-fit : (μ : Meaning ℕ) (e : ℕ) (c : Column) → bitsAt document01 μ e c + gatesOf c ≡ e + entriesOf c

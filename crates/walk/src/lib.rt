@@ -1,14 +1,15 @@
 // The inputs of the multiplications and the tests of a sheet's circuit, column by column, from the entries of a list or of
 // a share. `constant` is what the constant p - 1 comes to: p - 1 for a list and at server 0, 0 at the other servers.
 ghost use mathlib.Core.Path.{_≡_};
-ghost use Prim.Native.Nat.{_+_, _^_, _<_, _≤_};
-ghost use lib.ListN.{length, getD};
+ghost use mathlib.Core.List.{[], _∷_, _++_};
+ghost use Prim.Native.Nat.{suc, _+_, _^_, _<_, _≤_};
+ghost use lib.ListN.{length};
 ghost use Rattle.algebra.specs.Lists.{tabulate};
 ghost use Rattle.field.specs.Residues.{prime, residues, Elements};
 ghost use Rattle.rules.specs.Settings.{document01};
 ghost use Rattle.rules.specs.Columns.{columnsOf, entriesOf};
 ghost use Rattle.rules.specs.Circuit.{gatesOf, testsOf, gatesIn, testsIn};
-ghost use Rattle.rules.specs.Walk.{sumFrom, bitsAt, sumTests, columnLefts, columnTests, walkLefts, walkRights, walkTests};
+ghost use Rattle.rules.specs.Walk.{sumFrom, bitsAt, columnLefts, columnTests, walkLefts, walkRights, walkTests};
 ghost use Rattle.sheet.specs.Cursor.{back};
 ghost use Rattle.walk.specs.Walks.{held, plain, members, outputs, Entries, Outputs, Asked};
 use sheet::columns;
@@ -24,6 +25,15 @@ fn copy(x: &[u32], first: usize, out: &mut [u32])
         out[i] = x[first + i];
         i += 1;
     }
+}
+
+// out[i] = x[first + i] for the first n, then out[n] = last
+fn copy_then(x: &[u32], first: usize, n: usize, last: u32, out: &mut [u32])
+    requires { ⌜ (first + n ≤ length (now x)) × (length (now out) ≡ suc n) ⌝ }
+    ensures { λ _. ⌜ now (out .exit) ≡ tabulate (λ i. members (now (x .entry)) (first + i)) n ++ (last ∷ []) ⌝ }
+{
+    copy(x, first, &mut out[..n]);
+    out[n] = last;
 }
 
 // out[i] = x[first + i] + constant
@@ -104,18 +114,6 @@ fn tests_of(column: Column) -> usize
     }
 }
 
-// The test of the sum of a column's entries; 0 for a column that has none.
-fn sum_test(x: &[u32], e: usize, constant: u32, column: Column) -> u32
-    requires { ⌜ (e + entriesOf (back column) ≤ length (now x)) × Elements (now x) × (constant < prime) ⌝ }
-    ensures { λ r. ⌜ r ≡ getD (sumTests document01 (plain constant (members (now (x .entry)))) e (back column)) 0 0 ⌝ }
-{
-    match column {
-        Column::YesNo => 0,
-        Column::Choice(n) => sum_from(x, e, n, constant),
-        Column::Number(n) => weighted_from(x, e + 1, n, field::mul(x[e], field::P - 1)),
-    }
-}
-
 // The right inputs of the multiplications.
 pub fn fill_rights(s: &[u8], x: &[u32], constant: u32, out: &mut [u32])
     requires { ⌜ Entries (now s) (now x) × (length (now out) ≡ gatesIn (columnsOf (now s))) × (constant < prime) ⌝ }
@@ -179,10 +177,17 @@ fn column_tests(
     ensures { λ _. ⌜ now (out .exit)
         ≡ columnTests document01 (held constant (members (now (x .entry))) (outputs l (now (x .entry)))) e t (back column) ⌝ }
 {
-    let n = gates_of(column);
-    copy(x, l + 3 + t, &mut out[..n]);
-    if n < out.len() {
-        out[n] = sum_test(x, e, constant, column);
+    let first = l + 3 + t;
+    match column {
+        Column::YesNo => out[0] = x[first],
+        Column::Choice(n) => {
+            let sum = sum_from(x, e, n, constant);
+            copy_then(x, first, n, sum, out);
+        }
+        Column::Number(n) => {
+            let sum = weighted_from(x, e + 1, n, field::mul(x[e], field::P - 1));
+            copy_then(x, first, n, sum, out);
+        }
     }
 }
 

@@ -1,105 +1,180 @@
--- `walk::column_tests` meets its contract: the copied outputs, then the sum test where there is room for one.
+-- `walk::column_tests` meets its contract: by the kinds of columns, the outputs and then the test of the sum.
 -- Assumes nothing.
-use mathlib.Core.Path.{_≡_, sym, ap, _∙_}
-use Prim.Native.Nat.{_+_, _≤_}
-use native.Mathlib.Omega.{arith}
-use lib.ListN.{length, take}
-use lib.Seq.{length-take-le}
-use Rattle.algebra.specs.Lists.{tabulate}
-use Rattle.sheet.specs.Cursor.{back}
-use Rattle.walk.specs.Walks.{members}
-use Rattle.walk.proofs.ColumnTests.{tests-more, Copied, with-sum, without-sum}
 use borrow.Author.Needs.{needs}
+use mathlib.Core.Path.{_≡_, sym, ap, _∙_}
+use Prim.Native.Nat.{ℕ, _+_, _≤_}
+use native.Mathlib.Nat.{mod-lt}
+use native.Mathlib.Omega.{arith}
+use lib.Dec.{lit<}
+use lib.ListN.{length}
+use Rattle.field.proofs.Below.{member-below}
+use Rattle.rules.specs.Settings.{document01}
+use Rattle.rules.specs.Columns.{entriesOf}
+use Rattle.rules.specs.Circuit.{gatesOf, testsOf}
+use Rattle.rules.specs.Run.{Meaning}
+use Rattle.rules.specs.Walk.{columnTests}
+use Rattle.sheet.specs.declared.columns.Column as code
+use Rattle.sheet.specs.Cursor.{back}
+use Rattle.walk.specs.Walks.{held, members, outputs}
+use Rattle.walk.proofs.ColumnTests.{yes-no-tests, choice-tests, number-tests}
 use Rattle.walk.proofs.column_tests.Statement.{statement}
 use Rattle.walk.proofs.column_tests.Tie as tie
 
--- ---- the multiplications of the column, once they are counted
-abbrev given : tie.After-gates-of → tie.Start
-given n = n .before .before .before
+-- ---- what is given, once the column is told to be k
+module _ (z : tie.Start) {k : code.Column} (told : z .args .column ≡ k) where
+  room : length (z .args .out .now) ≡ testsOf (back k)
+  room = z .pre .1 ∙ ap (λ (k : code.Column). testsOf (back k)) told
 
-front-fits : (n : tie.After-gates-of) → n .gates-of .result ≤ length (given n .args .out .now)
-front-fits n = omega (arith, n .gates-of .ensures, given n .pre .1, tests-more (back (given n .args .column)))
+  entries-fit : z .args .e + entriesOf (back k) ≤ length (z .args .x .now)
+  entries-fit = omega (arith, z .pre .0 .entries, ap (λ (k : code.Column). entriesOf (back k)) told)
 
-front-long : (n : tie.After-gates-of)
-    → length (take (n .gates-of .result) (given n .args .out .now)) ≡ n .gates-of .result
-front-long n = length-take-le (n .gates-of .result) (given n .args .out .now) (front-fits n)
+  outputs-fit : z .args .l + 3 + z .args .t + gatesOf (back k) ≤ length (z .args .x .now)
+  outputs-fit = omega (arith, z .pre .0 .outputs-fit, ap (λ (k : code.Column). gatesOf (back k)) told)
 
--- the front of the buffer, once the outputs are copied
-copied : (c : tie.After-copy) → let a = given (c .before .before) .args in
-    Copied (a .x .now) (a .out .now) (a .l) (a .t) (c .before .before .gates-of .result) (back (a .column))
-    (c .copy .last .1 .1 .0)
-copied c =
-    let n = c .before .before in
-    let a = given n .args in
-    record {
-      room = given n .pre .1;
-      all = n .gates-of .ensures;
-      outputs-are = c .copy .ensures ∙ ap (tabulate (λ i. members (a .x .now) (a .l + 3 + a .t + i))) (front-long n);
-    }
+  abbrev meaning : Meaning ℕ
+  meaning = held (z .args .constant) (members (z .args .x .now)) (outputs (z .args .l) (z .args .x .now))
+
+  its-tests : columnTests document01 meaning (z .args .e) (z .args .t) (back k)
+      ≡ columnTests document01 meaning (z .args .e) (z .args .t) (back (z .args .column))
+  its-tests = sym (ap (λ (k : code.Column). columnTests document01 meaning (z .args .e) (z .args .t) (back k)) told)
 
 -- ---- the steps
-gates-of-requires : tie.Need-gates-of-requires
-gates-of-requires c κs = search needs
+add-first : tie.Need-add-first
+add-first c = omega (arith, c .before .before .pre .0 .outputs-fit)
 
-add-copy : tie.Need-add-copy
-add-copy c = omega (arith, given c .pre .0 .outputs-fit)
+add-first-2 : tie.Need-add-first-2
+add-first-2 c = omega (arith, c .before .before .pre .0 .outputs-fit)
 
-add-copy-2 : tie.Need-add-copy-2
-add-copy-2 c = omega (arith, given c .pre .0 .outputs-fit)
-
-slice-relend-prefix-copy : tie.Need-slice-relend-prefix-copy
-slice-relend-prefix-copy c = front-fits c
-
-slice-aggregate-copy : tie.Need-slice-aggregate-copy
-slice-aggregate-copy c = sym (front-long (c .before))
-
-copy-requires : tie.Need-copy-requires
-copy-requires c κs =
-    let n = c .before in omega (arith, front-long n, n .gates-of .ensures, given n .pre .0 .outputs-fit)
-
-sum-test-requires : tie.Need-sum-test-requires
-sum-test-requires c κs =
-    let p = given (c .before .before .before .before .before) .pre .0 in (p .entries, p .elements, p .constant)
+enum-told : tie.Need-enum-told
+enum-told c = search needs
 
 mul-out : tie.Need-mul-out
 mul-out c = search needs
 
+shared-slice-read-out : tie.Need-shared-slice-read-out
+unfolding gatesOf
+shared-slice-read-out c =
+    omega (arith, outputs-fit (c .before .before .before .before .before) (c .before .enum-told .given .1))
+
 slice-write-out : tie.Need-slice-write-out
-slice-write-out c = search needs
+unfolding testsOf
+slice-write-out c = omega (arith, room (c .before .before .before .before .before) (c .before .enum-told .given .1))
+
+enum-known-column : tie.Need-enum-known-column
+enum-known-column c = search needs
+
+sum-from-requires : tie.Need-sum-from-requires
+unfolding entriesOf
+sum-from-requires c κs =
+    let z = c .before .before .before .before .before in
+    (entries-fit z (c .before .column .given .1), z .pre .0 .elements, z .pre .0 .constant)
+
+copy-then-requires : tie.Need-copy-then-requires
+unfolding gatesOf testsOf
+copy-then-requires c κs =
+    let z = c .before .before .before .before .before .before .before in
+    let told = c .before .before .before .column .given .1 in
+    (outputs-fit z told, omega (arith, room z told))
+
+enum-known-column-2 : tie.Need-enum-known-column-2
+enum-known-column-2 c = search needs
+
+add-weighted-from : tie.Need-add-weighted-from
+add-weighted-from c = search needs
+
+mul-mul : tie.Need-mul-mul
+mul-mul c = search needs
+
+shared-slice-read-mul : tie.Need-shared-slice-read-mul
+unfolding entriesOf
+shared-slice-read-mul c =
+    let z = c .before .before .before .before .before .before in
+    omega (arith, entries-fit z (c .before .before .column2 .given .1))
+
+sub-mul : tie.Need-sub-mul
+sub-mul c = search needs
+
+mul-requires : tie.Need-mul-requires
+mul-requires c κs =
+    (member-below _ _ (c .before .before .before .before .before .before .pre .0 .elements), lit< tt)
+
+weighted-from-requires : tie.Need-weighted-from-requires
+unfolding entriesOf
+weighted-from-requires c κs =
+    let z = c .before .before .before .before .before .before .before in
+    let told = c .before .before .before .column2 .given .1 in
+    (omega (arith, entries-fit z told), z .pre .0 .elements, rw (c .mul .ensures) (mod-lt _ (lit< tt)))
+
+copy-then-requires-2 : tie.Need-copy-then-requires-2
+unfolding gatesOf testsOf
+copy-then-requires-2 c κs =
+    let z = c .before .before .before .before .before .before .before .before .before in
+    let told = c .before .before .before .before .before .column2 .given .1 in
+    (outputs-fit z told, omega (arith, room z told))
 
 same-length : tie.Need-same-length
 same-length c = search needs
 
 returns : tie.Need-returns
+unfolding testsOf
 returns c =
-    let d = c .before .before .before .before in
-    let a = given (d .before .before) .args in
-    with-sum (copied d) (a .e) (a .constant) (omega (arith, c .before .if1 .taken)) (c .sum-test .result)
-    (c .sum-test .ensures)
+    let z = c .before .before .before .before .before in
+    let a = z .args in
+    let told = c .before .enum-told .given .1 in
+    yes-no-tests (a .x .now) (a .l) (a .e) (a .t) (a .constant) (a .out .now) (room z told) ∙ its-tests z told
 
 same-length-2 : tie.Need-same-length-2
 same-length-2 c = search needs
 
 returns-2 : tie.Need-returns-2
 returns-2 c =
-    let d = c .before .before .before in
-    let a = given (d .before .before) .args in
-    without-sum (copied d) (a .e) (a .constant) (omega (arith, c .if1 .left))
+    let s = c .before .before .before .before in
+    let z = s .before .before .before .before .before .before in
+    let a = z .args in
+    let column = s .before .before .column .given in
+    c .before .before .copy-then .ensures
+    ∙ choice-tests (a .x .now) (a .l) (a .e) (a .t) (a .constant) (column .0 .0) (s .sum-from .result)
+    (s .sum-from .ensures)
+    ∙ its-tests z (column .1)
+
+same-length-3 : tie.Need-same-length-3
+same-length-3 c = search needs
+
+returns-3 : tie.Need-returns-3
+returns-3 c =
+    let s = c .before .before .before .before in
+    let z = s .before .before .before .before .before .before .before .before in
+    let a = z .args in
+    let column = s .before .before .before .before .column2 .given in
+    c .before .before .copy-then2 .ensures
+    ∙ number-tests (a .x .now) (a .l) (a .e) (a .t) (a .constant) (column .0 .0) (s .weighted-from .result)
+    (s .before .mul .result) (s .before .mul .ensures) (s .weighted-from .ensures)
+    ∙ its-tests z (column .1)
 
 pub column-tests-spec : {M : Type 1} → statement M
 column-tests-spec =
     tie.close
     (tie.spec
-    gates-of-requires
-    add-copy
-    add-copy-2
-    slice-relend-prefix-copy
-    slice-aggregate-copy
-    copy-requires
-    sum-test-requires
+    add-first
+    add-first-2
+    enum-told
     mul-out
+    shared-slice-read-out
     slice-write-out
+    enum-known-column
+    sum-from-requires
+    copy-then-requires
+    enum-known-column-2
+    add-weighted-from
+    mul-mul
+    shared-slice-read-mul
+    sub-mul
+    mul-requires
+    weighted-from-requires
+    copy-then-requires-2
     same-length
     returns
     same-length-2
-    returns-2)
+    returns-2
+    same-length-3
+    returns-3)

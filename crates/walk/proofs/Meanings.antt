@@ -15,15 +15,12 @@ use Rattle.rules.specs.Run.{Meaning, onList, atServer}
 use Rattle.rules.specs.Walk.{sumFrom, lessOne, bitOut, bitsAt, columnLefts, columnRights, bitTests, sumTests, columnTests}
 use Rattle.rules.specs.Walk.{walkLefts, walkRights, walkTests}
 use Rattle.sheet.proofs.Sums.{gates, tests as test-count}
-use Rattle.walk.specs.Walks.{held, plain, members}
+use Rattle.walk.specs.Walks.{held, plain}
 use Rattle.walk.proofs.Walking.{walked, Parts}
 
 -- ---- the parts of the walks
 abbrev pub leftPart : Meaning ℕ → ℕ → ℕ → Column → List ℕ
 leftPart μ e t c = columnLefts document01 μ e c
-
-abbrev pub rightPart : Meaning ℕ → ℕ → ℕ → Column → List ℕ
-rightPart μ e t c = columnRights document01 μ e c
 
 abbrev pub testPart : Meaning ℕ → ℕ → ℕ → Column → List ℕ
 testPart μ e t c = columnTests document01 μ e t c
@@ -32,10 +29,6 @@ module _ (μ : Meaning ℕ) where
   pub lefts : Parts (leftPart μ) gatesOf gatesIn
   unfolding columnLefts
   lefts = record { total = gates; each = λ e t c. length-tabulate _ (gatesOf c) }
-
-  pub rights : Parts (rightPart μ) gatesOf gatesIn
-  unfolding columnRights
-  rights = record { total = gates; each = λ e t c. length-tabulate _ (gatesOf c) }
 
   with-sum : (e : ℕ) (c : Column) → gatesOf c + length (sumTests document01 μ e c) ≡ testsOf c
   unfolding sumTests gatesOf testsOf
@@ -58,11 +51,6 @@ module _ (μ : Meaning ℕ) where
   lefts-walked [] e t = refl
   lefts-walked (c ∷ cs) e t =
       ap (columnLefts document01 μ e c ++_) (lefts-walked cs (e + entriesOf c) (t + gatesOf c))
-
-  pub rights-walked : (cs : List Column) (e t : ℕ) → walked (rightPart μ) e t cs ≡ walkRights document01 μ e cs
-  unfolding walked walkRights
-  rights-walked [] e t = refl
-  rights-walked (c ∷ cs) e t = ap (columnRights document01 μ e c ++_) (rights-walked cs (e + entriesOf c) (t + gatesOf c))
 
   pub tests-walked : (cs : List Column) (e t : ℕ) → walked (testPart μ) e t cs ≡ walkTests document01 μ e t cs
   unfolding walked walkTests
@@ -151,10 +139,3 @@ unfolding bitsAt gatesOf entriesOf
 bits-fit μ e yesNo = refl
 bits-fit μ e (choice n) = refl
 bits-fit μ e (number n) = omega arith
-
--- the right inputs of one column, from the members at b, b + 1, ..
-pub right-part : (xs : List ℕ) (m b n e t : ℕ) (c : Column) → b ≡ bitsAt document01 (plain 0 (λ e. 0)) e c → n ≡ gatesOf c
-    → tabulate (λ i. residues ._⊕_ (members xs (b + i)) m) n ≡ rightPart (plain m (members xs)) e t c
-unfolding columnRights lessOne
-right-part xs m b n e t c p q =
-    ap₂ (λ (b n : ℕ). tabulate (λ i. residues ._⊕_ (members xs (b + i)) m) n) (p ∙ bits-same _ (plain m (members xs)) e c) q

@@ -1,5 +1,5 @@
-// The inputs of the multiplications and the tests of a sheet's circuit, column by column, from the entries of a list or of
-// a share. `constant` is what the constant p - 1 comes to: p - 1 for a list and at server 0, 0 at the other servers.
+// The left inputs of the multiplications and the tests of a sheet's circuit, column by column, from the entries of a list
+// or of a share. `constant` is what the constant p - 1 comes to: p - 1 for a list and at server 0, 0 at the other servers.
 ghost use mathlib.Core.Path.{_≡_};
 ghost use mathlib.Core.List.{[], _∷_, _++_};
 ghost use Prim.Native.Nat.{suc, _+_, _^_, _<_, _≤_};
@@ -9,7 +9,7 @@ ghost use Rattle.field.specs.Residues.{prime, residues, Elements};
 ghost use Rattle.rules.specs.Settings.{document01};
 ghost use Rattle.rules.specs.Columns.{columnsOf, entriesOf};
 ghost use Rattle.rules.specs.Circuit.{gatesOf, testsOf, gatesIn, testsIn};
-ghost use Rattle.rules.specs.Walk.{sumFrom, bitsAt, columnLefts, columnTests, walkLefts, walkRights, walkTests};
+ghost use Rattle.rules.specs.Walk.{sumFrom, columnLefts, columnTests, walkLefts, walkTests};
 ghost use Rattle.sheet.specs.Cursor.{back};
 ghost use Rattle.walk.specs.Walks.{held, plain, members, outputs, Entries, Outputs, Asked};
 use sheet::columns;
@@ -34,19 +34,6 @@ fn copy_then(x: &[u32], first: usize, n: usize, last: u32, out: &mut [u32])
 {
     copy(x, first, &mut out[..n]);
     out[n] = last;
-}
-
-// out[i] = x[first + i] + constant
-fn copy_plus(x: &[u32], first: usize, constant: u32, out: &mut [u32])
-    requires { ⌜ (first + length (now out) ≤ length (now x)) × Elements (now x) × (constant < prime) ⌝ }
-    ensures { λ _. ⌜ now (out .exit)
-        ≡ tabulate (λ i. residues ._⊕_ (members (now (x .entry)) (first + i)) constant) (length (now (out .entry))) ⌝ }
-{
-    let mut i = 0;
-    while i < out.len() {
-        out[i] = field::add(x[first + i], constant);
-        i += 1;
-    }
 }
 
 // start + x[first] + .. + x[first + n - 1]
@@ -81,18 +68,6 @@ fn weighted_from(x: &[u32], first: usize, n: usize, start: u32) -> u32
     acc
 }
 
-// The first bit entry of a column whose first entry is e.
-fn bits_at(column: Column, e: usize) -> usize
-    requires { ⌜ e ≤ 256 ⌝ }
-    ensures { λ r. ⌜ r ≡ bitsAt document01 (plain 0 (λ e. 0)) e (back column) ⌝ }
-{
-    match column {
-        Column::YesNo => e,
-        Column::Choice(_) => e,
-        Column::Number(_) => e + 1,
-    }
-}
-
 fn gates_of(column: Column) -> usize
     ensures { λ r. ⌜ r ≡ gatesOf (back column) ⌝ }
 {
@@ -111,24 +86,6 @@ fn tests_of(column: Column) -> usize
         Column::YesNo => 1,
         Column::Choice(n) => n + 1,
         Column::Number(n) => n + 1,
-    }
-}
-
-// The right inputs of the multiplications.
-pub fn fill_rights(s: &[u8], x: &[u32], constant: u32, out: &mut [u32])
-    requires { ⌜ Entries (now s) (now x) × (length (now out) ≡ gatesIn (columnsOf (now s))) × (constant < prime) ⌝ }
-    ensures { λ _. ⌜ now (out .exit)
-        ≡ walkRights document01 (plain constant (members (now (x .entry)))) 0 (columnsOf (now (s .entry))) ⌝ }
-{
-    let mut c = columns::start();
-    while c.at < s.len() {
-        let step = columns::next(s, c);
-        let column = step.column;
-        let after = step.next;
-        let from = c.gates;
-        let to = after.gates;
-        copy_plus(x, bits_at(column, c.entry), constant, &mut out[from..to]);
-        c = after;
     }
 }
 

@@ -2,7 +2,7 @@
 -- that write a run, for any width. A run that grows at its end is put next to what is there (`splice-splice`); a test
 -- over a run goes on behind its first element. Assumes that a run lies within the buffer, where it is said.
 use mathlib.Core.Path.{_≡_, refl, sym, ap, _∙_}
-use mathlib.Core.Bool.{true, false}
+use mathlib.Core.Bool.{Bool, true, false, _&&_, and-true, and-false}
 use mathlib.Core.List.{List, [], _∷_, _++_}
 use Prim.Native.Nat.{ℕ, zero, suc, _+_, _*_, _-_, _≤_, _<_}
 use native.Mathlib.Nat.{add-suc, mul-le-mul-left}
@@ -68,17 +68,25 @@ module _ (s : List ℕ) (a : ℕ) where
       = rw (add-one, take-suc vs i 0 k, bytes-all-append, bytes-all-one) in
       grow (bytesOfAll w (take i vs)) (bytesOf w (getD vs i 0)) (w * i) l (omega arith) ∙ ap (splice s a) (sym e)
 
--- ---- a test over the elements from place i
-module _ (w : ℕ) (pos : 0 < w) (p : ℕ) (s : List ℕ) (i : ℕ) where
+-- ---- a test over the elements from place i, where f says whether those before are below p
+module _ (w : ℕ) (pos : 0 < w) (p : ℕ) (s : List ℕ) (i : ℕ) (f : Bool) where
   front : w ≤ length s - i → elementsOf w (drop i s) ≡ valueOf (part i w s) ∷ elementsOf w (drop (i + w) s)
   front h = elements-next w pos (drop i s) (rw length-drop h) ∙ rw (drop-drop w i s)
 
   pub test-next : w ≤ length s - i → valueOf (part i w s) < p
-      → allBelow p (elementsOf w (drop i s)) ≡ allBelow p (elementsOf w (drop (i + w) s))
-  test-next h b = ap (allBelow p) (front h) ∙ below-first p (valueOf (part i w s)) (elementsOf w (drop (i + w) s)) b
+      → (f && allBelow p (elementsOf w (drop i s))) ≡ (f && allBelow p (elementsOf w (drop (i + w) s)))
+  test-next h b =
+      ap (λ (l : List ℕ). f && allBelow p l) (front h)
+      ∙ ap (_&&_ f) (below-first p (valueOf (part i w s)) (elementsOf w (drop (i + w) s)) b)
 
-  pub test-not : w ≤ length s - i → p ≤ valueOf (part i w s) → allBelow p (elementsOf w (drop i s)) ≡ false
-  test-not h b = ap (allBelow p) (front h) ∙ below-not p (valueOf (part i w s)) (elementsOf w (drop (i + w) s)) b
+  pub test-not : w ≤ length s - i → p ≤ valueOf (part i w s) → (f && allBelow p (elementsOf w (drop i s))) ≡ false
+  test-not h b =
+      ap (λ (l : List ℕ). f && allBelow p l) (front h)
+      ∙ ap (_&&_ f) (below-not p (valueOf (part i w s)) (elementsOf w (drop (i + w) s)) b)
+      ∙ and-false f
 
-  pub test-end : length s - i < w → allBelow p (elementsOf w (drop i s)) ≡ true
-  test-end h = ap (allBelow p) (elements-end w pos (drop i s) (rw length-drop h)) ∙ below-none p
+  pub test-end : length s - i < w → (f && allBelow p (elementsOf w (drop i s))) ≡ f
+  test-end h =
+      ap (λ (l : List ℕ). f && allBelow p l) (elements-end w pos (drop i s) (rw length-drop h))
+      ∙ ap (_&&_ f) (below-none p)
+      ∙ and-true f

@@ -16,7 +16,7 @@ fn half(a: u8, b: u8) -> u32
 fn word(a: u8, b: u8, c: u8, d: u8) -> u32
     ensures { λ r. ⌜ r ≡ a + 256 * (b + 256 * (c + 256 * d)) ⌝ }
 {
-    (a as u32) + 256 * ((b as u32) + 256 * ((c as u32) + 256 * (d as u32)))
+    (a as u32) + 256 * (b as u32) + 65536 * (c as u32) + 16777216 * (d as u32)
 }
 
 // The number that the two bytes from `at` say.
@@ -27,12 +27,14 @@ pub fn read_u16(s: &[u8], at: usize) -> u32
     half(s[at], s[at + 1])
 }
 
-// The number that the four bytes from `at` say.
+// The number that the four bytes from `at` say. Taken as a part and summed without brackets they are one load, in loops too.
 pub fn read_u32(s: &[u8], at: usize) -> u32
     requires { ⌜ at + 4 ≤ length (now s) ⌝ }
     ensures { λ r. ⌜ r ≡ valueOf (part at 4 (now (s .entry))) ⌝ }
 {
-    word(s[at], s[at + 1], s[at + 2], s[at + 3])
+    let end = at + 4;
+    let b = &s[at..end];
+    word(b[0], b[1], b[2], b[3])
 }
 
 // Writes the two lowest bytes of `n` from `at`.
@@ -87,18 +89,19 @@ pub fn write_elements(s: &mut [u8], at: usize, xs: &[u32])
     }
 }
 
-// Whether each element of a run is below `bound`.
+// Whether each element of a run is below `bound`. The loop looks at all of them: so it takes several in a turn.
 pub fn elements_below(s: &[u8], bound: u32) -> bool
     ensures { λ r. ⌜ r ≡ allBelow bound (elementsOf 4 (now (s .entry))) ⌝ }
 {
     let mut at: usize = 0;
+    let mut below = true;
     while 4 <= s.len() - at {
         if bound <= read_u32(s, at) {
-            return false;
+            below = false;
         }
         at += 4;
     }
-    true
+    below
 }
 
 // Writes the bytes `from` from `at`.

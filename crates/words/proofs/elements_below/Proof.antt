@@ -1,6 +1,8 @@
--- `words::elements_below` meets its contract. The loop's invariant: the answer is that of the elements from `at` on
--- (`test-next`); the measure is what is left of the slice. Assumes nothing.
+-- `words::elements_below` meets its contract. The loop's invariant: the answer is that of the elements from `at` on, where
+-- those before are all below (`test-next`), else false; the measure is what is left of the slice. Assumes nothing.
 use mathlib.Core.Path.{_≡_, refl, sym, _∙_}
+use mathlib.Core.Logic.{⊎-elim}
+use mathlib.Core.Bool.{_&&_}
 use Prim.Native.Nat.{_≤_, _-_}
 use borrow.Author.Needs.{needs}
 use lib.Dec.{lit<}
@@ -11,11 +13,11 @@ use Rattle.words.proofs.elements_below.Statement.{statement}
 use Rattle.words.proofs.elements_below.Tie as tie
 
 abbrev Inv-loop : tie.InvT-loop
-Inv-loop s bound at₀ at =
-    (at ≤ length s) × (allBelow bound (elementsOf 4 s) ≡ allBelow bound (elementsOf 4 (drop at s)))
+Inv-loop s bound at₀ below₀ at below =
+    (at ≤ length s) × (allBelow bound (elementsOf 4 s) ≡ (below && allBelow bound (elementsOf 4 (drop at s))))
 
 abbrev μ-loop : tie.MeasureT-loop
-μ-loop s bound at₀ at = length s - at
+μ-loop s bound at₀ below₀ at below = length s - at
 
 loop-holds : tie.Need-loop-holds Inv-loop μ-loop
 loop-holds c = (search needs, refl)
@@ -26,14 +28,6 @@ sub-loop c = search needs
 read-u32-requires : tie.Need-read-u32-requires Inv-loop μ-loop
 read-u32-requires c κs = search needs
 
-returns : tie.Need-returns Inv-loop μ-loop
-returns c =
-    let l = c .before .before .before in
-    let a = l .before .before in
-    sym (l .loop .inv .1
-    ∙ test-not 4 (lit< tt) (a .args .bound) (a .args .s .now) (l .loop .at) (c .before .before .loop-test .taken)
-    (rw (c .before .read-u32 .ensures) at (c .if1 .taken)))
-
 add-at : tie.Need-add-at Inv-loop μ-loop
 add-at c = search needs
 
@@ -43,30 +37,31 @@ loop-less c = search needs
 loop-again : tie.Need-loop-again Inv-loop μ-loop
 loop-again c =
     let l = c .before .before .before in
-    let a = l .before .before in (
+    let a = l .before .before in
+    let s = a .args .s .now in
+    let h = c .before .before .loop-test .taken in (
       search needs,
       l .loop .inv .1
-          ∙ test-next 4 (lit< tt) (a .args .bound) (a .args .s .now) (l .loop .at) (c .before .before .loop-test .taken)
-          (rw (c .before .read-u32 .ensures) at (c .if1 .left)),
+          ∙ ⊎-elim
+          (λ r.
+          rw (r .1)
+          (test-not 4 (lit< tt) (a .args .bound) s (l .loop .at) (l .loop .below) h
+          (rw (c .before .read-u32 .ensures) at (r .0 .taken))))
+          (λ r.
+          rw (r .1)
+          (test-next 4 (lit< tt) (a .args .bound) s (l .loop .at) (l .loop .below) h
+          (rw (c .before .read-u32 .ensures) at (r .0 .left))))
+          (c .if1 .came),
     )
 
-returns-2 : tie.Need-returns-2 Inv-loop μ-loop
-returns-2 c =
+returns : tie.Need-returns Inv-loop μ-loop
+returns c =
     let l = c .before in
     let a = l .before .before in
-    sym (l .loop .inv .1 ∙ test-end 4 (lit< tt) (a .args .bound) (a .args .s .now) (l .loop .at) (c .loop-test .left))
+    sym (l .loop .inv .1
+    ∙ test-end 4 (lit< tt) (a .args .bound) (a .args .s .now) (l .loop .at) (l .loop .below) (c .loop-test .left))
 
 pub elements-below-spec : {M : Type 1} → statement M
 elements-below-spec =
     tie.close
-    (tie.spec
-    Inv-loop
-    μ-loop
-    loop-holds
-    sub-loop
-    read-u32-requires
-    returns
-    add-at
-    loop-less
-    loop-again
-    returns-2)
+    (tie.spec Inv-loop μ-loop loop-holds sub-loop read-u32-requires add-at loop-less loop-again returns)

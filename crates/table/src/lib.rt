@@ -46,18 +46,19 @@ fn wide(x: u8) -> u32
     x as u32
 }
 
-// Whether an id is in a run of ids.
+// Whether an id is in a run of ids. The loop looks at all of them: so it takes several in a turn.
 pub fn has_id(ids: &[u8], id: u32) -> bool
     ensures { λ r. ⌜ r ≡ has id (elementsOf 4 (now (ids .entry))) ⌝ }
 {
     let mut at: usize = 0;
+    let mut found = false;
     while 4 <= ids.len() - at {
         if words::read_u32(ids, at) == id {
-            return true;
+            found = true;
         }
         at += 4;
     }
-    false
+    found
 }
 
 // Whether a return waits at a stage.

@@ -60,6 +60,11 @@ module _ (s : List ℕ) (c : Cursor) (is-read : readSheet s ≡ ok (columnsOf s)
       }
   walk-done h = w .here ∙ cursor-end s is-read (c .index) h
 
+pub bounded : (a : Column) → InLimits a → Bounded a
+bounded yesNo l = tt
+bounded (choice n) l = l .1
+bounded (number n) l = l .1
+
 module _ {s : List ℕ} {c : Cursor} (h : Stands s c) (r : Step) (e : r ≡ stepAt s (c .index)) where
   pub walk-next : Walks s (r .next)
   walk-next = rw e (record { here = refl; most = omega (arith, h .within) })
@@ -72,11 +77,6 @@ module _ {s : List ℕ} {c : Cursor} (h : Stands s c) (r : Step) (e : r ≡ step
 
   pub column-bounded : Bounded (back (r .column))
   column-bounded = rw column-seen (bounded (getD (columnsOf s) (c .index) yesNo) (place h .in-limits))
-    where
-      bounded : (a : Column) → InLimits a → Bounded a
-      bounded yesNo l = tt
-      bounded (choice n) l = l .1
-      bounded (number n) l = l .1
 
 pub largest-most : (a : Column) → Bounded a → largestOf a ≤ 16777215
 unfolding largestOf

@@ -40,7 +40,8 @@ fn totals_refusal(s: &[u8], n: u32) -> u32
     0
 }
 
-// The refusal of N for a sheet that is read: 2 where N is outside its limits, then 4.
+// The refusal of N for a sheet that is read: 2 where N is outside its limits, then 4. With 128 returns or fewer no total of
+// a column can reach p: its largest value has 24 bits.
 pub fn returns_refusal(s: &[u8], n: u32) -> u32
     requires { ⌜ readSheet (now s) ≡ ok (columnsOf (now s)) ⌝ }
     ensures { λ r. ⌜ r ≡ orElse (returnsFault n) (totalsFault document01 n (columnsOf (now (s .entry)))) ⌝ }
@@ -50,6 +51,9 @@ pub fn returns_refusal(s: &[u8], n: u32) -> u32
     }
     if 1024 < n {
         return 2;
+    }
+    if n <= 128 {
+        return 0;
     }
     totals_refusal(s, n)
 }

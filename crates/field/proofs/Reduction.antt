@@ -1,7 +1,7 @@
 -- Reductions modulo the prime p. Where y is below 2 p the quotient by p is 0 or 1, and is that of y + 1 by p + 1; p + 1
 -- leaves 1, so a number leaves what the sum of its two digits in base p + 1 leaves. Assumes nothing.
 use mathlib.Core.Path.{_≡_, sym, ap, _∙_}
-use Prim.Native.Nat.{ℕ, _+_, _-_, _*_, _/_, _%_, _<_}
+use Prim.Native.Nat.{ℕ, _+_, _-_, _*_, _/_, _%_, _^_, _<_}
 use native.Mathlib.Nat.{mod-eq-of-lt, add-mul-mod-self-left}
 use native.Mathlib.Decide.{decLt}
 use native.Mathlib.Omega.{arith}
@@ -25,3 +25,10 @@ reduced y h = go (decLt y prime)
 
 pub folded : (z : ℕ) → (z % top + z / top) % prime ≡ z % prime
 folded z = omega arith
+
+-- a number of 64 bits and one of 34 bits, whose two digits are summed
+pub fold-once : (x : ℕ) → x < 2 ^ 64 → x % top + x / top < 2 ^ 34
+fold-once x h = omega arith
+
+pub fold-again : (x : ℕ) → x < 2 ^ 34 → x % top + x / top < 2 * prime
+fold-again x h = omega arith

@@ -13,10 +13,6 @@ prime = 2147483647
 abbrev pub top : ℕ
 top = 2147483648
 
--- the most members that an inner product is taken of
-abbrev pub longest : ℕ
-longest = 65536
-
 abbrev pub residues : Ops
 residues = modulo prime
 

@@ -1,19 +1,12 @@
 // Arithmetic modulo the prime 2147483647. An element is a u32 below the prime. Each contract is an equality with a
 // definition of algebra at that prime, which also says that the result is an element. No step depends on the value of
-// an element, and no loop but that of `inverses` divides: / and % by TOP are a shift and a mask.
+// an element, and none divides: / and % by TOP are a shift and a mask.
 ghost use mathlib.Core.Path.{_≡_};
-ghost use Prim.Native.Nat.{suc, _+_, _-_, _*_, _/_, _%_, _<_, _≤_};
-ghost use lib.ListN.{length, getD, take};
+ghost use Prim.Native.Nat.{_+_, _*_, _/_, _%_, _<_};
 ghost use Rattle.algebra.specs.Ops.{minus};
-ghost use Rattle.algebra.specs.Sums.{product as Sums·product, inner as Sums·inner, power};
-ghost use Rattle.algebra.specs.Interpolation.{ascending as Interpolation·ascending, descending as Interpolation·descending};
-ghost use Rattle.algebra.specs.Lists.{tabulate};
-ghost use Rattle.field.specs.Residues.{prime, top, longest, residues, Elements};
+ghost use Rattle.field.specs.Residues.{prime, top, residues};
 
 pub const P: u32 = 2147483647;
-
-// The most members that `inner` and `inner_wide` take.
-pub const LONGEST: usize = 65536;
 
 // P + 1, which leaves 1 modulo P.
 const TOP: u64 = 2147483648;
@@ -33,10 +26,18 @@ fn fold(x: u64) -> u64
     x % TOP + x / TOP
 }
 
-fn product(a: u32, b: u32) -> u64
+// a * b, not reduced, for any a and b.
+pub fn product(a: u32, b: u32) -> u64
     ensures { λ r. ⌜ r ≡ a * b ⌝ }
 {
     (a as u64) * (b as u64)
+}
+
+// x modulo P, for any x: two folds leave less than 2 P.
+pub fn residue(x: u64) -> u32
+    ensures { λ r. ⌜ r ≡ x % prime ⌝ }
+{
+    reduce(fold(fold(x)))
 }
 
 pub fn add(a: u32, b: u32) -> u32
@@ -68,7 +69,7 @@ pub fn mul(a: u32, b: u32) -> u32
 }
 
 // a * x for an element a and any x. What is done to x first does not wait for a.
-fn times(a: u32, x: u32) -> u32
+pub fn times(a: u32, x: u32) -> u32
     requires { ⌜ a < prime ⌝ }
     ensures { λ r. ⌜ r ≡ residues ._⊗_ a x ⌝ }
 {
@@ -81,210 +82,4 @@ pub fn mul_add(a: u32, b: u32, c: u32) -> u32
     ensures { λ r. ⌜ r ≡ residues ._⊕_ (residues ._⊗_ a b) c ⌝ }
 {
     reduce(fold(product(a, b) + (c as u64)))
-}
-
-// The inner product of a and b, whose members may be any numbers. Low and high parts of the products are summed apart,
-// so that no sum overflows and the loop has no reduction.
-pub fn inner(a: &[u32], b: &[u32]) -> u32
-    requires { ⌜ (length (now a) ≡ length (now b)) × (length (now a) ≤ longest) ⌝ }
-    ensures { λ r. ⌜ r ≡ Sums·inner residues (length (now (a .entry)))
-        (λ i. getD (now (a .entry)) i 0) (λ i. getD (now (b .entry)) i 0) ⌝ }
-{
-    let mut low: u64 = 0;
-    let mut high: u64 = 0;
-    let mut i = 0;
-    while i < a.len() {
-        let x = product(a[i], b[i]);
-        low += x % TOP;
-        high += x / TOP;
-        i += 1;
-    }
-    reduce(fold(low + high))
-}
-
-// x itself, for an element x. It tells the compiler that x fits into 32 bits.
-fn low_half(x: u64) -> u64
-    requires { ⌜ x < prime ⌝ }
-    ensures { λ r. ⌜ r ≡ x ⌝ }
-{
-    x % 4294967296
-}
-
-// a[i] b[i]
-fn product_at(a: &[u64], b: &[u64], i: usize) -> u64
-    requires { ⌜ (i < length (now a)) × (i < length (now b)) × Elements (now a) × Elements (now b) ⌝ }
-    ensures { λ r. ⌜ (r ≡ getD (now (a .entry)) i 0 * getD (now (b .entry)) i 0) × (r ≤ (prime - 1) * (prime - 1)) ⌝ }
-{
-    low_half(a[i]) * low_half(b[i])
-}
-
-// A number that leaves the inner product of the first 4 q members. One product from each quarter is summed before the sum
-// is split: four of them fit into 64 bits.
-fn quarters(a: &[u64], b: &[u64], q: usize) -> u64
-    requires { ⌜ (4 * q ≤ length (now a)) × (length (now a) ≡ length (now b)) × (length (now a) ≤ longest) ⌝ }
-    requires { ⌜ Elements (now a) × Elements (now b) ⌝ }
-    ensures { λ r. ⌜ (r ≤ 2 * top * (4 * q)) × (r % prime ≡ Sums·inner residues (4 * q)
-        (λ i. getD (now (a .entry)) i 0) (λ i. getD (now (b .entry)) i 0)) ⌝ }
-{
-    let mut low: u64 = 0;
-    let mut high: u64 = 0;
-    let mut i = 0;
-    while i < q {
-        let x = product_at(a, b, i)
-            + product_at(a, b, q + i)
-            + product_at(a, b, 2 * q + i)
-            + product_at(a, b, 3 * q + i);
-        low += x % TOP;
-        high += x / TOP;
-        i += 1;
-    }
-    low + high
-}
-
-// The inner product, from a number that leaves that of the first members, of which there are `first`.
-fn inner_from(a: &[u64], b: &[u64], first: usize, begun: u64) -> u32
-    requires { ⌜ (first ≤ length (now a)) × (length (now a) ≡ length (now b)) × (length (now a) ≤ longest) ⌝ }
-    requires { ⌜ Elements (now a) × Elements (now b) ⌝ }
-    requires { ⌜ (begun ≤ 2 * top * first) × (begun % prime ≡ Sums·inner residues first
-        (λ i. getD (now a) i 0) (λ i. getD (now b) i 0)) ⌝ }
-    ensures { λ r. ⌜ r ≡ Sums·inner residues (length (now (a .entry)))
-        (λ i. getD (now (a .entry)) i 0) (λ i. getD (now (b .entry)) i 0) ⌝ }
-{
-    let mut low = begun;
-    let mut high: u64 = 0;
-    let mut i = first;
-    while i < a.len() {
-        let x = product_at(a, b, i);
-        low += x % TOP;
-        high += x / TOP;
-        i += 1;
-    }
-    reduce(fold(low + high))
-}
-
-// The inner product of elements that are kept in 64 bits: faster than `inner`, as the loop over quarters works on several
-// members at once.
-pub fn inner_wide(a: &[u64], b: &[u64]) -> u32
-    requires { ⌜ (length (now a) ≡ length (now b)) × (length (now a) ≤ longest) × Elements (now a) × Elements (now b) ⌝ }
-    ensures { λ r. ⌜ r ≡ Sums·inner residues (length (now (a .entry)))
-        (λ i. getD (now (a .entry)) i 0) (λ i. getD (now (b .entry)) i 0) ⌝ }
-{
-    let q = a.len() / 4;
-    inner_from(a, b, 4 * q, quarters(a, b, q))
-}
-
-// out[j] = x (x - 1) .. (x - (j - 1))
-pub fn ascending(x: u32, out: &mut [u32])
-    requires { ⌜ (x < prime) × (length (now out) ≤ prime) ⌝ }
-    ensures { λ _. ⌜ now (out .exit) ≡ tabulate (λ j. Interpolation·ascending residues 0 j x) (length (now (out .entry))) ⌝ }
-{
-    let mut acc: u32 = 1;
-    let mut i = 0;
-    while i < out.len() {
-        out[i] = acc;
-        acc = mul(acc, sub(x, i as u32));
-        i += 1;
-    }
-}
-
-// out[j] = (x - (j + 1)) .. (x - (n - 1)), where n is the length of out: filled from the back.
-pub fn descending(x: u32, out: &mut [u32])
-    requires { ⌜ (x < prime) × (length (now out) ≤ prime) ⌝ }
-    ensures { λ _. ⌜ now (out .exit) ≡ tabulate (λ j. Interpolation·descending residues (suc j)
-        (length (now (out .entry)) - 1 - j) x) (length (now (out .entry))) ⌝ }
-{
-    let mut acc: u32 = 1;
-    let mut j = out.len();
-    while 0 < j {
-        j -= 1;
-        out[j] = acc;
-        acc = mul(sub(x, j as u32), acc);
-    }
-}
-
-// out[j] = xs[0] .. xs[j - 1], where xs may have any numbers as members: at most one more entry than xs has members.
-pub fn running_products(xs: &[u32], out: &mut [u32])
-    requires { ⌜ length (now out) ≤ length (now xs) + 1 ⌝ }
-    ensures { λ _. ⌜ now (out .exit) ≡ tabulate (λ j. Sums·product residues j (λ i. getD (now (xs .entry)) i 0))
-        (length (now (out .entry))) ⌝ }
-{
-    if out.len() == 0 {
-        return;
-    }
-    let last = out.len() - 1;
-    let mut acc: u32 = 1;
-    let mut i = 0;
-    while i < last {
-        out[i] = acc;
-        acc = times(acc, xs[i]);
-        i += 1;
-    }
-    out[i] = acc;
-}
-
-// The first n powers of s: out[j] = s to the power j, each from the one before.
-fn chain(s: u32, n: usize, out: &mut [u32])
-    requires { ⌜ (s < prime) × (n ≤ length (now out)) ⌝ }
-    ensures { λ _. ⌜ take n (now (out .exit)) ≡ tabulate (power residues s) n ⌝ }
-{
-    let mut acc: u32 = 1;
-    let mut i = 0;
-    while i < n {
-        out[i] = acc;
-        acc = mul(acc, s);
-        i += 1;
-    }
-}
-
-// The first n where the first k are there: each is the one k places before it times s to the power k, so that k turns do
-// not wait for each other.
-fn stretch(s: u32, k: usize, n: usize, out: &mut [u32])
-    requires { ⌜ (s < prime) × (0 < k) × (k ≤ n) × (n ≤ length (now out)) ⌝ }
-    requires { ⌜ take k (now out) ≡ tabulate (power residues s) k ⌝ }
-    ensures { λ _. ⌜ take n (now (out .exit)) ≡ tabulate (power residues s) n ⌝ }
-{
-    let by = mul(out[k - 1], s);
-    let rest = n - k;
-    let mut i = 0;
-    while i < rest {
-        out[k + i] = mul(out[i], by);
-        i += 1;
-    }
-}
-
-// out[j] = s to the power j
-pub fn powers(s: u32, out: &mut [u32])
-    requires { ⌜ s < prime ⌝ }
-    ensures { λ _. ⌜ now (out .exit) ≡ tabulate (power residues s) (length (now (out .entry))) ⌝ }
-{
-    let n = out.len();
-    if n <= 8 {
-        chain(s, n, out);
-        return;
-    }
-    chain(s, 8, out);
-    if n <= 32 {
-        stretch(s, 8, n, out);
-        return;
-    }
-    stretch(s, 8, 32, out);
-    stretch(s, 32, n, out);
-}
-
-// out[i] = 1 / (i + 1). From P = (P / a) a + P % a, the inverse of a is that of P % a, which is below a, times - (P / a).
-pub fn inverses(out: &mut [u32])
-    requires { ⌜ length (now out) < prime ⌝ }
-    ensures { λ _. ⌜ now (out .exit) ≡ tabulate (λ i. residues .inv (suc i)) (length (now (out .entry))) ⌝ }
-{
-    if out.len() == 0 {
-        return;
-    }
-    out[0] = 1;
-    let mut i = 1;
-    while i < out.len() {
-        let a = (i + 1) as u32;
-        let r = (P % a) as usize;
-        out[i] = mul(P - P / a, out[r - 1]);
-        i += 1;
-    }
 }

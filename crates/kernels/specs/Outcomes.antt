@@ -6,7 +6,8 @@ use mathlib.Core.List.{List}
 use Prim.Native.Nat.{ℕ, _+_}
 use lib.Dec.{eqb, leb, ltb}
 use lib.ListN.{length}
-use Rattle.field.specs.Residues.{prime, longest}
+use Rattle.field.specs.Residues.{prime}
+use Rattle.loops.specs.Lengths.{longest}
 
 -- what is left of `before` by a kernel that computes `result`
 pub record Outcome {A : Type 0} (fits : Bool) (result before : A) (answer : ℕ) (after : A) : Type 0 where

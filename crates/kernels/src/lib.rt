@@ -1,4 +1,4 @@
-// The loops of `field` as functions that C and Rust can call, for measuring them. Each takes any arguments: it answers 0
+// The loops of `loops` as functions that C and Rust can call, for measuring them. Each takes any arguments: it answers 0
 // where they fit, and else 1 and changes nothing.
 ghost use Prim.Native.Nat.{suc, _-_};
 ghost use lib.ListN.{length, getD};
@@ -17,10 +17,10 @@ pub extern "C" fn kernel_inner(a: &[u32], b: &[u32], out: &mut u32) -> u32
     if a.len() != b.len() {
         return 1;
     }
-    if a.len() > field::LONGEST {
+    if a.len() > loops::LONGEST {
         return 1;
     }
-    *out = field::inner(a, b);
+    *out = loops::inner(a, b);
     0
 }
 
@@ -36,7 +36,7 @@ pub extern "C" fn kernel_ascending(x: u32, out: &mut [u32]) -> u32
     if out.len() > field::P as usize {
         return 1;
     }
-    field::ascending(x, out);
+    loops::ascending(x, out);
     0
 }
 
@@ -52,7 +52,7 @@ pub extern "C" fn kernel_descending(x: u32, out: &mut [u32]) -> u32
     if out.len() > field::P as usize {
         return 1;
     }
-    field::descending(x, out);
+    loops::descending(x, out);
     0
 }
 
@@ -65,7 +65,7 @@ pub extern "C" fn kernel_running_products(xs: &[u32], out: &mut [u32]) -> u32
     if out.len() > xs.len() + 1 {
         return 1;
     }
-    field::running_products(xs, out);
+    loops::running_products(xs, out);
     0
 }
 
@@ -77,7 +77,7 @@ pub extern "C" fn kernel_powers(s: u32, out: &mut [u32]) -> u32
     if s >= field::P {
         return 1;
     }
-    field::powers(s, out);
+    loops::powers(s, out);
     0
 }
 
@@ -89,6 +89,6 @@ pub extern "C" fn kernel_inverses(out: &mut [u32]) -> u32
     if out.len() >= field::P as usize {
         return 1;
     }
-    field::inverses(out);
+    loops::inverses(out);
     0
 }

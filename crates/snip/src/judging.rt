@@ -101,8 +101,8 @@ fn tau_of(sheet: &[u8], x: &[u32], l: usize, constant: u32, tests: usize, s: u32
     let mut values = [0u32; 384];
     let mut powers = [0u32; 384];
     walk::fill_tests(sheet, x, l, constant, &mut values[..tests]);
-    field::powers(s, &mut powers[..tests]);
-    field::inner(&powers[..tests], &values[..tests])
+    loops::powers(s, &mut powers[..tests]);
+    loops::inner(&powers[..tests], &values[..tests])
 }
 
 // What server `own` works out from the share x, with the pair r, s.

@@ -1,4 +1,4 @@
--- `kernels::kernel_ascending` meets its contract: what `field::ascending` leaves, where it may be called. Assumes nothing.
+-- `kernels::kernel_ascending` meets its contract: what `loops::ascending` leaves, where it may be called. Assumes nothing.
 use borrow.Author.Needs.{needs}
 use native.Mathlib.Omega.{arith}
 use borrow.Author.Tests.{lt-ltb, le-ltb, le-leb, lt-leb}

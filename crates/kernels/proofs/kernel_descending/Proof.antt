@@ -1,4 +1,4 @@
--- `kernels::kernel_descending` meets its contract: what `field::descending` leaves, where it may be called. Assumes nothing.
+-- `kernels::kernel_descending` meets its contract: what `loops::descending` leaves, where it may be called. Assumes nothing.
 use borrow.Author.Needs.{needs}
 use native.Mathlib.Omega.{arith}
 use borrow.Author.Tests.{lt-ltb, le-ltb, le-leb, lt-leb}

@@ -1,4 +1,4 @@
--- `kernels::kernel_inverses` meets its contract: what `field::inverses` leaves, where it may be called. Assumes nothing.
+-- `kernels::kernel_inverses` meets its contract: what `loops::inverses` leaves, where it may be called. Assumes nothing.
 use borrow.Author.Needs.{needs}
 use native.Mathlib.Omega.{arith}
 use borrow.Author.Tests.{lt-ltb, le-ltb}

@@ -1,4 +1,4 @@
--- `kernels::kernel_powers` meets its contract: what `field::powers` leaves, where it may be called. Assumes nothing.
+-- `kernels::kernel_powers` meets its contract: what `loops::powers` leaves, where it may be called. Assumes nothing.
 use borrow.Author.Needs.{needs}
 use native.Mathlib.Omega.{arith}
 use borrow.Author.Tests.{lt-ltb, le-ltb}

@@ -1,4 +1,4 @@
--- `kernels::kernel_running_products` meets its contract: what `field::running_products` leaves, where it may be called.
+-- `kernels::kernel_running_products` meets its contract: what `loops::running_products` leaves, where it may be called.
 -- Assumes nothing.
 use borrow.Author.Needs.{needs}
 use Prim.Native.Nat.{_+_}

@@ -1,0 +1,7 @@
+-- Laws that the proofs of the functions cite.
+pub mod Parts
+pub mod Fours
+pub mod Running
+pub mod Stretches
+pub mod Falling
+pub mod Recurrence

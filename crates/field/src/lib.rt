@@ -83,3 +83,11 @@ pub fn mul_add(a: u32, b: u32, c: u32) -> u32
 {
     reduce(fold(product(a, b) + (c as u64)))
 }
+
+// a * b + c * d
+pub fn mul_mul(a: u32, b: u32, c: u32, d: u32) -> u32
+    requires { ⌜ (a < prime) × (b < prime) × (c < prime) × (d < prime) ⌝ }
+    ensures { λ r. ⌜ r ≡ residues ._⊕_ (residues ._⊗_ a b) (residues ._⊗_ c d) ⌝ }
+{
+    residue(product(a, b) + product(c, d))
+}

@@ -20,7 +20,7 @@ fn plus(a: Fraction, b: Fraction) -> Fraction
     ensures { λ q. ⌜ q ≡ plusOf a b ⌝ }
 {
     Fraction {
-        over: field::mul_add(a.over, b.under, field::mul(b.over, a.under)),
+        over: field::mul_mul(a.over, b.under, b.over, a.under),
         under: field::mul(a.under, b.under),
     }
 }

@@ -2,10 +2,9 @@
 -- inverses of factorials. Assumes nothing.
 use mathlib.Core.Path.{_≡_, sym, _∙_, ap, ap₂}
 use mathlib.Core.Logic.{_≢_}
-use Prim.Native.Nat.{ℕ, zero, suc, _-_, _≤_, _<_}
-use native.Mathlib.Nat.{mod-eq-of-lt, mod-lt}
+use Prim.Native.Nat.{ℕ, suc, _-_, _≤_, _<_}
+use native.Mathlib.Nat.{mod-eq-of-lt}
 use native.Mathlib.Omega.{arith}
-use lib.Dec.{lit<}
 use Rattle.algebra.specs.Ops.{Field, Hom}
 use Rattle.algebra.specs.Interpolation.{weight, sign}
 use Rattle.algebra.proofs.Trial.{prime-2147483647}
@@ -32,11 +31,6 @@ back {x} h = value-of prime prime-2147483647 x h
 -- the numbers from 1 below the prime are not 0 in the field
 pub not-zero : (i : ℕ) → suc i < prime → 𝓕 .ops .ι (suc i) ≢ 𝓕 .ops .𝟘
 not-zero i h e = points-apart prime prime-2147483647 (suc i) 0 h (omega arith) (omega arith) (e ∙ sym (𝓕 .law-ι-zero))
-
-pub sign-below : (m : ℕ) → sign residues m < prime
-unfolding sign
-sign-below zero = lit< tt
-sign-below (suc m) = mod-lt (prime - sign residues m) (lit< tt)
 
 -- ---- the weights
 pub inverse-value : (m : ℕ) → m < prime → values .φ (weights.inverseFactorial 𝓕 m) ≡ inverseFactorial m

@@ -1,6 +1,7 @@
 -- `proof::shift` meets its contract: at a point the given number, beyond them the one that follows. Assumes nothing.
 use mathlib.Core.Path.{ap, _∙_}
-use Prim.Native.Nat.{_+_, _-_, _<_, _≤_}
+use mathlib.Core.List.{List}
+use Prim.Native.Nat.{ℕ, _+_, _-_, _<_, _≤_}
 use native.Mathlib.Omega.{arith}
 use lib.ListN.{length, getD}
 use Rattle.field.specs.Residues.{prime, residues}
@@ -10,9 +11,12 @@ use borrow.Author.Needs.{needs}
 use Rattle.proof.proofs.shift.Statement.{statement}
 use Rattle.proof.proofs.shift.Tie as tie
 
--- the inverse that is read
+-- the list of inverses, and the inverse that is read
+abbrev inverses : tie.After-shared-slice-known3 → List ℕ
+inverses c = c .before .before .before .before .before .args .back .now
+
 inverse-low : (c : tie.After-shared-slice-known3)
-    → getD (c .before .before .before .before .before .args .back .now) (length (c .before .before .before .before .before .args .back .now) - c .before .before .before .before .before .args .j) 0 < prime
+    → getD (inverses c) (length (inverses c) - c .before .before .before .before .before .args .j) 0 < prime
 inverse-low c =
     let s = c .before .before .before .before .before in
     let within : s .args .j ≤ length (s .args .falls .now) + length (s .args .falls .now) = omega (arith, s .pre .3) in

@@ -45,7 +45,8 @@ array-share-prefix-weights c =
 
 slice-aggregate-inputs-with : tie.Need-slice-aggregate-inputs-with
 slice-aggregate-inputs-with c =
-    let l = c .before .before .fill-weights .kept .0 ∙ length-take-le _ _ (few (c .before .before .before .before .before .before .pre .3)) in
+    let s = c .before .before .before .before .before .before in
+    let l = c .before .before .fill-weights .kept .0 ∙ length-take-le _ _ (few (s .pre .3)) in
     rw (take-at _ _ _ l) (sym l)
 
 inputs-with-requires : tie.Need-inputs-with-requires

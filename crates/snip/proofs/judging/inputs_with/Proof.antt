@@ -126,7 +126,8 @@ returns c =
     let elements = s .pre .0 .0 .elements in
     let few : gatesIn cs < prime = omega (arith, s .pre .0 .2) in
     let q = c .before .before .before .before .before .before .lefts-sum .ensures .0 in
-    let first = c .before .before .before .before .mul .ensures ∙ ap (λ (f : Fraction). residues ._⊗_ (getD (v .weights .now) 0 0) (f .under)) q in
+    let w = getD (v .weights .now) 0 0 in
+    let first = c .before .before .before .before .mul .ensures ∙ ap (λ (f : Fraction). residues ._⊗_ w (f .under)) q in
     let rest = c .before .mul2 .ensures ∙ ap (λ (f : Fraction). residues ._⊗_ (v .r) (f .over)) q in
     c .inputs-from .ensures
     ∙ ap₂ (λ a b. inputsFrom (getD (v .x .now) (v .l) 0) (getD (v .x .now) (v .l + 1) 0) a b (v .constant)) first rest

@@ -31,7 +31,8 @@ array-share-prefix-lefts c =
 
 slice-aggregate-sum : tie.Need-slice-aggregate-sum
 slice-aggregate-sum c =
-    let l = c .before .before .fill-lefts .kept .1 .1 .0 ∙ length-take-le _ _ (c .before .before .before .before .before .before .before .pre .4) in
+    let s = c .before .before .before .before .before .before .before in
+    let l = c .before .before .fill-lefts .kept .1 .1 .0 ∙ length-take-le _ _ (s .pre .4) in
     rw (take-at _ _ _ l) (sym l)
 
 sum-requires : tie.Need-sum-requires

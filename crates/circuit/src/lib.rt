@@ -12,6 +12,7 @@ ghost use Rattle.rules.specs.Settings.{document01};
 ghost use Rattle.rules.specs.Columns.{check};
 ghost use Rattle.rules.specs.CircuitReader.{bodyLengths, stepOf, stepFault, stepFormat, limitedCircuit};
 ghost use Rattle.circuit.specs.Reading.{BodyTable, limitedCounts, readingIn, readingOf};
+use records::or_else;
 
 // What a circuit comes to.
 pub struct Counts {
@@ -53,13 +54,6 @@ fn pair_fault(body: &[u8], wires: u32) -> u32
         return below(words::read_u16(body, 2), wires, 3);
     }
     3
-}
-
-// The first of two faults; 0 is none.
-fn or_else(a: u32, b: u32) -> u32
-    ensures { λ r. ⌜ r ≡ orElse a b ⌝ }
-{
-    if a == 0 { b } else { a }
 }
 
 // The fault of a body of a wire and a constant: the constant comes first.

@@ -2,13 +2,13 @@
 ghost use mathlib.Core.Path.{_≡_};
 ghost use Prim.Native.Nat.{_+_, _≤_};
 ghost use Rattle.words.specs.Bytes.{splice};
-ghost use Rattle.records.specs.Outcome.{orElse};
 ghost use Rattle.rules.specs.Settings.{document01};
 ghost use Rattle.rules.specs.Columns.{serversFault};
 ghost use Rattle.rules.specs.Making.{makeRefusal, makeBytes};
 ghost use Rattle.client.specs.Calls.{Makes};
 ghost use Rattle.client.specs.Pieces.{randomFaultAt, Few, Counted, Makeable};
 use records::Written;
+use records::or_else;
 use sheet::Counts;
 use sheet::Reading;
 use sheet::read;
@@ -23,13 +23,6 @@ fn size_of(counts: Counts) -> usize
     ensures { λ r. ⌜ r ≡ counts .entries + (counts .gates + counts .gates) + 6 ⌝ }
 {
     counts.entries + (counts.gates + counts.gates) + 6
-}
-
-// The first of two refusals; 0 is none.
-fn or_else(a: u32, b: u32) -> u32
-    ensures { λ r. ⌜ r ≡ orElse a b ⌝ }
-{
-    if a == 0 { b } else { a }
 }
 
 // The refusal of S: 2, or 0 for none.

@@ -4,7 +4,6 @@ ghost use mathlib.Core.Path.{_≡_};
 ghost use Prim.Native.Nat.{_+_, _≤_};
 ghost use lib.ListN.{length};
 ghost use Rattle.words.specs.Bytes.{splice};
-ghost use Rattle.records.specs.Outcome.{orElse};
 ghost use Rattle.rules.specs.Settings.{document01};
 ghost use Rattle.rules.specs.Server.{shareRefusal};
 ghost use Rattle.rules.specs.Messages.{shareElements};
@@ -14,6 +13,7 @@ ghost use Rattle.table.specs.Reading.{Sound};
 ghost use Rattle.shares.specs.Calls.{Shares};
 ghost use Rattle.shares.specs.Taking.{startFault, messageFault, lastFault, waitBytes, Fitting, Takable};
 use records::Written;
+use records::or_else;
 use sheet::Counts;
 use snip::judging::Judged;
 use snip::judging::judge;
@@ -25,16 +25,6 @@ use table::places::ids_place;
 use table::places::share_size;
 use table::places::wait_place;
 use table::read;
-
-// The first of two refusals, 0 for none.
-fn or_else(a: u32, b: u32) -> u32
-    ensures { λ n. ⌜ n ≡ orElse a b ⌝ }
-{
-    if a != 0 {
-        return a;
-    }
-    b
-}
 
 // The refusal by the table: 11 where it is not idle, 13 where N returns are decided, 0 for none.
 fn start_refusal(k: Table) -> u32

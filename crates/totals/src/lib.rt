@@ -2,9 +2,9 @@
 // cite the crate rules, at document 01's setting, and specs/. A refusal leaves the buffer as it was.
 ghost use mathlib.Core.Path.{_≡_};
 ghost use Rattle.words.specs.Bytes.{splice};
-ghost use Rattle.records.specs.Outcome.{orElse};
 ghost use Rattle.totals.specs.Calls.{totalsOf, Joinable, judged, Joins};
 use records::Written;
+use records::or_else;
 use sheet::Reading;
 
 // What joining hands back: the accepted count, and how many bytes were written.
@@ -31,16 +31,6 @@ fn write_totals(joined: &[u8], servers: u32, published: usize, out: &mut [u8])
     }
 }
 
-// The first of two refusals.
-fn first(a: u32, b: u32) -> u32
-    ensures { λ r. ⌜ r ≡ orElse a b ⌝ }
-{
-    if a != 0 {
-        return a;
-    }
-    b
-}
-
 // Whether the messages can be joined: the bytes that their totals take, or the number of the first refusal.
 fn judge(servers: u32, sheet: &[u8], returns: u32, joined: &[u8], room: usize) -> Written
     ensures { λ r. ⌜ r ≡ judged servers (now (sheet .entry)) returns (now (joined .entry)) room ⌝ }
@@ -57,7 +47,7 @@ fn judge(servers: u32, sheet: &[u8], returns: u32, joined: &[u8], room: usize) -
             let published = counts.published;
             let over = sheet::totals::returns_refusal(sheet, returns);
             let unsound = message::totals_refusal(joined, servers, published, returns);
-            let fault = first(over, unsound);
+            let fault = or_else(over, unsound);
             if fault != 0 {
                 return Written::Refused(fault);
             }

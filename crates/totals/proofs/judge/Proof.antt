@@ -63,17 +63,17 @@ returns-refusal-requires c κs = told (c .before) .0
 totals-refusal-requires : tie.Need-totals-refusal-requires
 totals-refusal-requires c κs = limits (c .before .before)
 
-first-requires : tie.Need-first-requires
-first-requires c κs = search needs
+or-else-requires : tie.Need-or-else-requires
+or-else-requires c κs = search needs
 
 -- the first refusal of N and of the messages
-fault-is : (c : tie.After-first)
+fault-is : (c : tie.After-or-else)
     → let u = c .before .before .before .before in
     let a = u .before .before .before .before .before .before .before .args in
-    c .first .result
+    c .or-else .result
     ≡ orElse (orElse (returnsFault (a .returns)) (totalsFault document01 (a .returns) (columnsOf (sheetIn u))))
     (joinedFaultAt (serversIn u) (publishedAt u) (a .returns) (a .joined .now))
-fault-is c = c .first .ensures ∙ ap₂ orElse (c .before .before .returns-refusal .ensures) (c .before .totals-refusal .ensures)
+fault-is c = c .or-else .ensures ∙ ap₂ orElse (c .before .before .returns-refusal .ensures) (c .before .totals-refusal .ensures)
 
 returns-3 : tie.Need-returns-3
 returns-3 c =
@@ -115,7 +115,7 @@ judge-spec =
     enum-known-counts
     returns-refusal-requires
     totals-refusal-requires
-    first-requires
+    or-else-requires
     returns-3
     mul-if4
     returns-4

@@ -1,8 +1,8 @@
--- `client::or_else` meets its contract, by the test in each arm. Assumes nothing.
+-- `records::or_else` meets its contract, by the test in each arm. Assumes nothing.
 use mathlib.Core.Path.{sym}
 use Rattle.records.proofs.Outcome.{or-none, or-first}
-use Rattle.client.proofs.or_else.Statement.{statement}
-use Rattle.client.proofs.or_else.Tie as tie
+use Rattle.records.proofs.or_else.Statement.{statement}
+use Rattle.records.proofs.or_else.Tie as tie
 
 returns : tie.Need-returns
 returns c = rw (c .if1 .taken) (sym (or-none (c .before .args .b)))

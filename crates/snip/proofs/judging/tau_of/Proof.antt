@@ -7,7 +7,7 @@ use lib.Seq.{length-take-le, take-at}
 use Rattle.algebra.specs.Lists.{tabulate}
 use Rattle.algebra.specs.Sums.{power}
 use Rattle.field.specs.Residues.{residues}
-use Rattle.snip.proofs.Points.{inner-folded}
+use Rattle.snip.proofs.Folding.{inner-folded}
 use borrow.Author.Needs.{needs}
 use Rattle.snip.proofs.judging.tau_of.Statement.{statement}
 use Rattle.snip.proofs.judging.tau_of.Tie as tie

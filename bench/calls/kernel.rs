@@ -1,11 +1,11 @@
 // Sharing and making against the bare arithmetic: interpolation in separate passes, inverses, running products, powers
-// and inner products, by the kernels of libkernels.a on lent slices. It is a bar to hold the calls to, not what they do:
-// the library need not work out what it has as constants, and may take passes together. Left out are the products
-// member by member, for which there is no kernel, and everything on bytes.
+// and inner products, by loops in Rust on lent slices (passes.rs, and those of field/loops.rs that the proved kernels are
+// measured against). It is a bar to hold the calls to, not what they do: the library need not work out what it has as
+// constants, and may take passes together. Left out are the products member by member and everything on bytes.
 use crate::series::{calls_for, series, Call};
 use crate::setting::{Setting, ROOM};
 use crate::tables::Ours;
-use crate::{kernels, speed, timing};
+use crate::{loops, passes, speed, timing};
 use std::hint::black_box;
 
 // Work space, as long as the largest sheet asks.
@@ -27,20 +27,20 @@ impl Space {
 
 fn inner(a: &[u32], b: &[u32]) {
     let mut out = 0;
-    assert!(kernels::inner(black_box(a), b, &mut out) == 0);
+    assert!(loops::inner(black_box(a), b, &mut out) == 0);
     black_box(out);
 }
 
 // The inverses of the factorials below n, from the inverses of 1 to m.
 fn factorials(w: &mut Space, m: usize, n: usize) {
-    assert!(kernels::inverses(&mut w.inverses[..m]) == 0);
-    assert!(kernels::running_products(&w.inverses[..m], &mut w.products[..n]) == 0);
+    assert!(passes::inverses(&mut w.inverses[..m]) == 0);
+    assert!(passes::running_products(&w.inverses[..m], &mut w.products[..n]) == 0);
 }
 
 // The products before and after each of n points.
 fn basis(w: &mut Space, r: u32, n: usize) {
-    assert!(kernels::ascending(r, &mut w.up[..n]) == 0);
-    assert!(kernels::descending(r, &mut w.down[..n]) == 0);
+    assert!(loops::ascending(r, &mut w.up[..n]) == 0);
+    assert!(passes::descending(r, &mut w.down[..n]) == 0);
 }
 
 // Taking a share: f and g through M + 1 points, h through 2M + 1, and K tests.
@@ -51,14 +51,14 @@ fn share(w: &mut Space, m: usize, k: usize, r: u32, s: u32) {
     inner(&w.given[..m + 1], &w.down[..m + 1]);
     basis(w, r, 2 * m + 1);
     inner(&w.given[..2 * m + 1], &w.up[..2 * m + 1]);
-    assert!(kernels::powers(s, &mut w.up[..k]) == 0);
+    assert!(loops::powers(s, &mut w.up[..k]) == 0);
     inner(&w.given[..k], &w.up[..k]);
 }
 
 // Making a return: f and g at the points M + 1 to 2M, an inner product of M + 1 members for each value.
 fn make(w: &mut Space, m: usize) {
     factorials(w, 2 * m, m + 1);
-    assert!(kernels::ascending(m as u32 + 1, &mut w.up[..m + 2]) == 0);
+    assert!(loops::ascending(m as u32 + 1, &mut w.up[..m + 2]) == 0);
     for i in 0..m {
         inner(&w.given[..m + 1], &w.inverses[i..i + m + 1]);
         inner(&w.given[1..m + 2], &w.inverses[i..i + m + 1]);

@@ -1,12 +1,13 @@
-// Compares the C functions of libpool.a with the second program's fast and lent forms and with the bare kernels of
-// libkernels.a: their speed, how it grows and the memory, or with --check the results.
+// Compares the C functions of libpool.a with the second program's fast and lent forms and with the bare arithmetic in
+// Rust: their speed, how it grows and the memory, or with --check the results.
 mod check;
 mod growth;
 mod kernel;
-#[path = "../field/kernels.rs"]
-mod kernels;
 mod look;
+#[path = "../field/loops.rs"]
+mod loops;
 mod memory;
+mod passes;
 mod pool;
 mod series;
 mod setting;

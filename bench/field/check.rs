@@ -83,22 +83,7 @@ pub fn run() -> bool {
         let c = &mut count;
         let s = &mut numbers;
         table(c, s, "ascending", n, fits, |o| kernels::ascending(x, o), |o| loops::ascending(x, o), |j| difference_product(x, 0..j));
-        table(c, s, "descending", n, fits, |o| kernels::descending(x, o), |o| loops::descending(x, o), |j| {
-            difference_product(x, j + 1..n)
-        });
         table(c, s, "powers", n, fits, |o| kernels::powers(x, o), |o| loops::powers(x, o), |j| power(x as u64, j as u64) as u32);
-        table(c, s, "inverses", n, true, kernels::inverses, loops::inverses, |j| power(j as u64 + 1, P - 2) as u32);
-        let n = match s.below(4) {
-            0 => m + 1,
-            1 => s.below(m as u64 + 1) as usize,
-            2 => m + 2,
-            _ => m,
-        };
-        let fits = n <= m + 1;
-        let xs = &b[..];
-        table(c, s, "running products", n, fits, |o| kernels::running_products(xs, o), |o| loops::running_products(xs, o), |j| {
-            xs[..j].iter().fold(1, |acc, &x| acc * (x as u64 % P) % P) as u32
-        });
     }
     // the longest inner product of the largest numbers, and one member more
     for n in [65536, 65537] {

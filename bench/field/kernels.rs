@@ -5,10 +5,7 @@ mod c {
     extern "C" {
         pub fn kernel_inner(a: *const u32, a_len: usize, b: *const u32, b_len: usize, out: *mut u32) -> u32;
         pub fn kernel_ascending(x: u32, out: *mut u32, len: usize) -> u32;
-        pub fn kernel_descending(x: u32, out: *mut u32, len: usize) -> u32;
-        pub fn kernel_running_products(xs: *const u32, xs_len: usize, out: *mut u32, len: usize) -> u32;
         pub fn kernel_powers(s: u32, out: *mut u32, len: usize) -> u32;
-        pub fn kernel_inverses(out: *mut u32, len: usize) -> u32;
     }
 }
 
@@ -20,18 +17,6 @@ pub fn ascending(x: u32, out: &mut [u32]) -> u32 {
     unsafe { c::kernel_ascending(x, out.as_mut_ptr(), out.len()) }
 }
 
-pub fn descending(x: u32, out: &mut [u32]) -> u32 {
-    unsafe { c::kernel_descending(x, out.as_mut_ptr(), out.len()) }
-}
-
-pub fn running_products(xs: &[u32], out: &mut [u32]) -> u32 {
-    unsafe { c::kernel_running_products(xs.as_ptr(), xs.len(), out.as_mut_ptr(), out.len()) }
-}
-
 pub fn powers(s: u32, out: &mut [u32]) -> u32 {
     unsafe { c::kernel_powers(s, out.as_mut_ptr(), out.len()) }
-}
-
-pub fn inverses(out: &mut [u32]) -> u32 {
-    unsafe { c::kernel_inverses(out.as_mut_ptr(), out.len()) }
 }

@@ -26,11 +26,6 @@ pub fn run() {
         });
         let x = numbers.element();
         compare("ascending", n, n, &mut |out| kernels::ascending(x, out), &mut |out| loops::ascending(x, out));
-        compare("descending", n, n, &mut |out| kernels::descending(x, out), &mut |out| loops::descending(x, out));
-        compare("running products", n, n, &mut |out| kernels::running_products(black_box(a), out), &mut |out| {
-            loops::running_products(black_box(a), out)
-        });
         compare("powers", n, n, &mut |out| kernels::powers(x, out), &mut |out| loops::powers(x, out));
-        compare("inverses", n, n, &mut kernels::inverses, &mut loops::inverses);
     }
 }

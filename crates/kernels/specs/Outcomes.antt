@@ -3,7 +3,7 @@
 use mathlib.Core.Path.{_≡_}
 use mathlib.Core.Bool.{Bool, cond, _&&_}
 use mathlib.Core.List.{List}
-use Prim.Native.Nat.{ℕ, _+_}
+use Prim.Native.Nat.{ℕ}
 use lib.Dec.{eqb, leb, ltb}
 use lib.ListN.{length}
 use Rattle.field.specs.Residues.{prime}
@@ -17,15 +17,8 @@ pub record Outcome {A : Type 0} (fits : Bool) (result before : A) (answer : ℕ)
 abbrev pub inner-fits : List ℕ → List ℕ → Bool
 inner-fits a b = eqb (length a) (length b) && leb (length a) longest
 
--- of `ascending` and `descending`
 abbrev pub point-fits : ℕ → List ℕ → Bool
 point-fits x out = ltb x prime && leb (length out) prime
 
-abbrev pub products-fit : List ℕ → List ℕ → Bool
-products-fit xs out = leb (length out) (length xs + 1)
-
 abbrev pub powers-fit : ℕ → Bool
 powers-fit s = ltb s prime
-
-abbrev pub inverses-fit : List ℕ → Bool
-inverses-fit out = ltb (length out) prime

@@ -3,5 +3,3 @@ pub mod Parts
 pub mod Fours
 pub mod Running
 pub mod Stretches
-pub mod Falling
-pub mod Recurrence

@@ -58,10 +58,3 @@ module _ (g : ℕ → ℕ) where
       → take n l ≡ tabulate (λ j. product residues j g) n
   first-filled {d} {l} {acc} {i} n v e =
       rw (← e) (ap (take i) (v .filled) ∙ take-at (tabulate run i) (drop i d) i (length-tabulate run i))
-
-  -- where the last entry is stored after the loop
-  pub finish-last : {d l : List ℕ} {acc i : ℕ} → Running d l acc i → length d ≡ i + 1
-      → set l i acc ≡ tabulate (λ j. product residues j g) (length d)
-  finish-last {d} {l} {acc} {i} v h =
-      fill-all run d (set l i acc) (i + 1) (omega arith) (omega arith)
-      (fill-next run d l i acc (omega arith) (v .filled) (v .is))

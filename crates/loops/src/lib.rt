@@ -1,11 +1,10 @@
 // Loops over slices of elements modulo the prime. Each contract is an equality with a definition of algebra at that prime.
-// No step depends on the value of an element, and no loop but that of `inverses` divides: / and % by TOP are a shift and
-// a mask.
+// No step depends on the value of an element, and none divides: / and % by TOP are a shift and a mask.
 ghost use mathlib.Core.Path.{_≡_};
-ghost use Prim.Native.Nat.{suc, _+_, _-_, _*_, _%_, _<_, _≤_};
+ghost use Prim.Native.Nat.{_-_, _*_, _%_, _<_, _≤_};
 ghost use lib.ListN.{length, getD, take};
-ghost use Rattle.algebra.specs.Sums.{product, inner as Sums·inner, power};
-ghost use Rattle.algebra.specs.Interpolation.{ascending as Interpolation·ascending, descending as Interpolation·descending};
+ghost use Rattle.algebra.specs.Sums.{inner as Sums·inner, power};
+ghost use Rattle.algebra.specs.Interpolation.{ascending as Interpolation·ascending};
 ghost use Rattle.algebra.specs.Lists.{tabulate};
 ghost use Rattle.field.specs.Residues.{prime, top, residues, Elements};
 ghost use Rattle.loops.specs.Lengths.{longest};
@@ -120,41 +119,6 @@ pub fn ascending(x: u32, out: &mut [u32])
     }
 }
 
-// out[j] = (x - (j + 1)) .. (x - (n - 1)), where n is the length of out: filled from the back.
-pub fn descending(x: u32, out: &mut [u32])
-    requires { ⌜ (x < prime) × (length (now out) ≤ prime) ⌝ }
-    ensures { λ _. ⌜ now (out .exit) ≡ tabulate (λ j. Interpolation·descending residues (suc j)
-        (length (now (out .entry)) - 1 - j) x) (length (now (out .entry))) ⌝ }
-{
-    let mut acc: u32 = 1;
-    let mut j = out.len();
-    while 0 < j {
-        j -= 1;
-        out[j] = acc;
-        acc = field::mul(field::sub(x, j as u32), acc);
-    }
-}
-
-// out[j] = xs[0] .. xs[j - 1], where xs may have any numbers as members: at most one more entry than xs has members.
-pub fn running_products(xs: &[u32], out: &mut [u32])
-    requires { ⌜ length (now out) ≤ length (now xs) + 1 ⌝ }
-    ensures { λ _. ⌜ now (out .exit) ≡ tabulate (λ j. product residues j (λ i. getD (now (xs .entry)) i 0))
-        (length (now (out .entry))) ⌝ }
-{
-    if out.len() == 0 {
-        return;
-    }
-    let last = out.len() - 1;
-    let mut acc: u32 = 1;
-    let mut i = 0;
-    while i < last {
-        out[i] = acc;
-        acc = field::times(acc, xs[i]);
-        i += 1;
-    }
-    out[i] = acc;
-}
-
 // The first n powers of s: out[j] = s to the power j, each from the one before.
 fn chain(s: u32, n: usize, out: &mut [u32])
     requires { ⌜ (s < prime) × (n ≤ length (now out)) ⌝ }
@@ -202,22 +166,4 @@ pub fn powers(s: u32, out: &mut [u32])
     }
     stretch(s, 8, 32, out);
     stretch(s, 32, n, out);
-}
-
-// out[i] = 1 / (i + 1). From P = (P / a) a + P % a, the inverse of a is that of P % a, which is below a, times - (P / a).
-pub fn inverses(out: &mut [u32])
-    requires { ⌜ length (now out) < prime ⌝ }
-    ensures { λ _. ⌜ now (out .exit) ≡ tabulate (λ i. residues .inv (suc i)) (length (now (out .entry))) ⌝ }
-{
-    if out.len() == 0 {
-        return;
-    }
-    out[0] = 1;
-    let mut i = 1;
-    while i < out.len() {
-        let a = (i + 1) as u32;
-        let r = (field::P % a) as usize;
-        out[i] = field::mul(field::P - field::P / a, out[r - 1]);
-        i += 1;
-    }
 }

@@ -7,18 +7,13 @@ use native.Mathlib.Omega.{arith}
 use lib.Dec.{lit<}
 use lib.ListN.{getD}
 use Rattle.algebra.specs.Sums.{sum, product}
-use Rattle.algebra.specs.Interpolation.{descending}
 use Rattle.algebra.specs.Modulo.{inverseFrom}
 use Rattle.algebra.specs.Lists.{all[], all∷, tabulate}
-use Rattle.field.specs.Residues.{prime, top, residues, Elements}
+use Rattle.field.specs.Residues.{prime, residues, Elements}
 
 -- a product of two elements
 pub product-elements : (a b : ℕ) → a < prime → b < prime → a * b ≤ (prime - 1) * (prime - 1)
 product-elements a b h k = mul-le-mul {n₁ = a} {m₁ = b} {n₂ = prime - 1} {m₂ = prime - 1} (omega arith) (omega arith)
-
--- of an element and a number up to top
-pub product-top : (a b : ℕ) → a < prime → b ≤ top → a * b ≤ (prime - 1) * top
-product-top a b h k = mul-le-mul {n₁ = a} {m₁ = b} {n₂ = prime - 1} {m₂ = top} (omega arith) k
 
 -- of two numbers of 32 bits
 pub product-words : (a b : ℕ) → a < 2 ^ 32 → b < 2 ^ 32 → a * b < 2 ^ 64
@@ -37,11 +32,6 @@ pub product-below : (m : ℕ) (g : ℕ → ℕ) → product residues m g < prime
 unfolding product
 product-below zero g = lit< tt
 product-below (suc m) g = remainder (product residues m g * g m)
-
-pub descending-below : (s m x : ℕ) → descending residues s m x < prime
-unfolding descending
-descending-below s zero x = lit< tt
-descending-below s (suc m) x = remainder _
 
 pub inverse-below : (a : ℕ) → residues .inv a < prime
 inverse-below a = remainder (inverseFrom prime a a)

@@ -68,14 +68,6 @@ pub fn mul(a: u32, b: u32) -> u32
     reduce(fold(product(a, b)))
 }
 
-// a * x for an element a and any x. What is done to x first does not wait for a.
-pub fn times(a: u32, x: u32) -> u32
-    requires { ⌜ a < prime ⌝ }
-    ensures { λ r. ⌜ r ≡ residues ._⊗_ a x ⌝ }
-{
-    reduce(fold((a as u64) * fold(x as u64)))
-}
-
 // a * b + c
 pub fn mul_add(a: u32, b: u32, c: u32) -> u32
     requires { ⌜ (a < prime) × (b < prime) × (c < prime) ⌝ }

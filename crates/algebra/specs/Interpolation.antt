@@ -1,6 +1,5 @@
--- Interpolation at the points 0, 1, .., n, by Lagrange's form. The products are those that two loops compute, one that
--- goes up through the points and one that goes down; no quotient by x - j is formed, so x may itself be a point.
--- Assumes nothing.
+-- Interpolation at the points 0, 1, .., n, by Lagrange's form. The product over the other points is one that grows at its
+-- end times one that grows at its front; no quotient by x - j is formed, so x may itself be a point. Assumes nothing.
 use Prim.Native.Nat.{ℕ, zero, suc, _+_, _-_}
 use Rattle.algebra.specs.Ops.{Ops, minus}
 use Rattle.algebra.specs.Sums.{product, inner}
@@ -14,7 +13,7 @@ module _ (O : Ops) where
   abbrev pub ascending : ℕ → ℕ → F → F
   ascending s m x = product O m (λ i. minus O x (ι (s + i)))
 
-  -- the same product: a loop that goes down computes it
+  -- the same product, which grows at its front
   unfoldable pub descending : ℕ → ℕ → F → F
   descending s zero x = 𝟙
   descending s (suc m) x = minus O x (ι s) ⊗ descending (suc s) m x

@@ -7,7 +7,7 @@ use Prim.Native.Nat.{ℕ}
 use lib.Dec.{eqb, leb, ltb}
 use lib.ListN.{length}
 use Rattle.field.specs.Residues.{prime}
-use Rattle.loops.specs.Lengths.{longest}
+use Rattle.dot.specs.Lengths.{longest}
 
 -- what is left of `before` by a kernel that computes `result`
 pub record Outcome {A : Type 0} (fits : Bool) (result before : A) (answer : ℕ) (after : A) : Type 0 where

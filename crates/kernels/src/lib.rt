@@ -1,5 +1,5 @@
-// The loops of `loops` as functions that C and Rust can call, for measuring them. Each takes any arguments: it answers 0
-// where they fit, and else 1 and changes nothing.
+// The loops of `dot` and `loops` as functions that C and Rust can call, for measuring them. Each takes any arguments:
+// it answers 0 where they fit, and else 1 and changes nothing.
 ghost use lib.ListN.{length, getD};
 ghost use Rattle.algebra.specs.Sums.{inner, power};
 ghost use Rattle.algebra.specs.Interpolation.{ascending};
@@ -16,10 +16,10 @@ pub extern "C" fn kernel_inner(a: &[u32], b: &[u32], out: &mut u32) -> u32
     if a.len() != b.len() {
         return 1;
     }
-    if a.len() > loops::LONGEST {
+    if a.len() > dot::LONGEST {
         return 1;
     }
-    *out = loops::inner(a, b);
+    *out = dot::inner(a, b);
     0
 }
 

@@ -97,7 +97,7 @@ fn beyond(scaled: &[u64], falls: &[u32], back: &[u64], i: usize) -> u32
     let n = falls.len();
     let first = n - 1 - i;
     let last = n + n - i;
-    field::mul(loops::inner_wide(scaled, &back[first..last]), falls[i])
+    field::mul(dot::inner_wide(scaled, &back[first..last]), falls[i])
 }
 
 // The value at j, up to 2n, of the polynomial whose values at 0, .., n are y.

@@ -102,7 +102,7 @@ fn tau_of(sheet: &[u8], x: &[u32], l: usize, constant: u32, tests: usize, s: u32
     let mut powers = [0u32; 384];
     walk::fill_tests(sheet, x, l, constant, &mut values[..tests]);
     loops::powers(s, &mut powers[..tests]);
-    loops::inner(&powers[..tests], &values[..tests])
+    dot::inner(&powers[..tests], &values[..tests])
 }
 
 // What server `own` works out from the share x, with the pair r, s.

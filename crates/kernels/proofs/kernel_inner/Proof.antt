@@ -1,10 +1,10 @@
--- `kernels::kernel_inner` meets its contract: what `loops::inner` returns, where it may be called. Assumes nothing.
+-- `kernels::kernel_inner` meets its contract: what `dot::inner` returns, where it may be called. Assumes nothing.
 use borrow.Author.Needs.{needs}
 use native.Mathlib.Omega.{arith}
 use borrow.Author.Tests.{eq-eqb, ne-eqb, le-leb, lt-leb}
 use lib.Dec.{eqb}
 use lib.ListN.{length}
-use Rattle.loops.specs.Lengths.{longest}
+use Rattle.dot.specs.Lengths.{longest}
 use Rattle.kernels.proofs.Outcomes.{done, refused, both, not-first, not-second}
 use Rattle.kernels.proofs.kernel_inner.Statement.{statement}
 use Rattle.kernels.proofs.kernel_inner.Tie as tie

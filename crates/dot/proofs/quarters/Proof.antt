@@ -1,13 +1,13 @@
--- `loops::quarters` meets its contract. The invariant: low and high are the sums of the parts of the turns so far, which leave
+-- `dot::quarters` meets its contract. The invariant: low and high are the sums of the parts of the turns so far, which leave
 -- the four inner products so far; a turn is below 2 ^ 64, being four products of elements. Assumes nothing.
 use borrow.Author.Needs.{needs}
 use Prim.Native.Nat.{_-_, _≤_}
 use native.Mathlib.Omega.{arith}
 use lib.ListN.{getD}
-use Rattle.loops.proofs.Parts.{high-fits}
-use Rattle.loops.proofs.Fours.{Quarters, start, turn, finish}
-use Rattle.loops.proofs.quarters.Statement.{statement}
-use Rattle.loops.proofs.quarters.Tie as tie
+use Rattle.dot.proofs.Parts.{high-fits}
+use Rattle.dot.proofs.Fours.{Quarters, start, turn, finish}
+use Rattle.dot.proofs.quarters.Statement.{statement}
+use Rattle.dot.proofs.quarters.Tie as tie
 
 abbrev Inv-loop : tie.InvT-loop
 Inv-loop a b q low₀ high₀ i₀ low high i = (i ≤ q) × Quarters (λ i. getD a i 0) (λ i. getD b i 0) q low high i

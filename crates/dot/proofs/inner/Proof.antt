@@ -1,4 +1,4 @@
--- `loops::inner` meets its contract. The invariant: low and high are the sums of the parts of the products so far, which
+-- `dot::inner` meets its contract. The invariant: low and high are the sums of the parts of the products so far, which
 -- leave the inner product so far; each part is bounded, so for 65536 products the sums fit. Assumes nothing.
 use borrow.Author.Needs.{needs}
 use mathlib.Core.Path.{_≡_, ap, _∙_}
@@ -7,9 +7,9 @@ use native.Mathlib.Omega.{arith}
 use lib.ListN.{length, getD}
 use Rattle.algebra.specs.Sums.{inner}
 use Rattle.field.specs.Residues.{residues}
-use Rattle.loops.proofs.Parts.{Parts, start, turn}
-use Rattle.loops.proofs.inner.Statement.{statement}
-use Rattle.loops.proofs.inner.Tie as tie
+use Rattle.dot.proofs.Parts.{Parts, start, turn}
+use Rattle.dot.proofs.inner.Statement.{statement}
+use Rattle.dot.proofs.inner.Tie as tie
 
 abbrev Inv-loop : tie.InvT-loop
 Inv-loop a b low₀ high₀ i₀ low high i = (i ≤ length a) × Parts (λ i. getD a i 0) (λ i. getD b i 0) low high i

@@ -1,4 +1,4 @@
--- `loops::inner_from` meets its contract: its loop is that of `inner`, begun at the sum that is given. Assumes nothing.
+-- `dot::inner_from` meets its contract: its loop is that of `inner`, begun at the sum that is given. Assumes nothing.
 use borrow.Author.Needs.{needs}
 use mathlib.Core.Path.{_≡_, ap, _∙_}
 use Prim.Native.Nat.{ℕ, _+_, _-_, _%_, _≤_}
@@ -6,9 +6,9 @@ use native.Mathlib.Omega.{arith}
 use lib.ListN.{length, getD}
 use Rattle.algebra.specs.Sums.{inner}
 use Rattle.field.specs.Residues.{residues}
-use Rattle.loops.proofs.Parts.{Parts, begin, turn, high-fits}
-use Rattle.loops.proofs.inner_from.Statement.{statement}
-use Rattle.loops.proofs.inner_from.Tie as tie
+use Rattle.dot.proofs.Parts.{Parts, begin, turn, high-fits}
+use Rattle.dot.proofs.inner_from.Statement.{statement}
+use Rattle.dot.proofs.inner_from.Tie as tie
 
 abbrev Inv-loop : tie.InvT-loop
 Inv-loop a b first begun low₀ high₀ i₀ low high i = (i ≤ length a) × Parts (λ i. getD a i 0) (λ i. getD b i 0) low high i

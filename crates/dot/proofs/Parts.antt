@@ -8,7 +8,7 @@ use native.Mathlib.Omega.{arith}
 use Rattle.algebra.specs.Sums.{sum, inner}
 use Rattle.field.specs.Residues.{prime, top, residues}
 use Rattle.field.proofs.Reduction.{folded}
-use Rattle.loops.specs.Lengths.{longest}
+use Rattle.dot.specs.Lengths.{longest}
 
 -- the parts of one more number z
 pub parts-add : (low high z : ℕ) → (low + z % top + (high + z / top)) % prime ≡ ((low + high) % prime + z) % prime

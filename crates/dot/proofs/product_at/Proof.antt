@@ -1,12 +1,12 @@
--- `loops::product_at` meets its contract: members are elements, so each is its lower half, and the product of two fits.
+-- `dot::product_at` meets its contract: members are elements, so each is its lower half, and the product of two fits.
 -- Assumes nothing.
 use borrow.Author.Needs.{needs}
 use mathlib.Core.Path.{ap₂}
 use Prim.Native.Nat.{_*_}
 use native.Mathlib.Omega.{arith}
 use Rattle.field.proofs.Below.{member-below, product-members}
-use Rattle.loops.proofs.product_at.Statement.{statement}
-use Rattle.loops.proofs.product_at.Tie as tie
+use Rattle.dot.proofs.product_at.Statement.{statement}
+use Rattle.dot.proofs.product_at.Tie as tie
 
 mul-low-half : tie.Need-mul-low-half
 mul-low-half c = search needs

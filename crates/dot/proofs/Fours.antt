@@ -10,7 +10,7 @@ use Rattle.algebra.specs.Sums.{sum, inner}
 use Rattle.algebra.proofs.Remainders.{same-rest}
 use Rattle.field.specs.Residues.{prime, top, residues}
 use Rattle.field.proofs.Below.{sum-below}
-use Rattle.loops.proofs.Parts.{parts-add}
+use Rattle.dot.proofs.Parts.{parts-add}
 
 -- a sum splits at any place
 sum-append : (g : ℕ → ℕ) (m n : ℕ) → sum residues (m + n) g ≡ (sum residues m g + sum residues n (λ i. g (m + i))) % prime

@@ -16,7 +16,7 @@ use Rattle.rules.specs.Values.{legalValues}
 use Rattle.rules.specs.Making.{valuesFault}
 use Rattle.rules.proofs.Limits.{limits}
 use Rattle.rules.proofs.Encoding.{encoding-length, encoding-below}
-use Rattle.sheet.specs.declared.Counts.{Counts}
+use Rattle.columns.specs.declared.Counts.{Counts}
 use Rattle.values.specs.Encode.{Encodable}
 use Rattle.message.proofs.Parts.{check-holds}
 use Rattle.walk.specs.Walks.{Entries}

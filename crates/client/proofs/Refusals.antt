@@ -22,7 +22,7 @@ use Rattle.rules.specs.Judging.{shareSize}
 use Rattle.rules.specs.Making.{shareLength, randomCount, valuesFault, randomFault, makeRefusal, makeBytes}
 use Rattle.rules.proofs.Limits.{within-both}
 use Rattle.rules.proofs.Refusals.{sheet-fault}
-use Rattle.sheet.specs.declared.Counts.{Counts}
+use Rattle.columns.specs.declared.Counts.{Counts}
 use Rattle.message.proofs.Parts.{check-holds}
 use Rattle.client.specs.Calls.{Makes}
 use Rattle.client.specs.Pieces.{randomFaultAt, Counted, Random, messageBytes, Makeable}

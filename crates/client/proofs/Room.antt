@@ -10,7 +10,7 @@ use Rattle.rules.specs.Columns.{columnsOf, entriesIn}
 use Rattle.rules.specs.Circuit.{gatesIn}
 use Rattle.rules.specs.Judging.{shareSize}
 use Rattle.rules.proofs.Limits.{limits}
-use Rattle.sheet.specs.declared.Counts.{Counts}
+use Rattle.columns.specs.declared.Counts.{Counts}
 use Rattle.client.specs.Pieces.{Counted}
 
 pub record Room (sheet : List ℕ) (k : Counts) : Type 0 where

@@ -19,8 +19,8 @@ use Rattle.rules.specs.Values.{encoding}
 use Rattle.rules.specs.Judging.{shareSize}
 use Rattle.rules.specs.Making.{fOf, gOf, whole, valuesFault}
 use Rattle.walk.specs.Walks.{members}
-use Rattle.sheet.specs.declared.Counts.{Counts}
-use Rattle.sheet.specs.Reading.{countsOf}
+use Rattle.columns.specs.declared.Counts.{Counts}
+use Rattle.columns.specs.Counting.{countsOf}
 use Rattle.message.specs.Words.{sumOf}
 use Rattle.message.specs.Shares.{headerBytes}
 

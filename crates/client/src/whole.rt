@@ -8,7 +8,7 @@ ghost use Rattle.field.specs.Residues.{prime, residues};
 ghost use Rattle.rules.specs.Columns.{columnsOf};
 ghost use Rattle.walk.specs.Walks.{Entries};
 ghost use Rattle.client.specs.Pieces.{hValues, PlaceOfH, Legal, entriesFrom, wholeOf, Fillable};
-use sheet::Counts;
+use columns::Counts;
 use values::encode_columns;
 
 // Two elements from `at`.

@@ -14,8 +14,9 @@ use Rattle.rules.specs.Settings.{document01}
 use Rattle.rules.specs.Columns.{Column, readSheet, columnsOf, faultIn, listIn}
 use Rattle.rules.specs.CircuitReader.{sheetCircuit, sheetCircuitRefusal}
 use Rattle.rules.proofs.Refusals.{sheet-refusals, sheet-fault}
-use Rattle.sheet.specs.declared.Counts.{Counts}
-use Rattle.sheet.specs.Reading.{countsOf, reading, readingOf}
+use Rattle.columns.specs.declared.Counts.{Counts}
+use Rattle.columns.specs.Counting.{countsOf}
+use Rattle.sheet.specs.Reading.{reading, readingOf}
 use Rattle.sheet.specs.declared.Reading.the-variants as sheet
 use Rattle.records.specs.declared.Written.{Written}
 use Rattle.records.specs.Answers.{answered, onlyIf}

@@ -15,7 +15,7 @@ use Rattle.rules.specs.Columns.{Column, yesNo, choice, number, entriesOf, entri
 use Rattle.rules.specs.Circuit.{Step, entry, scale, test, stepBytes, circuitBytes, bitChecks, optionAdds, optionSum, bitAdds}
 use Rattle.rules.specs.Circuit.{columnSteps, wiresOf, circuitFrom, circuitOf, wiresIn}
 use Rattle.rules.specs.CircuitReader.{sheetCircuit}
-use Rattle.sheet.proofs.Sums.{Total}
+use Rattle.columns.proofs.Sums.{Total}
 use Rattle.compile.specs.Writing.{columnSize}
 use Rattle.compile.proofs.Runs.{bytes, bytes-none, bytes-append, bytes-one, bytes-more, checks-long, options-long}
 use Rattle.compile.proofs.Runs.{weights-long}

@@ -13,11 +13,12 @@ use Rattle.rules.specs.Circuit.{columnSteps, wiresOf, circuitFrom, wiresIn}
 use Rattle.rules.specs.CircuitReader.{sheetCircuit}
 use Rattle.rules.proofs.Limits.{limits}
 use Rattle.rules.proofs.Size.{circuit-most}
-use Rattle.sheet.specs.declared.columns.Cursor.{Cursor}
-use Rattle.sheet.specs.declared.columns.Step.{Step}
-use Rattle.sheet.specs.Cursor.{stepAt, back, Stands}
+use Rattle.columns.specs.Kinds.{back}
+use Rattle.columns.proofs.Sums.{entries, total-next, total-most}
+use Rattle.sheet.specs.declared.cursor.Cursor.{Cursor}
+use Rattle.sheet.specs.declared.cursor.Step.{Step}
+use Rattle.sheet.specs.Cursor.{stepAt, Stands}
 use Rattle.sheet.proofs.Walks.{next-index, column-seen}
-use Rattle.sheet.proofs.Sums.{entries, total-next, total-most}
 use Rattle.compile.specs.Writing.{Put, columnSize}
 use Rattle.compile.proofs.Puts.{put-on, put-as, put-none}
 use Rattle.compile.proofs.Runs.{bytes}

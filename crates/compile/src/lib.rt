@@ -12,11 +12,11 @@ ghost use Rattle.rules.specs.Columns.{choice, number, readSheet, columnsOf};
 ghost use Rattle.rules.specs.Circuit.{circuitBytes, bitCheck, bitChecks, optionAdds, optionSum, bitAdds, test};
 ghost use Rattle.rules.specs.Circuit.{columnSteps, wiresOf};
 ghost use Rattle.rules.specs.CircuitReader.{sheetCircuit};
-ghost use Rattle.sheet.specs.Cursor.{back, Bounded};
+ghost use Rattle.columns.specs.Kinds.{back, Bounded};
 ghost use Rattle.compile.specs.Writing.{Put, columnSize, writtenOf, circuitIn};
+use columns::Column;
 use records::Written;
 use sheet::Reading;
-use sheet::columns::Column;
 
 // A kind byte and a wire or an entry number.
 fn put_one(out: &mut [u8], at: usize, kind: u8, a: u32) -> usize
@@ -183,9 +183,9 @@ fn circuit_length(sheet: &[u8], columns: usize) -> usize
     ensures { λ r. ⌜ r ≡ length (sheetCircuit document01 (now (sheet .entry))) ⌝ }
 {
     let mut total: usize = 5;
-    let mut c = sheet::columns::start();
+    let mut c = sheet::cursor::start();
     while c.index < columns {
-        let step = sheet::columns::next(sheet, c);
+        let step = sheet::cursor::next(sheet, c);
         let column = step.column;
         total += size_of(column);
         c = step.next;
@@ -202,9 +202,9 @@ fn put_circuit(sheet: &[u8], columns: usize, out: &mut [u8]) -> usize
 {
     let mut at = put_constant(out, 0, 2147483646);
     let mut wire: u32 = 1;
-    let mut c = sheet::columns::start();
+    let mut c = sheet::cursor::start();
     while c.index < columns {
-        let step = sheet::columns::next(sheet, c);
+        let step = sheet::cursor::next(sheet, c);
         let column = step.column;
         at = put_column(out, at, column, c.entry as u32, wire);
         wire += wires_of(column);

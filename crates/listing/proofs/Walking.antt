@@ -9,10 +9,10 @@ use lib.Seq.{take-all}
 use Rattle.words.specs.Bytes.{elementsOf}
 use Rattle.rules.specs.Columns.{Column, yesNo, publishedOf, publishedIn, columnsOf}
 use Rattle.rules.specs.Recount.{optionLines, columnLines}
-use Rattle.sheet.specs.declared.columns.Cursor.{Cursor}
-use Rattle.sheet.specs.declared.columns.Step.{Step}
+use Rattle.columns.proofs.Sums.{published, total-next}
+use Rattle.sheet.specs.declared.cursor.Cursor.{Cursor}
+use Rattle.sheet.specs.declared.cursor.Step.{Step}
 use Rattle.sheet.specs.Cursor.{Stands, stepAt}
-use Rattle.sheet.proofs.Sums.{published, total-next}
 use Rattle.sheet.proofs.Cursors.{place}
 use Rattle.sheet.proofs.Walks.{next-index}
 use Rattle.listing.specs.Text.{Put, Options, Columns}

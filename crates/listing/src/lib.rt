@@ -8,8 +8,8 @@ ghost use lib.ListN.{length, take};
 ghost use Rattle.rules.specs.Recount.{decimal, acceptedText, refusalText, lineText};
 ghost use Rattle.listing.specs.Text.{Put, optionsText, columnsText, joinedText, textMost};
 ghost use Rattle.listing.specs.Text.{Options, Columns, Rooms, Lists, Start, ListsAll};
-use sheet::columns::next;
-use sheet::columns::start;
+use sheet::cursor::next;
+use sheet::cursor::start;
 use totals::Joined;
 use totals::join;
 

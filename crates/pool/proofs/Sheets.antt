@@ -8,7 +8,7 @@ use borrow.Author.Tests.{ne-eqb}
 use Rattle.rules.specs.Columns.{sheetFault, columnsOf}
 use Rattle.rules.proofs.Refusals.{sheet-fault}
 use Rattle.rules.proofs.Limits.{limits}
-use Rattle.sheet.specs.declared.Counts.{Counts}
+use Rattle.columns.specs.declared.Counts.{Counts}
 use Rattle.sheet.specs.declared.Reading.the-variants as answer
 use Rattle.sheet.specs.Reading.{readingOf}
 use Rattle.sheet.proofs.Answers.{reading-refused, reading-counts}

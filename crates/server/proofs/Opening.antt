@@ -22,8 +22,9 @@ use Rattle.rules.proofs.Limits.{within-is, within-both}
 use Rattle.rules.proofs.Refusals.{sheet-fault, sheet-limits}
 use Rattle.rules.proofs.TableRun.{passed}
 use Rattle.rules.proofs.TableOpens.{Opening, opening}
-use Rattle.sheet.specs.Reading.{countsOf, readingOf}
-use Rattle.sheet.specs.declared.Counts.{Counts}
+use Rattle.columns.specs.Counting.{countsOf}
+use Rattle.columns.specs.declared.Counts.{Counts}
+use Rattle.sheet.specs.Reading.{readingOf}
 use Rattle.sheet.specs.declared.Reading.the-variants as sheet
 use Rattle.sheet.proofs.Answers.{reading-counts}
 use Rattle.table.specs.Places.{lengthAt, sizeOf}

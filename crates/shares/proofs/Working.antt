@@ -18,8 +18,8 @@ use Rattle.rules.specs.Judging.{shareSize}
 use Rattle.rules.specs.Messages.{shareElements}
 use Rattle.rules.specs.Table.{sheetIn, columnsIn, totalsIn, waits, headerSound, countsSound, waitingSound, tableSound}
 use Rattle.message.proofs.Parts.{to-end}
-use Rattle.sheet.specs.declared.Counts.{Counts}
-use Rattle.sheet.specs.Reading.{countsOf}
+use Rattle.columns.specs.declared.Counts.{Counts}
+use Rattle.columns.specs.Counting.{countsOf}
 use Rattle.snip.specs.Judged.{Share, judgedOf}
 use Rattle.table.specs.Places.{sizeOf}
 use Rattle.table.specs.Reading.{tableOf, startSound, Headed, Sound}

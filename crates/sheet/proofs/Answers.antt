@@ -7,9 +7,10 @@ use native.Mathlib.Omega.{arith}
 use Rattle.records.specs.Outcome.{Outcome, ok, refused}
 use Rattle.rules.specs.Columns.{Column, readSheet, faultIn, sheetFault, columnsOf}
 use Rattle.rules.proofs.Refusals.{sheet-refusals, sheet-read, sheet-fault}
-use Rattle.sheet.specs.declared.Counts.{Counts}
+use Rattle.columns.specs.declared.Counts.{Counts}
+use Rattle.columns.specs.Counting.{countsOf}
 use Rattle.sheet.specs.declared.Reading.the-variants as answer
-use Rattle.sheet.specs.Reading.{countsOf, reading, readingOf}
+use Rattle.sheet.specs.Reading.{reading, readingOf}
 
 module _ (s : List ℕ) where
   pub reading-refused : (n : ℕ) → readingOf s ≡ answer.Refused n → (sheetFault s ≡ n) × (n ≡ 0 → ⊥)

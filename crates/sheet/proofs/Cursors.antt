@@ -10,53 +10,17 @@ use lib.ListN.{length, getD, take, drop}
 use lib.Seq.{getD-drop, take-all}
 use Rattle.algebra.proofs.Members.{all-getD}
 use Rattle.records.specs.Outcome.{ok}
-use Rattle.rules.specs.Columns.{Column, yesNo, choice, number, counted, columnOf, entriesOf, publishedOf, entriesIn, publishedIn}
+use Rattle.rules.specs.Columns.{Column, yesNo, columnOf, entriesOf, publishedOf, entriesIn, publishedIn}
 use Rattle.rules.specs.Columns.{readSheet, columnsOf}
 use Rattle.rules.specs.Circuit.{gatesOf, gatesIn}
-use Rattle.rules.proofs.Limits.{InLimits, limits, within-is}
-use Rattle.sheet.specs.declared.columns.Cursor.{Cursor}
-use Rattle.sheet.specs.Reading.{countsOf, bytesOfKind, alone}
-use Rattle.sheet.specs.Cursor.{columnBytes, sheetBytes, cursorAt, begin, Stands, seen, back, columnFrom}
+use Rattle.rules.proofs.Limits.{InLimits, limits}
+use Rattle.columns.specs.Counting.{countsOf, alone}
+use Rattle.columns.specs.Kinds.{bytesOfKind, columnBytes, columnFrom}
+use Rattle.columns.proofs.Sums.{entries, published, gates, total-next, total-most}
+use Rattle.columns.proofs.ColumnBytes.{told}
+use Rattle.sheet.specs.declared.cursor.Cursor.{Cursor}
+use Rattle.sheet.specs.Cursor.{sheetBytes, cursorAt, begin, Stands}
 use Rattle.sheet.proofs.SheetBytes.{sheet-bytes, bytes, bytes-from}
-use Rattle.sheet.proofs.Sums.{entries, published, gates, total-next, total-most}
-
--- ---- a column in code
-pub back-seen : (c : Column) → back (seen c) ≡ c
-back-seen yesNo = refl
-back-seen (choice n) = refl
-back-seen (number n) = refl
-
--- ---- one column and its bytes
-record Told (a : Column) (first : ℕ) (byte : ℕ → ℕ) : Type 0 where
-  size-is : bytesOfKind first ≡ length (columnBytes a)
-  size-some : 1 ≤ length (columnBytes a)
-  column-is : columnFrom first (byte (bytesOfKind first - 1)) ≡ a
-  alone-is : alone (columnOf first (byte (bytesOfKind first - 1) ∷ [])) ≡ countsOf (a ∷ [])
-
-told : (a : Column) → InLimits a → (first : ℕ) (byte : ℕ → ℕ) (t : List ℕ) → first ≡ byte 0
-    → ((j : ℕ) → byte j ≡ getD (columnBytes a ++ t) j 0) → Told a first byte
-unfolding columnBytes bytesOfKind columnFrom columnOf counted alone
-told yesNo w first byte t e q =
-    let f : first ≡ 17 = e ∙ q 0 in
-    record { size-is = rw f; size-some = omega arith; column-is = rw f; alone-is = rw f }
-told (choice n) w first byte t e q =
-    let f : first ≡ 18 = e ∙ q 0 in
-    let l : byte 1 ≡ n = q 1 in
-    record {
-      size-is = rw f;
-      size-some = omega arith;
-      column-is = rw (f, l);
-      alone-is = rw (f, l, within-is 2 64 n (w .0) (w .1));
-    }
-told (number n) w first byte t e q =
-    let f : first ≡ 19 = e ∙ q 0 in
-    let l : byte 1 ≡ n = q 1 in
-    record {
-      size-is = rw f;
-      size-some = omega arith;
-      column-is = rw (f, l);
-      alone-is = rw (f, l, within-is 1 24 n (w .0) (w .1));
-    }
 
 -- ---- what stands under a cursor
 pub record Place (s : List ℕ) (c : Cursor) : Type 0 where

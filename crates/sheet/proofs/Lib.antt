@@ -1,4 +1,4 @@
-pub mod Sums
+-- Laws of the reader and of the cursor.
 pub mod Reader
 pub mod SheetBytes
 pub mod Cursors

@@ -3,58 +3,19 @@
 use mathlib.Core.Path.{_≡_, refl, sym, ap, ap₂, _∙_}
 use mathlib.Core.Bool.{Bool, true, false, cond}
 use mathlib.Core.List.{List, [], _∷_, _++_, append-assoc, append-nil}
-use mathlib.Core.Option.{some}
-use Prim.Native.Nat.{ℕ, suc, _+_, _<_}
+use Prim.Native.Nat.{ℕ, suc, _<_}
 use native.Mathlib.Omega.{arith}
-use borrow.Author.Tests.{eqb-true}
-use lib.Dec.{eqb}
 use lib.ListN.{length, getD, take, drop, length-append}
 use lib.Seq.{split-at, drop-append-seam}
 use Rattle.records.specs.Outcome.{Outcome, ok, refused}
 use Rattle.records.specs.Records.{read, Says, nothing, more}
 use Rattle.records.proofs.Runs.{says-of-read}
-use Rattle.rules.specs.Columns.{Column, yesNo, choice, number, within, counted, columnBody, columnOf, columnFormat}
+use Rattle.rules.specs.Columns.{Column, yesNo, within, columnFormat}
 use Rattle.rules.specs.Columns.{entriesIn, sheetLimits, limitedSheet, readSheet}
-use Rattle.sheet.specs.Cursor.{columnBytes, sheetBytes}
-use Rattle.sheet.proofs.Reader.{body}
-use Rattle.sheet.proofs.Sums.{Total}
-
-counted-is : (b : Bool) (a c : Column) → counted b a ≡ ok c → a ≡ c
-unfolding counted
-counted-is true a c h = cc
-counted-is false a c h = let z : _≡_ {A = ℕ} 0 1 = cc in absurd (omega arith)
-
-one-byte : (l : List ℕ) → 1 ≡ length l → l ≡ getD l 0 0 ∷ []
-one-byte [] h = absurd (omega arith)
-one-byte (b ∷ []) h = refl
-one-byte (b ∷ (x ∷ l)) h = absurd (omega arith)
-
-no-byte : (l : List ℕ) → 0 ≡ length l → l ≡ []
-no-byte [] h = refl
-no-byte (b ∷ l) h = absurd (omega arith)
-
--- a good record is the bytes of its column
-column-bytes : (k : ℕ) (l : List ℕ) (c : Column) → columnBody k ≡ some (length l) → columnOf k l ≡ ok c → k ∷ l ≡ columnBytes c
-unfolding columnBody columnOf columnBytes
-column-bytes k l c = by-kind (eqb k 17) (eqb k 18) (eqb k 19) (eqb-true k 17) (eqb-true k 18) (eqb-true k 19)
-  where
-    x : ℕ
-    x = getD l 0 0
-
-    by-kind : (a b d : Bool) → (a ≡ true → k ≡ 17) → (b ≡ true → k ≡ 18) → (d ≡ true → k ≡ 19) → body a b d ≡ some (length l)
-        → cond a (ok yesNo) (cond b (counted (within 2 64 x) (choice x)) (counted (within 1 24 x) (number x))) ≡ ok c
-        → k ∷ l ≡ columnBytes c
-    by-kind true b d p q r e h =
-        let z : 0 ≡ length l = cc in
-        let v : yesNo ≡ c = cc in
-        ap₂ _∷_ (p refl) (no-byte l z) ∙ ap columnBytes v
-    by-kind false true d p q r e h =
-        let z : 1 ≡ length l = cc in
-        ap₂ _∷_ (q refl) (one-byte l z) ∙ ap columnBytes (counted-is (within 2 64 x) (choice x) c h)
-    by-kind false false true p q r e h =
-        let z : 1 ≡ length l = cc in
-        ap₂ _∷_ (r refl) (one-byte l z) ∙ ap columnBytes (counted-is (within 1 24 x) (number x) c h)
-    by-kind false false false p q r e h = let z : _≡_ {A = ℕ} 0 1 = cc in absurd (omega arith)
+use Rattle.columns.specs.Kinds.{columnBytes}
+use Rattle.columns.proofs.Sums.{Total}
+use Rattle.columns.proofs.ColumnBytes.{column-bytes}
+use Rattle.sheet.specs.Cursor.{sheetBytes}
 
 pub bytes-append : (a b : List Column) → sheetBytes (a ++ b) ≡ sheetBytes a ++ sheetBytes b
 unfolding sheetBytes

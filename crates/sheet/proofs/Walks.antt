@@ -4,21 +4,23 @@ use mathlib.Core.Path.{_≡_, refl, ap, _∙_}
 use mathlib.Core.Logic.{⊎-elim}
 use mathlib.Core.Bool.{Bool, true, _&&_}
 use mathlib.Core.List.{List}
-use Prim.Native.Nat.{ℕ, _+_, _^_, _≤_, _<_}
-use native.Mathlib.Nat.{eq-or-lt-of-le, pow-le-pow-right}
+use Prim.Native.Nat.{ℕ, _+_, _≤_, _<_}
+use native.Mathlib.Nat.{eq-or-lt-of-le}
 use native.Mathlib.Numerals.{add-one}
 use native.Mathlib.Omega.{arith}
 use lib.ListN.{length, getD, drop, drop-of-length-le}
 use lib.Seq.{drop-cons}
 use Rattle.algebra.specs.Lists.{every}
 use Rattle.records.specs.Outcome.{ok}
-use Rattle.rules.specs.Columns.{Column, yesNo, choice, number, largestOf, entriesIn, publishedIn, readSheet, columnsOf}
+use Rattle.rules.specs.Columns.{yesNo, entriesIn, publishedIn, readSheet, columnsOf}
 use Rattle.rules.specs.Circuit.{gatesIn}
-use Rattle.rules.proofs.Limits.{InLimits}
-use Rattle.sheet.specs.declared.columns.Cursor.{Cursor}
-use Rattle.sheet.specs.declared.columns.Step.{Step}
-use Rattle.sheet.specs.Cursor.{cursorAt, begin, Stands, stepAt, back, Bounded}
-use Rattle.sheet.proofs.Cursors.{back-seen, place, cursor-end}
+use Rattle.columns.specs.Kinds.{back, Bounded}
+use Rattle.columns.proofs.ColumnBytes.{back-seen}
+use Rattle.columns.proofs.Alone.{bounded}
+use Rattle.sheet.specs.declared.cursor.Cursor.{Cursor}
+use Rattle.sheet.specs.declared.cursor.Step.{Step}
+use Rattle.sheet.specs.Cursor.{cursorAt, begin, Stands, stepAt}
+use Rattle.sheet.proofs.Cursors.{place, cursor-end}
 
 -- the cursor stands before a column, or behind the last
 pub record Walks (s : List ℕ) (c : Cursor) : Type 0 where
@@ -60,11 +62,6 @@ module _ (s : List ℕ) (c : Cursor) (is-read : readSheet s ≡ ok (columnsOf s)
       }
   walk-done h = w .here ∙ cursor-end s is-read (c .index) h
 
-pub bounded : (a : Column) → InLimits a → Bounded a
-bounded yesNo l = tt
-bounded (choice n) l = l .1
-bounded (number n) l = l .1
-
 module _ {s : List ℕ} {c : Cursor} (h : Stands s c) (r : Step) (e : r ≡ stepAt s (c .index)) where
   pub walk-next : Walks s (r .next)
   walk-next = rw e (record { here = refl; most = omega (arith, h .within) })
@@ -77,12 +74,6 @@ module _ {s : List ℕ} {c : Cursor} (h : Stands s c) (r : Step) (e : r ≡ step
 
   pub column-bounded : Bounded (back (r .column))
   column-bounded = rw column-seen (bounded (getD (columnsOf s) (c .index) yesNo) (place h .in-limits))
-
-pub largest-most : (a : Column) → Bounded a → largestOf a ≤ 16777215
-unfolding largestOf
-largest-most yesNo h = omega arith
-largest-most (choice n) h = omega arith
-largest-most (number n) h = let p : 2 ^ n ≤ 2 ^ 24 = pow-le-pow-right (omega arith) h in omega arith
 
 -- a test over the members from place k on
 module _ {A : Type 0} (t : A → Bool) (d : A) (l : List A) (k : ℕ) where

@@ -3,24 +3,10 @@ ghost use mathlib.Core.Path.{_≡_};
 ghost use Prim.Native.Nat.{_≤_};
 ghost use Rattle.records.specs.Outcome.{ok, orElse};
 ghost use Rattle.rules.specs.Settings.{document01};
-ghost use Rattle.rules.specs.Columns.{largestOf, readSheet, columnsOf, returnsFault, totalsFault};
-ghost use Rattle.sheet.specs.Cursor.{back, Bounded};
-use crate::columns::Column;
-use crate::columns::next;
-use crate::columns::start;
-use crate::power;
-
-// The largest value of an entry that a column publishes.
-fn largest_of(column: Column) -> u32
-    requires { ⌜ Bounded (back column) ⌝ }
-    ensures { λ r. ⌜ r ≡ largestOf (back column) ⌝ }
-{
-    match column {
-        Column::YesNo => 1,
-        Column::Choice(_) => 1,
-        Column::Number(n) => power(n) - 1,
-    }
-}
+ghost use Rattle.rules.specs.Columns.{readSheet, columnsOf, returnsFault, totalsFault};
+use crate::cursor::next;
+use crate::cursor::start;
+use columns::largest_of;
 
 // 4 where some column's total could reach p, else 0.
 fn totals_refusal(s: &[u8], n: u32) -> u32

@@ -8,7 +8,7 @@ use Rattle.rules.specs.Columns.{columnsOf, entriesIn}
 use Rattle.rules.specs.Circuit.{gatesIn, testsIn}
 use Rattle.rules.specs.Judging.{shareSize}
 use Rattle.rules.proofs.Limits.{limits}
-use Rattle.sheet.specs.declared.Counts.{Counts}
+use Rattle.columns.specs.declared.Counts.{Counts}
 use Rattle.snip.specs.Judged.{Share}
 use Rattle.walk.specs.Walks.{Entries, Outputs}
 

@@ -13,8 +13,8 @@ use Rattle.rules.specs.Columns.{Column, readSheet, columnsOf}
 use Rattle.rules.specs.Circuit.{gatesIn}
 use Rattle.rules.specs.Judging.{shareSize, firstOnly, through, hAt, dOf, eOf, tauOf}
 use Rattle.rules.specs.Walk.{walkLefts, walkRights}
-use Rattle.sheet.specs.declared.Counts.{Counts}
-use Rattle.sheet.specs.Reading.{countsOf}
+use Rattle.columns.specs.declared.Counts.{Counts}
+use Rattle.columns.specs.Counting.{countsOf}
 use Rattle.snip.specs.declared.judging.Judged.{Judged}
 use Rattle.snip.specs.declared.judging.Inputs.{Inputs}
 use Rattle.walk.specs.Walks.{plain, members}

@@ -13,8 +13,8 @@ ghost use Rattle.rules.specs.Judging.{folded};
 ghost use Rattle.rules.specs.Walk.{walkLefts, walkTests};
 ghost use Rattle.snip.specs.Judged.{judgedOf, inputsOf, inputsFrom, Share};
 ghost use Rattle.walk.specs.Walks.{held, plain, members, outputs, Entries, Outputs};
+use columns::Counts;
 use interpolation::Fraction;
-use sheet::Counts;
 
 // f and g at r.
 pub struct Inputs {

@@ -17,8 +17,9 @@ use Rattle.rules.specs.Columns.{Column, within, readSheet, sheetFault, faultIn,
 use Rattle.rules.specs.Table.{sheetIn, headerSound}
 use Rattle.rules.proofs.Limits.{within-both, within-is}
 use Rattle.rules.proofs.Refusals.{sheet-refusals}
-use Rattle.sheet.specs.Reading.{countsOf, reading, readingOf}
-use Rattle.sheet.specs.declared.Counts.{Counts}
+use Rattle.columns.specs.Counting.{countsOf}
+use Rattle.columns.specs.declared.Counts.{Counts}
+use Rattle.sheet.specs.Reading.{reading, readingOf}
 use Rattle.sheet.specs.declared.Reading.the-variants as sheet
 use Rattle.table.specs.Reading.{tableOf, headIn, startSound, Started}
 use Rattle.table.specs.declared.Found.the-variants as answer

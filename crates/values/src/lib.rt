@@ -9,13 +9,13 @@ ghost use Rattle.words.specs.Bytes.{splice};
 ghost use Rattle.rules.specs.Columns.{choice, entriesOf, valuesOf, columnsOf};
 ghost use Rattle.rules.specs.Values.{encoded};
 ghost use Rattle.rules.specs.Making.{valuesFault};
-ghost use Rattle.sheet.specs.Cursor.{back, Bounded};
+ghost use Rattle.columns.specs.Kinds.{back, Bounded};
 ghost use Rattle.values.specs.Encode.{encodeRefusal, encodedInto, Encoded, HasColumns, Encodable};
+use columns::Column;
+use columns::power;
 use sheet::Reading;
-use sheet::columns::Column;
-use sheet::columns::next;
-use sheet::columns::start;
-use sheet::power;
+use sheet::cursor::next;
+use sheet::cursor::start;
 use sheet::read;
 
 // How many values a column has.

@@ -19,11 +19,11 @@ use Rattle.rules.specs.Server.{publishedShares}
 use Rattle.rules.specs.Table.{sheetIn, columnsIn, openedIn, totalsIn, waitingIn, totalsPlace, addedTotals}
 use Rattle.rules.proofs.Limits.{limits}
 use Rattle.rules.proofs.ClosingBytes.{getD-map}
-use Rattle.sheet.specs.declared.columns.Cursor.{Cursor}
-use Rattle.sheet.specs.declared.columns.Step.{Step}
+use Rattle.columns.specs.Kinds.{bytesOfKind}
+use Rattle.columns.proofs.Sums.{entries, published, total-most}
+use Rattle.sheet.specs.declared.cursor.Cursor.{Cursor}
+use Rattle.sheet.specs.declared.cursor.Step.{Step}
 use Rattle.sheet.specs.Cursor.{begin, Stands, stepAt}
-use Rattle.sheet.specs.Reading.{bytesOfKind}
-use Rattle.sheet.proofs.Sums.{entries, published, total-most}
 use Rattle.sheet.proofs.Cursors.{place}
 use Rattle.sheet.proofs.Walks.{Walks, walk-start, stands-by-place, walk-end, walk-done, walk-next}
 use Rattle.message.proofs.Parts.{span}

@@ -4,7 +4,7 @@ ghost use Rattle.algebra.specs.Lists.{tabulate};
 ghost use Rattle.words.specs.Bytes.{bytesOfAll, splice};
 ghost use Rattle.waiting.specs.Held.{Waits};
 ghost use Rattle.waiting.specs.Totals.{wordsAdded, Addable, withPublished};
-use sheet::columns;
+use sheet::cursor;
 use table::Table;
 use table::places::share_place;
 use table::places::totals_place;
@@ -34,9 +34,9 @@ pub fn add_published(t: &mut [u8], k: Table)
     let end = 12 + k.sheet;
     let totals = totals_place(k.sheet);
     let share = share_place(k.sheet, k.published, k.returns);
-    let mut c = columns::start();
+    let mut c = cursor::start();
     while c.at < k.sheet {
-        let step = columns::next(&t[12..end], c);
+        let step = cursor::next(&t[12..end], c);
         let n = step.next.published - c.published;
         add_words(t, totals + 4 * c.published, share + 4 * c.entry, n);
         c = step.next;

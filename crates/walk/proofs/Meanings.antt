@@ -14,7 +14,7 @@ use Rattle.rules.specs.Circuit.{gatesOf, testsOf, gatesIn, testsIn}
 use Rattle.rules.specs.Run.{Meaning, onList, atServer}
 use Rattle.rules.specs.Walk.{sumFrom, lessOne, bitOut, bitsAt, columnLefts, columnRights, bitTests, sumTests, columnTests}
 use Rattle.rules.specs.Walk.{walkLefts, walkRights, walkTests}
-use Rattle.sheet.proofs.Sums.{gates, tests as test-count}
+use Rattle.columns.proofs.Sums.{gates, tests as test-count}
 use Rattle.walk.specs.Walks.{held, plain}
 use Rattle.walk.proofs.Walking.{walked, Parts}
 

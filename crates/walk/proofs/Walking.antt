@@ -13,11 +13,13 @@ use lib.Seq.{take-all, take-at, drop-append-add, drop-drop}
 use Rattle.records.specs.Outcome.{ok}
 use Rattle.rules.specs.Columns.{Column, yesNo, entriesOf, entriesIn, readSheet, columnsOf}
 use Rattle.rules.specs.Circuit.{gatesOf, gatesIn}
-use Rattle.sheet.specs.declared.columns.Cursor.{Cursor}
-use Rattle.sheet.specs.declared.columns.Step.{Step}
-use Rattle.sheet.specs.Cursor.{begin, cursorAt, Stands, back, stepAt}
-use Rattle.sheet.proofs.Cursors.{place, cursor-end, back-seen}
-use Rattle.sheet.proofs.Sums.{Total, total-next}
+use Rattle.columns.specs.Kinds.{back}
+use Rattle.columns.proofs.ColumnBytes.{back-seen}
+use Rattle.columns.proofs.Sums.{Total, total-next}
+use Rattle.sheet.specs.declared.cursor.Cursor.{Cursor}
+use Rattle.sheet.specs.declared.cursor.Step.{Step}
+use Rattle.sheet.specs.Cursor.{begin, cursorAt, Stands, stepAt}
+use Rattle.sheet.proofs.Cursors.{place, cursor-end}
 
 -- the parts of the columns, where e entries and t multiplications stand before them
 unfoldable pub walked : (ℕ → ℕ → Column → List ℕ) → ℕ → ℕ → List Column → List ℕ

@@ -10,10 +10,10 @@ ghost use Rattle.rules.specs.Settings.{document01};
 ghost use Rattle.rules.specs.Columns.{columnsOf, entriesOf};
 ghost use Rattle.rules.specs.Circuit.{gatesOf, testsOf, gatesIn, testsIn};
 ghost use Rattle.rules.specs.Walk.{sumFrom, columnLefts, columnTests, walkLefts, walkTests};
-ghost use Rattle.sheet.specs.Cursor.{back};
+ghost use Rattle.columns.specs.Kinds.{back};
 ghost use Rattle.walk.specs.Walks.{held, plain, members, outputs, Entries, Outputs, Asked};
-use sheet::columns;
-use sheet::columns::Column;
+use columns::Column;
+use sheet::cursor;
 
 // out[i] = x[first + i]
 fn copy(x: &[u32], first: usize, out: &mut [u32])
@@ -107,9 +107,9 @@ pub fn fill_lefts(s: &[u8], x: &[u32], out: &mut [u32])
     ensures { λ _. ⌜ now (out .exit)
         ≡ walkLefts document01 (plain 0 (members (now (x .entry)))) 0 (columnsOf (now (s .entry))) ⌝ }
 {
-    let mut c = columns::start();
+    let mut c = cursor::start();
     while c.at < s.len() {
-        let step = columns::next(s, c);
+        let step = cursor::next(s, c);
         let column = step.column;
         let from = c.gates;
         let to = from + gates_of(column);
@@ -155,10 +155,10 @@ pub fn fill_tests(s: &[u8], x: &[u32], l: usize, constant: u32, out: &mut [u32])
     ensures { λ _. ⌜ now (out .exit) ≡ walkTests document01
         (held constant (members (now (x .entry))) (outputs l (now (x .entry)))) 0 0 (columnsOf (now (s .entry))) ⌝ }
 {
-    let mut c = columns::start();
+    let mut c = cursor::start();
     let mut done = 0;
     while c.at < s.len() {
-        let step = columns::next(s, c);
+        let step = cursor::next(s, c);
         let column = step.column;
         let to = done + tests_of(column);
         column_tests(x, l, c.entry, c.gates, constant, column, &mut out[done..to]);

@@ -13,11 +13,13 @@ use Rattle.records.specs.Outcome.{refused}
 use Rattle.records.specs.Records.{readFrom, read}
 use Rattle.records.proofs.Records.{at-end, unknown-kind, cut-body, judged-refused, judged-ok}
 use Rattle.rules.specs.Columns.{Column, yesNo, columnFormat, columnOf}
+use Rattle.columns.specs.Kinds.{bytesOfKind}
+use Rattle.columns.specs.Counting.{alone, Small}
+use Rattle.columns.proofs.ColumnBytes.{kind-unknown, kind-known, judged-last, yes-no-body, yes-no-taken}
+use Rattle.columns.proofs.Alone.{judged, none-outside, Taken, some-taken, yes-no-small}
 use Rattle.sheet.specs.declared.Reading.{Reading}
 use Rattle.sheet.specs.declared.Reading.the-variants as answer
-use Rattle.sheet.specs.Reading.{bytesOfKind, alone, Small, limited, readingOf}
-use Rattle.sheet.proofs.Reader.{kind-unknown, kind-known, judged-last, judged, none-outside, Taken, some-taken}
-use Rattle.sheet.proofs.Reader.{yes-no-body, yes-no-taken, yes-no-small}
+use Rattle.sheet.specs.Reading.{limited, readingOf}
 use Rattle.sheet.proofs.Reader.{none-small, Tracks, tracks-none, tracks-next, answer-refused, answer-limited}
 use Rattle.sheet.proofs.read.Statement.{statement}
 use Rattle.sheet.proofs.read.Tie as tie

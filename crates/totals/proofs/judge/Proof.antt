@@ -8,7 +8,7 @@ use Rattle.records.specs.Outcome.{ok, orElse}
 use Rattle.rules.specs.Settings.{document01}
 use Rattle.rules.specs.Columns.{publishedIn, readSheet, columnsOf, returnsFault, totalsFault}
 use Rattle.message.specs.Totals.{Limited, joinedFaultAt}
-use Rattle.sheet.specs.declared.Counts.{Counts}
+use Rattle.columns.specs.declared.Counts.{Counts}
 use Rattle.sheet.proofs.Answers.{reading-refused, reading-counts}
 use Rattle.totals.proofs.Judging.{servers-low, servers-high, sheet-refused, limited}
 use Rattle.totals.proofs.Judging.{fault-refused, room-refused, judged-fit}

@@ -12,9 +12,9 @@ use Rattle.words.specs.Bytes.{splice}
 use Rattle.words.proofs.Loops.{sets-splice, grow}
 use Rattle.rules.specs.Columns.{Column, yesNo, choice, number, entriesOf}
 use Rattle.rules.specs.Values.{encoded}
-use Rattle.sheet.specs.declared.columns.Column as code
-use Rattle.sheet.specs.declared.columns.Column.the-variants as kind
-use Rattle.sheet.specs.Cursor.{back}
+use Rattle.columns.specs.declared.Column as code
+use Rattle.columns.specs.declared.Column.the-variants as kind
+use Rattle.columns.specs.Kinds.{back}
 use Rattle.values.proofs.encode_column.Statement.{statement}
 use Rattle.values.proofs.encode_column.Tie as tie
 

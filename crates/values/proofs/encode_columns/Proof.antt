@@ -15,9 +15,10 @@ use Rattle.words.proofs.Splice.{splice-none}
 use Rattle.words.proofs.Loops.{grow}
 use Rattle.rules.specs.Columns.{Column, yesNo, entriesOf, columnsOf}
 use Rattle.rules.specs.Values.{encoded, encoding}
-use Rattle.sheet.specs.declared.columns.Cursor.{Cursor}
-use Rattle.sheet.specs.declared.columns.Step.{Step}
-use Rattle.sheet.specs.Cursor.{Stands, stepAt, back}
+use Rattle.columns.specs.Kinds.{back}
+use Rattle.sheet.specs.declared.cursor.Cursor.{Cursor}
+use Rattle.sheet.specs.declared.cursor.Step.{Step}
+use Rattle.sheet.specs.Cursor.{Stands, stepAt}
 use Rattle.values.specs.Encode.{Encodable}
 use Rattle.sheet.proofs.Cursors.{place}
 use Rattle.sheet.proofs.Walks.{Walks, walk-start, stands-by-place, walk-end, walk-next, next-index, column-seen}

@@ -4,8 +4,8 @@ use mathlib.Core.Path.{_≡_, sym, ap, _∙_}
 use borrow.Author.Needs.{needs}
 use Rattle.records.specs.Outcome.{ok}
 use Rattle.rules.specs.Columns.{readSheet, columnsOf}
-use Rattle.sheet.specs.declared.Counts.{Counts}
-use Rattle.sheet.specs.Reading.{countsOf}
+use Rattle.columns.specs.declared.Counts.{Counts}
+use Rattle.columns.specs.Counting.{countsOf}
 use Rattle.sheet.proofs.Answers.{reading-refused, reading-counts}
 use Rattle.values.proofs.Answers.{refused-sheet, refused-values, refused-room, not-refused}
 use Rattle.values.proofs.encode_refusal.Statement.{statement}

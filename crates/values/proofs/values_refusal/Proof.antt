@@ -13,9 +13,10 @@ use Rattle.words.specs.Bytes.{elementsOf}
 use Rattle.rules.specs.Columns.{yesNo, valuesOf, columnsOf}
 use Rattle.rules.specs.Values.{legalValues}
 use Rattle.rules.proofs.Limits.{limits}
-use Rattle.sheet.specs.declared.columns.Cursor.{Cursor}
-use Rattle.sheet.specs.declared.columns.Step.{Step}
-use Rattle.sheet.specs.Cursor.{Stands, stepAt, back}
+use Rattle.columns.specs.Kinds.{back}
+use Rattle.sheet.specs.declared.cursor.Cursor.{Cursor}
+use Rattle.sheet.specs.declared.cursor.Step.{Step}
+use Rattle.sheet.specs.Cursor.{Stands, stepAt}
 use Rattle.sheet.proofs.Walks.{Walks, walk-start, stands-by-index, walk-next, next-index, column-seen, column-bounded}
 use Rattle.values.proofs.Encodings.{count-values, legal-next, legal-end, values-missing, values-each}
 use Rattle.values.proofs.values_refusal.Statement.{statement}

@@ -12,8 +12,8 @@ use Rattle.rules.specs.Settings.{document01}
 use Rattle.rules.specs.Columns.{entriesOf}
 use Rattle.rules.specs.Circuit.{gatesOf}
 use Rattle.rules.specs.Walk.{bitsAt, columnLefts}
-use Rattle.sheet.specs.declared.columns.Column as code
-use Rattle.sheet.specs.Cursor.{back}
+use Rattle.columns.specs.declared.Column as code
+use Rattle.columns.specs.Kinds.{back}
 use Rattle.walk.specs.Walks.{plain, members}
 use Rattle.walk.proofs.Filling.{one-place}
 use Rattle.walk.proofs.Meanings.{bits-fit}

@@ -13,8 +13,8 @@ use Rattle.rules.specs.Columns.{entriesOf}
 use Rattle.rules.specs.Circuit.{gatesOf, testsOf}
 use Rattle.rules.specs.Run.{Meaning}
 use Rattle.rules.specs.Walk.{columnTests}
-use Rattle.sheet.specs.declared.columns.Column as code
-use Rattle.sheet.specs.Cursor.{back}
+use Rattle.columns.specs.declared.Column as code
+use Rattle.columns.specs.Kinds.{back}
 use Rattle.walk.specs.Walks.{held, members, outputs}
 use Rattle.walk.proofs.ColumnTests.{yes-no-tests, choice-tests, number-tests}
 use Rattle.walk.proofs.column_tests.Statement.{statement}

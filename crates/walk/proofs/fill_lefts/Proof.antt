@@ -8,9 +8,9 @@ use lib.ListN.{length}
 use Rattle.rules.specs.Columns.{columnsOf}
 use Rattle.rules.specs.Circuit.{gatesIn, gatesOf}
 use Rattle.rules.specs.Run.{Meaning}
-use Rattle.sheet.specs.declared.columns.Cursor.{Cursor}
-use Rattle.sheet.specs.Cursor.{back}
-use Rattle.sheet.proofs.Sums.{gates}
+use Rattle.columns.specs.Kinds.{back}
+use Rattle.columns.proofs.Sums.{gates}
+use Rattle.sheet.specs.declared.cursor.Cursor.{Cursor}
 use Rattle.walk.specs.Walks.{plain, members}
 use Rattle.walk.proofs.Walking.{Walking, Turned, turned, walk-start, stands, walk-put, walk-finish}
 use Rattle.walk.proofs.Meanings.{leftPart, lefts, lefts-walked}

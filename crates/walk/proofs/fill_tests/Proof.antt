@@ -8,8 +8,8 @@ use lib.ListN.{length}
 use Rattle.rules.specs.Columns.{columnsOf}
 use Rattle.rules.specs.Circuit.{testsOf, testsIn}
 use Rattle.rules.specs.Run.{Meaning}
-use Rattle.sheet.specs.Cursor.{back}
-use Rattle.sheet.proofs.Sums.{tests as test-count, total-most}
+use Rattle.columns.specs.Kinds.{back}
+use Rattle.columns.proofs.Sums.{tests as test-count, total-most}
 use Rattle.walk.specs.Walks.{held, members, outputs}
 use Rattle.walk.proofs.Walking.{Walking, Turned, turned, walk-start, stands, walk-put, walk-finish}
 use Rattle.walk.proofs.Meanings.{testPart, tests, tests-walked}

@@ -1,8 +1,8 @@
 -- `walk::gates_of` meets its contract: by the kinds of columns. Assumes nothing.
 use mathlib.Core.Path.{sym, ap}
 use Rattle.rules.specs.Circuit.{gatesOf}
-use Rattle.sheet.specs.declared.columns.Column as code
-use Rattle.sheet.specs.Cursor.{back}
+use Rattle.columns.specs.declared.Column as code
+use Rattle.columns.specs.Kinds.{back}
 use borrow.Author.Needs.{needs}
 use Rattle.walk.proofs.gates_of.Statement.{statement}
 use Rattle.walk.proofs.gates_of.Tie as tie

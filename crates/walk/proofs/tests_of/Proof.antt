@@ -2,8 +2,8 @@
 use mathlib.Core.Path.{sym, ap}
 use native.Mathlib.Omega.{arith}
 use Rattle.rules.specs.Circuit.{testsOf}
-use Rattle.sheet.specs.declared.columns.Column as code
-use Rattle.sheet.specs.Cursor.{back}
+use Rattle.columns.specs.declared.Column as code
+use Rattle.columns.specs.Kinds.{back}
 use borrow.Author.Needs.{needs}
 use Rattle.walk.proofs.tests_of.Statement.{statement}
 use Rattle.walk.proofs.tests_of.Tie as tie

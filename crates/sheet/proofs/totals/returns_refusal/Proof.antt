@@ -14,7 +14,7 @@ use Rattle.records.specs.Outcome.{ok, orElse}
 use Rattle.rules.specs.Settings.{document01}
 use Rattle.rules.specs.Columns.{largestOf, readSheet, columnsOf, totalsFit}
 use Rattle.rules.proofs.Limits.{limits}
-use Rattle.sheet.proofs.Walks.{bounded, largest-most}
+use Rattle.columns.proofs.Alone.{bounded, largest-most}
 use Rattle.sheet.proofs.totals.returns_refusal.Statement.{statement}
 use Rattle.sheet.proofs.totals.returns_refusal.Tie as tie
 

@@ -12,11 +12,13 @@ use lib.Dec.{ltb}
 use lib.ListN.{length, getD, drop}
 use Rattle.rules.specs.Settings.{document01}
 use Rattle.rules.specs.Columns.{Column, yesNo, largestOf, columnsOf, totalsFit}
-use Rattle.sheet.specs.declared.columns.Cursor.{Cursor}
-use Rattle.sheet.specs.declared.columns.Step.{Step}
-use Rattle.sheet.specs.Cursor.{Stands, stepAt, back}
+use Rattle.columns.specs.Kinds.{back}
+use Rattle.columns.proofs.Alone.{largest-most}
+use Rattle.sheet.specs.declared.cursor.Cursor.{Cursor}
+use Rattle.sheet.specs.declared.cursor.Step.{Step}
+use Rattle.sheet.specs.Cursor.{Stands, stepAt}
 use Rattle.sheet.proofs.Walks.{Walks, walk-start, stands-by-place, walk-end, walk-next, next-index, column-seen}
-use Rattle.sheet.proofs.Walks.{column-bounded, largest-most, every-next, every-end}
+use Rattle.sheet.proofs.Walks.{column-bounded, every-next, every-end}
 use Rattle.sheet.proofs.totals.totals_refusal.Statement.{statement}
 use Rattle.sheet.proofs.totals.totals_refusal.Tie as tie
 

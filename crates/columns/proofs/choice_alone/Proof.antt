@@ -1,12 +1,12 @@
--- `sheet::choice_alone` meets its contract: each answer is that of the two tests that led there. Assumes nothing.
+-- `columns::choice_alone` meets its contract: each answer is that of the two tests that led there. Assumes nothing.
 use mathlib.Core.Path.{sym, _∙_}
 use borrow.Author.Needs.{needs}
 use borrow.Author.Tests.{lt-leb, le-leb}
 use Rattle.rules.specs.Columns.{counted}
-use Rattle.sheet.specs.Reading.{alone}
-use Rattle.sheet.proofs.Reader.{counts-choice}
-use Rattle.sheet.proofs.choice_alone.Statement.{statement}
-use Rattle.sheet.proofs.choice_alone.Tie as tie
+use Rattle.columns.specs.Counting.{alone}
+use Rattle.columns.proofs.Alone.{counts-choice}
+use Rattle.columns.proofs.choice_alone.Statement.{statement}
+use Rattle.columns.proofs.choice_alone.Tie as tie
 
 none-requires : tie.Need-none-requires
 none-requires c κs = search needs

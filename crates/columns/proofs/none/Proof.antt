@@ -1,9 +1,9 @@
--- `sheet::none` meets its contract: no columns have no counts. Assumes nothing.
+-- `columns::none` meets its contract: no columns have no counts. Assumes nothing.
 use mathlib.Core.Path.{refl}
 use Rattle.rules.specs.Columns.{entriesIn, publishedIn}
 use Rattle.rules.specs.Circuit.{gatesIn, testsIn}
-use Rattle.sheet.proofs.none.Statement.{statement}
-use Rattle.sheet.proofs.none.Tie as tie
+use Rattle.columns.proofs.none.Statement.{statement}
+use Rattle.columns.proofs.none.Tie as tie
 
 returns : tie.Need-returns
 unfolding entriesIn publishedIn gatesIn testsIn

@@ -1,4 +1,4 @@
--- `sheet::columns::next` meets its contract. The bytes under the cursor are those of its column (`place`), so what they tell
+-- `sheet::cursor::next` meets its contract. The bytes under the cursor are those of its column (`place`), so what they tell
 -- is the column, and the counts behind it are those before it and its own. Assumes nothing.
 use mathlib.Core.Path.{_≡_, sym, ap, ap₂, _∙_}
 use mathlib.Core.List.{List, [], _∷_}
@@ -7,16 +7,17 @@ use native.Mathlib.Omega.{arith}
 use borrow.Author.Needs.{needs}
 use lib.ListN.{getD}
 use Rattle.rules.specs.Columns.{yesNo, columnOf, columnsOf}
-use Rattle.sheet.specs.declared.Counts.{Counts}
-use Rattle.sheet.specs.declared.columns.Cursor.{Cursor}
-use Rattle.sheet.specs.declared.columns.Step.{Step}
-use Rattle.sheet.specs.declared.columns.Column as code
-use Rattle.sheet.specs.Reading.{countsOf, bytesOfKind, alone}
-use Rattle.sheet.specs.Cursor.{seen, columnFrom, stepAt}
-use Rattle.sheet.proofs.Sums.{entries, published, gates, total-one}
+use Rattle.columns.specs.declared.Counts.{Counts}
+use Rattle.columns.specs.declared.Column as code
+use Rattle.columns.specs.Counting.{countsOf, alone}
+use Rattle.columns.specs.Kinds.{bytesOfKind, seen, columnFrom}
+use Rattle.columns.proofs.Sums.{entries, published, gates, total-one}
+use Rattle.sheet.specs.declared.cursor.Cursor.{Cursor}
+use Rattle.sheet.specs.declared.cursor.Step.{Step}
+use Rattle.sheet.specs.Cursor.{stepAt}
 use Rattle.sheet.proofs.Cursors.{Place, place}
-use Rattle.sheet.proofs.columns.next.Statement.{statement}
-use Rattle.sheet.proofs.columns.next.Tie as tie
+use Rattle.sheet.proofs.cursor.next.Statement.{statement}
+use Rattle.sheet.proofs.cursor.next.Tie as tie
 
 -- the counts behind a column stay small
 record Sums (c : Cursor) (counts : Counts) : Type 0 where

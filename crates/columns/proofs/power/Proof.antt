@@ -1,4 +1,4 @@
--- `sheet::power` meets its contract: a 1 that is shifted by at most 24 places loses no bit. Assumes nothing.
+-- `columns::power` meets its contract: a 1 that is shifted by at most 24 places loses no bit. Assumes nothing.
 use mathlib.Core.Path.{_∙_}
 use Prim.Native.Nat.{_^_}
 use native.Mathlib.Nat.{one-mul}
@@ -6,8 +6,8 @@ use native.Mathlib.Omega.{arith}
 use borrow.Author.Needs.{needs}
 use lib.Dec.{lit<}
 use lib.Pow.{shl-exact}
-use Rattle.sheet.proofs.power.Statement.{statement}
-use Rattle.sheet.proofs.power.Tie as tie
+use Rattle.columns.proofs.power.Statement.{statement}
+use Rattle.columns.proofs.power.Tie as tie
 
 cast-result : tie.Need-cast-result
 cast-result c = search needs

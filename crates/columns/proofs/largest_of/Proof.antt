@@ -1,12 +1,12 @@
--- `sheet::totals::largest_of` meets its contract: each arm is one case of the definition. Assumes nothing.
+-- `columns::largest_of` meets its contract: each arm is one case of the definition. Assumes nothing.
 use mathlib.Core.Path.{ap}
 use Prim.Native.Nat.{ℕ, _-_}
 use native.Mathlib.Omega.{arith}
 use borrow.Author.Needs.{needs}
 use lib.Pow.{pow-pos}
 use Rattle.rules.specs.Columns.{largestOf}
-use Rattle.sheet.proofs.totals.largest_of.Statement.{statement}
-use Rattle.sheet.proofs.totals.largest_of.Tie as tie
+use Rattle.columns.proofs.largest_of.Statement.{statement}
+use Rattle.columns.proofs.largest_of.Tie as tie
 
 enum-told : tie.Need-enum-told
 enum-told c = search needs

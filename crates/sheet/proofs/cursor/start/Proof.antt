@@ -1,10 +1,10 @@
--- `sheet::columns::start` meets its contract: no columns come to nothing. Assumes nothing.
+-- `sheet::cursor::start` meets its contract: no columns come to nothing. Assumes nothing.
 use mathlib.Core.Path.{refl}
 use Rattle.rules.specs.Columns.{entriesIn, publishedIn}
 use Rattle.rules.specs.Circuit.{gatesIn}
 use Rattle.sheet.specs.Cursor.{sheetBytes}
-use Rattle.sheet.proofs.columns.start.Statement.{statement}
-use Rattle.sheet.proofs.columns.start.Tie as tie
+use Rattle.sheet.proofs.cursor.start.Statement.{statement}
+use Rattle.sheet.proofs.cursor.start.Tie as tie
 
 returns : tie.Need-returns
 unfolding sheetBytes entriesIn publishedIn gatesIn

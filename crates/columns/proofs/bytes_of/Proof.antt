@@ -1,8 +1,8 @@
--- `sheet::bytes_of` meets its contract: each answer is one case of the definition. Assumes nothing.
+-- `columns::bytes_of` meets its contract: each answer is one case of the definition. Assumes nothing.
 use borrow.Author.Tests.{eq-eqb, ne-eqb}
-use Rattle.sheet.specs.Reading.{bytesOfKind}
-use Rattle.sheet.proofs.bytes_of.Statement.{statement}
-use Rattle.sheet.proofs.bytes_of.Tie as tie
+use Rattle.columns.specs.Kinds.{bytesOfKind}
+use Rattle.columns.proofs.bytes_of.Statement.{statement}
+use Rattle.columns.proofs.bytes_of.Tie as tie
 
 returns : tie.Need-returns
 unfolding bytesOfKind

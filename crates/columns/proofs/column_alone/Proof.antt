@@ -1,10 +1,10 @@
--- `sheet::column_alone` meets its contract: each kind is one case of the definition. Assumes nothing.
+-- `columns::column_alone` meets its contract: each kind is one case of the definition. Assumes nothing.
 use borrow.Author.Needs.{needs}
 use borrow.Author.Tests.{eq-eqb, ne-eqb}
 use Rattle.rules.specs.Columns.{columnOf}
-use Rattle.sheet.specs.Reading.{alone}
-use Rattle.sheet.proofs.column_alone.Statement.{statement}
-use Rattle.sheet.proofs.column_alone.Tie as tie
+use Rattle.columns.specs.Counting.{alone}
+use Rattle.columns.proofs.column_alone.Statement.{statement}
+use Rattle.columns.proofs.column_alone.Tie as tie
 
 yes-no-alone-requires : tie.Need-yes-no-alone-requires
 yes-no-alone-requires c κs = search needs

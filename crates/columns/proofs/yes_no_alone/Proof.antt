@@ -1,9 +1,9 @@
--- `sheet::yes_no_alone` meets its contract: the counts of one yes/no, computed. Assumes nothing.
+-- `columns::yes_no_alone` meets its contract: the counts of one yes/no, computed. Assumes nothing.
 use mathlib.Core.Path.{refl}
 use Rattle.rules.specs.Columns.{entriesOf, publishedOf, entriesIn, publishedIn}
 use Rattle.rules.specs.Circuit.{gatesOf, testsOf, gatesIn, testsIn}
-use Rattle.sheet.proofs.yes_no_alone.Statement.{statement}
-use Rattle.sheet.proofs.yes_no_alone.Tie as tie
+use Rattle.columns.proofs.yes_no_alone.Statement.{statement}
+use Rattle.columns.proofs.yes_no_alone.Tie as tie
 
 returns : tie.Need-returns
 unfolding entriesOf publishedOf gatesOf testsOf entriesIn publishedIn gatesIn testsIn

@@ -1,9 +1,9 @@
--- `sheet::columns::column_of` meets its contract: each kind is one case of the definition. Assumes nothing.
+-- `columns::column_of` meets its contract: each kind is one case of the definition. Assumes nothing.
 use borrow.Author.Needs.{needs}
 use borrow.Author.Tests.{eq-eqb, ne-eqb}
-use Rattle.sheet.specs.Cursor.{columnFrom}
-use Rattle.sheet.proofs.columns.column_of.Statement.{statement}
-use Rattle.sheet.proofs.columns.column_of.Tie as tie
+use Rattle.columns.specs.Kinds.{columnFrom}
+use Rattle.columns.proofs.column_of.Statement.{statement}
+use Rattle.columns.proofs.column_of.Tie as tie
 
 returns : tie.Need-returns
 unfolding columnFrom

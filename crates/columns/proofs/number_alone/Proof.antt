@@ -1,12 +1,12 @@
--- `sheet::number_alone` meets its contract: each answer is that of the two tests that led there. Assumes nothing.
+-- `columns::number_alone` meets its contract: each answer is that of the two tests that led there. Assumes nothing.
 use mathlib.Core.Path.{sym, _∙_}
 use borrow.Author.Needs.{needs}
 use borrow.Author.Tests.{lt-leb, le-leb}
 use Rattle.rules.specs.Columns.{counted}
-use Rattle.sheet.specs.Reading.{alone}
-use Rattle.sheet.proofs.Reader.{counts-number}
-use Rattle.sheet.proofs.number_alone.Statement.{statement}
-use Rattle.sheet.proofs.number_alone.Tie as tie
+use Rattle.columns.specs.Counting.{alone}
+use Rattle.columns.proofs.Alone.{counts-number}
+use Rattle.columns.proofs.number_alone.Statement.{statement}
+use Rattle.columns.proofs.number_alone.Tie as tie
 
 none-requires : tie.Need-none-requires
 none-requires c κs = search needs

@@ -2,10 +2,11 @@
 // A loop `while c.index < columns` or `while c.at < s.len()` keeps `c ≡ cursorAt s (c .index)`; the laws that it needs are
 // in proofs/Walks.antt.
 ghost use mathlib.Core.Path.{_≡_};
-ghost use Rattle.sheet.specs.Cursor.{begin, Stands, stepAt, columnFrom, seen};
-use crate::bytes_of;
-use crate::column_alone;
-use crate::wide;
+ghost use Rattle.sheet.specs.Cursor.{begin, Stands, stepAt};
+use columns::Column;
+use columns::bytes_of;
+use columns::column_alone;
+use columns::column_of;
 
 // Before a column: its index and its byte place, the entries, the published entries and the multiplications before it.
 pub struct Cursor {
@@ -14,13 +15,6 @@ pub struct Cursor {
     pub entry: usize,
     pub published: usize,
     pub gates: usize,
-}
-
-// A column: yes/no, a choice of so many options, a number of so many bits.
-pub enum Column {
-    YesNo,
-    Choice(usize),
-    Number(usize),
 }
 
 // The column under a cursor, and the cursor behind it.
@@ -40,19 +34,6 @@ pub fn start() -> Cursor
         published: 0,
         gates: 0,
     }
-}
-
-// The column of a kind byte and a last byte.
-fn column_of(kind: u8, last: u8) -> Column
-    ensures { λ r. ⌜ r ≡ seen (columnFrom kind last) ⌝ }
-{
-    if kind == 17 {
-        return Column::YesNo;
-    }
-    if kind == 18 {
-        return Column::Choice(wide(last));
-    }
-    Column::Number(wide(last))
 }
 
 // The column under the cursor, and the next cursor.

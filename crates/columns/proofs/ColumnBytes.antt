@@ -1,0 +1,155 @@
+-- One column by its kind and its bytes: how many bytes it has, that its kind byte and its last byte tell it, and that a record
+-- that is taken is the bytes of its column. By the cases of the kind. Assumes nothing.
+use mathlib.Core.Path.{_≡_, refl, ap, ap₂, _∙_}
+use mathlib.Core.Bool.{Bool, true, false, cond}
+use mathlib.Core.List.{List, [], _∷_, _++_}
+use mathlib.Core.Option.{Option, some, none}
+use Prim.Native.Nat.{ℕ, _+_, _-_, _≤_}
+use native.Mathlib.Nat.{add-zero}
+use native.Mathlib.Omega.{arith}
+use borrow.Author.Tests.{eq-eqb, eqb-true}
+use lib.Dec.{eqb}
+use lib.ListN.{length, getD, drop}
+use lib.Seq.{getD-take, getD-drop}
+use Rattle.words.specs.Bytes.{part}
+use Rattle.records.specs.Outcome.{Outcome, ok}
+use Rattle.rules.specs.Columns.{Column, yesNo, choice, number, within, counted, columnBody, columnOf}
+use Rattle.rules.proofs.Limits.{InLimits, within-is}
+use Rattle.columns.specs.Counting.{countsOf, alone}
+use Rattle.columns.specs.Kinds.{columnBytes, bytesOfKind, columnFrom, seen, back}
+
+-- ---- a kind and its bytes
+abbrev size : Bool → Bool → Bool → ℕ
+size a b d = cond a 1 (cond b 2 (cond d 2 0))
+
+abbrev body : Bool → Bool → Bool → Option ℕ
+body a b d = cond a (some 0) (cond b (some 1) (cond d (some 1) none))
+
+module _ (k : ℕ) where
+  pub kind-unknown : bytesOfKind k ≡ 0 → columnBody k ≡ none
+  unfolding bytesOfKind columnBody
+  kind-unknown = by-kind (eqb k 17) (eqb k 18) (eqb k 19)
+    where
+      by-kind : (a b d : Bool) → size a b d ≡ 0
+          → body a b d ≡ none
+      by-kind true b d h = absurd (omega arith)
+      by-kind false true d h = absurd (omega arith)
+      by-kind false false true h = absurd (omega arith)
+      by-kind false false false h = refl
+
+  pub kind-known : (bytesOfKind k ≡ 0 → ⊥) → columnBody k ≡ some (bytesOfKind k - 1)
+  unfolding bytesOfKind columnBody
+  kind-known = by-kind (eqb k 17) (eqb k 18) (eqb k 19)
+    where
+      by-kind : (a b d : Bool) → (size a b d ≡ 0 → ⊥)
+          → body a b d ≡ some (size a b d - 1)
+      by-kind true b d h = refl
+      by-kind false true d h = refl
+      by-kind false false true h = refl
+      by-kind false false false h = absurd (h refl)
+
+-- a yes/no has no body, and is taken
+pub yes-no-body : (k : ℕ) → k ≡ 17 → columnBody k ≡ some 0
+unfolding columnBody
+yes-no-body k e = rw (eq-eqb k 17 e)
+
+pub yes-no-taken : (k : ℕ) (b : List ℕ) → k ≡ 17 → columnOf k b ≡ ok yesNo
+unfolding columnOf
+yes-no-taken k b e = rw (eq-eqb k 17 e)
+
+-- the one byte of a body
+body-byte : (s : List ℕ) (i : ℕ) → getD (part (i + 1) 1 s) 0 0 ≡ getD s (i + 1) 0
+body-byte s i = getD-take 1 (drop (i + 1) s) 0 0 (omega arith) ∙ getD-drop (i + 1) s 0 0 ∙ ap (λ n. getD s n 0) (add-zero (i + 1))
+
+-- a column is told by its kind byte and its last byte
+pub judged-last : (k : ℕ) (s : List ℕ) (i : ℕ) → (bytesOfKind k ≡ 0 → ⊥)
+    → columnOf k (part (i + 1) (bytesOfKind k - 1) s) ≡ columnOf k (getD s (i + (bytesOfKind k - 1)) 0 ∷ [])
+unfolding bytesOfKind columnOf
+judged-last k s i = by-kind (eqb k 17) (eqb k 18) (eqb k 19)
+  where
+    of : Bool → Bool → ℕ → Outcome Column
+    of a b x = cond a (ok yesNo) (cond b (counted (within 2 64 x) (choice x)) (counted (within 1 24 x) (number x)))
+
+    by-kind : (a b d : Bool) → (size a b d ≡ 0 → ⊥)
+        → of a b (getD (part (i + 1) (size a b d - 1) s) 0 0)
+        ≡ of a b (getD s (i + (size a b d - 1)) 0)
+    by-kind true b d h = refl
+    by-kind false true d h = ap (of false true) (body-byte s i)
+    by-kind false false true h = ap (of false false) (body-byte s i)
+    by-kind false false false h = absurd (h refl)
+
+-- ---- a record that is taken
+counted-is : (b : Bool) (a c : Column) → counted b a ≡ ok c → a ≡ c
+unfolding counted
+counted-is true a c h = cc
+counted-is false a c h = let z : _≡_ {A = ℕ} 0 1 = cc in absurd (omega arith)
+
+one-byte : (l : List ℕ) → 1 ≡ length l → l ≡ getD l 0 0 ∷ []
+one-byte [] h = absurd (omega arith)
+one-byte (b ∷ []) h = refl
+one-byte (b ∷ (x ∷ l)) h = absurd (omega arith)
+
+no-byte : (l : List ℕ) → 0 ≡ length l → l ≡ []
+no-byte [] h = refl
+no-byte (b ∷ l) h = absurd (omega arith)
+
+-- a good record is the bytes of its column
+pub column-bytes : (k : ℕ) (l : List ℕ) (c : Column) → columnBody k ≡ some (length l) → columnOf k l ≡ ok c → k ∷ l ≡ columnBytes c
+unfolding columnBody columnOf columnBytes
+column-bytes k l c = by-kind (eqb k 17) (eqb k 18) (eqb k 19) (eqb-true k 17) (eqb-true k 18) (eqb-true k 19)
+  where
+    x : ℕ
+    x = getD l 0 0
+
+    by-kind : (a b d : Bool) → (a ≡ true → k ≡ 17) → (b ≡ true → k ≡ 18) → (d ≡ true → k ≡ 19) → body a b d ≡ some (length l)
+        → cond a (ok yesNo) (cond b (counted (within 2 64 x) (choice x)) (counted (within 1 24 x) (number x))) ≡ ok c
+        → k ∷ l ≡ columnBytes c
+    by-kind true b d p q r e h =
+        let z : 0 ≡ length l = cc in
+        let v : yesNo ≡ c = cc in
+        ap₂ _∷_ (p refl) (no-byte l z) ∙ ap columnBytes v
+    by-kind false true d p q r e h =
+        let z : 1 ≡ length l = cc in
+        ap₂ _∷_ (q refl) (one-byte l z) ∙ ap columnBytes (counted-is (within 2 64 x) (choice x) c h)
+    by-kind false false true p q r e h =
+        let z : 1 ≡ length l = cc in
+        ap₂ _∷_ (r refl) (one-byte l z) ∙ ap columnBytes (counted-is (within 1 24 x) (number x) c h)
+    by-kind false false false p q r e h = let z : _≡_ {A = ℕ} 0 1 = cc in absurd (omega arith)
+
+-- ---- one column and its bytes
+pub record Told (a : Column) (first : ℕ) (byte : ℕ → ℕ) : Type 0 where
+  pub size-is : bytesOfKind first ≡ length (columnBytes a)
+  pub size-some : 1 ≤ length (columnBytes a)
+  pub column-is : columnFrom first (byte (bytesOfKind first - 1)) ≡ a
+  pub alone-is : alone (columnOf first (byte (bytesOfKind first - 1) ∷ [])) ≡ countsOf (a ∷ [])
+
+pub told : (a : Column) → InLimits a → (first : ℕ) (byte : ℕ → ℕ) (t : List ℕ) → first ≡ byte 0
+    → ((j : ℕ) → byte j ≡ getD (columnBytes a ++ t) j 0) → Told a first byte
+unfolding columnBytes bytesOfKind columnFrom columnOf counted alone
+told yesNo w first byte t e q =
+    let f : first ≡ 17 = e ∙ q 0 in
+    record { size-is = rw f; size-some = omega arith; column-is = rw f; alone-is = rw f }
+told (choice n) w first byte t e q =
+    let f : first ≡ 18 = e ∙ q 0 in
+    let l : byte 1 ≡ n = q 1 in
+    record {
+      size-is = rw f;
+      size-some = omega arith;
+      column-is = rw (f, l);
+      alone-is = rw (f, l, within-is 2 64 n (w .0) (w .1));
+    }
+told (number n) w first byte t e q =
+    let f : first ≡ 19 = e ∙ q 0 in
+    let l : byte 1 ≡ n = q 1 in
+    record {
+      size-is = rw f;
+      size-some = omega arith;
+      column-is = rw (f, l);
+      alone-is = rw (f, l, within-is 1 24 n (w .0) (w .1));
+    }
+
+-- ---- a column in code
+pub back-seen : (c : Column) → back (seen c) ≡ c
+back-seen yesNo = refl
+back-seen (choice n) = refl
+back-seen (number n) = refl

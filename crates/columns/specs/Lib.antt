@@ -1,0 +1,3 @@
+-- What the crate's code answers, in the numbers of code: the counts of columns, and one column by its kind.
+pub mod Counting
+pub mod Kinds

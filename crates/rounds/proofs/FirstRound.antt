@@ -27,9 +27,9 @@ use Rattle.rules.specs.Table.{oneRefused, oneTable, oneBytes}
 use Rattle.rules.proofs.Limits.{within-is}
 use Rattle.message.proofs.Parts.{check-holds}
 use Rattle.message.proofs.Rounds.{rounds-summable}
-use Rattle.table.specs.Places.{waitAt}
+use Rattle.layout.specs.Places.{waitAt}
+use Rattle.layout.specs.declared.Table.{Table}
 use Rattle.table.specs.Reading.{tableOf, foundIn, Sound}
-use Rattle.table.specs.declared.Table.{Table}
 use Rattle.table.specs.declared.Found.the-variants as found
 use Rattle.table.proofs.Answers.{unsound}
 use Rattle.waiting.specs.declared.held.Waiting.{Waiting}

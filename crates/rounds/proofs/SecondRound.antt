@@ -19,9 +19,9 @@ use Rattle.rules.specs.Table.{stageByte, serversIn, ownIn, openedIn, waitingIn,
 use Rattle.rules.specs.Table.{decidedTable, twoRefused, twoVerdict, twoTable}
 use Rattle.rules.proofs.Limits.{within-is}
 use Rattle.message.proofs.Rounds.{rounds-summable}
+use Rattle.layout.specs.Writing.{decidedAs, Decidable}
+use Rattle.layout.specs.declared.Table.{Table}
 use Rattle.table.specs.Reading.{tableOf, foundIn, Sound}
-use Rattle.table.specs.Writing.{decidedAs, Decidable}
-use Rattle.table.specs.declared.Table.{Table}
 use Rattle.table.specs.declared.Found.the-variants as found
 use Rattle.table.proofs.Answers.{unsound}
 use Rattle.waiting.specs.declared.held.Waiting.{Waiting}

@@ -8,7 +8,7 @@ use Rattle.rules.specs.Messages.{roundFault}
 use Rattle.rules.specs.Server.{messageTwo}
 use Rattle.rules.specs.Table.{serversIn, ownIn, openedIn, waitingIn}
 use Rattle.message.specs.Rounds.{Summable}
-use Rattle.table.specs.declared.Table.{Table}
+use Rattle.layout.specs.declared.Table.{Table}
 use Rattle.waiting.specs.Held.{Waits}
 
 -- "12": rules' twoRefusal at that stage

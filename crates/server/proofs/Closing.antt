@@ -22,10 +22,10 @@ use Rattle.rules.specs.Settings.{document01}
 use Rattle.rules.specs.Server.{closeRefusal, totalsLength, totalsMessage}
 use Rattle.rules.specs.Table.{stageByte, waitingIn, stageIn, known, tableFault, totalsPlace}
 use Rattle.rules.specs.Table.{closeRefused, closeTable, closeBytes}
-use Rattle.table.specs.Places.{totalsAt}
+use Rattle.layout.specs.Places.{totalsAt}
+use Rattle.layout.specs.Writing.{closingBytes, Closable}
+use Rattle.layout.specs.declared.Table.{Table}
 use Rattle.table.specs.Reading.{tableOf, foundIn, Sound}
-use Rattle.table.specs.Writing.{closingBytes, Closable}
-use Rattle.table.specs.declared.Table.{Table}
 use Rattle.table.specs.declared.Found.the-variants as answer
 use Rattle.table.proofs.Answers.{unsound}
 use Rattle.server.specs.Calls.{Closes}

@@ -11,12 +11,12 @@ use Rattle.rules.specs.Columns.{within}
 use Rattle.rules.specs.Server.{dropRefusal}
 use Rattle.rules.specs.Table.{stageByte, waitingIn, stageIn, known, tableFault, decidedTable, dropRefused, dropTable, idsPlace, waitPlace}
 use Rattle.rules.proofs.Limits.{within-both}
-use Rattle.table.specs.Places.{waitAt}
+use Rattle.layout.specs.Places.{waitAt}
+use Rattle.layout.specs.Writing.{decidedAs, Decidable}
 use Rattle.table.specs.Reading.{tableOf, foundIn, Sound}
-use Rattle.table.specs.Writing.{decidedAs, Decidable}
 use Rattle.records.specs.Answers.{onlyIf}
 use Rattle.server.specs.Calls.{Drops}
-use Rattle.table.specs.declared.Table.{Table}
+use Rattle.layout.specs.declared.Table.{Table}
 use Rattle.table.specs.declared.Found.the-variants as answer
 use Rattle.table.proofs.Answers.{unsound}
 use Rattle.server.proofs.Stages.{none-waits, one-waits}

@@ -11,7 +11,7 @@ use Rattle.words.proofs.Numbers.{length-bytes}
 use Rattle.words.proofs.Loops.{grow}
 use Rattle.rules.specs.Settings.{document01}
 use Rattle.rules.specs.Table.{openBytes, openLength}
-use Rattle.table.specs.Writing.{startBytes}
+use Rattle.layout.specs.Writing.{startBytes}
 use Rattle.server.specs.Fresh.{freshBytes, Roomy}
 
 length-start : (servers own returns n : ℕ) → length (startBytes servers own returns n) ≡ 12

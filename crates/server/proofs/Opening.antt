@@ -27,8 +27,8 @@ use Rattle.columns.specs.declared.Counts.{Counts}
 use Rattle.sheet.specs.Reading.{readingOf}
 use Rattle.sheet.specs.declared.Reading.the-variants as sheet
 use Rattle.sheet.proofs.Answers.{reading-counts}
-use Rattle.table.specs.Places.{lengthAt, sizeOf}
-use Rattle.table.proofs.Positions.{table-length}
+use Rattle.layout.specs.Places.{lengthAt, sizeOf}
+use Rattle.layout.proofs.Positions.{table-length}
 use Rattle.server.specs.Calls.{Opens}
 use Rattle.server.specs.Fresh.{freshBytes, Roomy}
 use Rattle.server.proofs.FreshTable.{open-bytes}

@@ -3,7 +3,7 @@
 use mathlib.Core.List.{List, _++_}
 use Prim.Native.Nat.{ℕ, _+_, _-_, _≤_}
 use lib.ListN.{length, replicate}
-use Rattle.table.specs.Writing.{startBytes}
+use Rattle.layout.specs.Writing.{startBytes}
 
 -- the header, the sheet, and zeros up to the table's length
 unfoldable pub freshBytes : ℕ → ℕ → List ℕ → ℕ → ℕ → List ℕ

@@ -7,19 +7,19 @@ ghost use Rattle.rules.specs.Table.{openRefusal, openLength};
 ghost use Rattle.words.specs.Bytes.{splice};
 ghost use Rattle.server.specs.Calls.{Opens, Drops, Closes};
 ghost use Rattle.server.specs.Fresh.{freshBytes, Roomy};
+use layout::places::share_size;
+use layout::places::table_length;
+use layout::places::wait_place;
+use layout::writing::clear;
+use layout::writing::decide;
+use layout::writing::write_closing;
+use layout::writing::write_start;
 use records::Written;
 use sheet::Reading;
 use sheet::totals::returns_refusal;
 use table::Found;
-use table::places::share_size;
-use table::places::table_length;
-use table::places::wait_place;
 use table::read;
 use table::waits;
-use table::writing::clear;
-use table::writing::decide;
-use table::writing::write_closing;
-use table::writing::write_start;
 
 // What opening answers, where the table's buffer holds so many bytes.
 fn open_checked(servers: u32, own: u32, sheet: &[u8], returns: u32, room: usize) -> Written

@@ -13,9 +13,9 @@ use Rattle.rules.specs.Server.{has}
 use Rattle.message.specs.Shares.{headerFaultAt, sharePart}
 use Rattle.message.proofs.Shares.{part-sound}
 use Rattle.message.proofs.Parts.{span}
-use Rattle.table.specs.Places.{idsAt}
+use Rattle.layout.specs.Places.{idsAt}
+use Rattle.layout.specs.declared.Table.{Table}
 use Rattle.table.specs.Reading.{pairSound}
-use Rattle.table.specs.declared.Table.{Table}
 use Rattle.shares.specs.Taking.{startFault, messageFault, lastFault}
 
 -- ---- the table

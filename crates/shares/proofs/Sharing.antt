@@ -22,9 +22,9 @@ use Rattle.rules.specs.Table.{known, tableFault, shareRefused, shareTable, shar
 use Rattle.message.specs.Shares.{headerFaultAt}
 use Rattle.message.proofs.Shares.{header-long}
 use Rattle.message.proofs.Parts.{check-holds}
-use Rattle.table.specs.Places.{idsAt, sizeOf}
+use Rattle.layout.specs.Places.{idsAt, sizeOf}
+use Rattle.layout.specs.declared.Table.{Table}
 use Rattle.table.specs.Reading.{foundIn, pairSound, Sound}
-use Rattle.table.specs.declared.Table.{Table}
 use Rattle.table.specs.declared.Found.the-variants as found
 use Rattle.table.proofs.Answers.{unsound}
 use Rattle.shares.specs.Calls.{Shares}

@@ -16,9 +16,9 @@ use Rattle.rules.specs.Table.{columnsIn, shareTable, shareBytes, waitPlace}
 use Rattle.message.proofs.Parts.{to-end}
 use Rattle.snip.specs.Judged.{judgedOf}
 use Rattle.snip.specs.declared.judging.Judged.{Judged}
-use Rattle.table.specs.Places.{waitAt, sizeOf}
+use Rattle.layout.specs.Places.{waitAt, sizeOf}
+use Rattle.layout.specs.declared.Table.{Table}
 use Rattle.table.specs.Reading.{tableOf}
-use Rattle.table.specs.declared.Table.{Table}
 use Rattle.shares.specs.Taking.{waitBytes, Takable}
 
 wait-bytes : (id r s : ℕ) (j : Judged)

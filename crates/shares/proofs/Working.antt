@@ -21,9 +21,9 @@ use Rattle.message.proofs.Parts.{to-end}
 use Rattle.columns.specs.declared.Counts.{Counts}
 use Rattle.columns.specs.Counting.{countsOf}
 use Rattle.snip.specs.Judged.{Share, judgedOf}
-use Rattle.table.specs.Places.{sizeOf}
+use Rattle.layout.specs.Places.{sizeOf}
+use Rattle.layout.specs.declared.Table.{Table}
 use Rattle.table.specs.Reading.{tableOf, startSound, Headed, Sound}
-use Rattle.table.specs.declared.Table.{Table}
 use Rattle.table.proofs.Header.{header-is}
 use Rattle.table.proofs.Judged.{cut-reads}
 use Rattle.shares.specs.Taking.{Takable}

@@ -13,9 +13,9 @@ use Rattle.rules.specs.Columns.{check}
 use Rattle.rules.specs.Messages.{idIn, shareElements, elementsFault}
 use Rattle.rules.specs.Server.{has}
 use Rattle.message.specs.Shares.{headerFaultAt}
-use Rattle.table.specs.Places.{idsAt, sizeOf}
+use Rattle.layout.specs.Places.{idsAt, sizeOf}
+use Rattle.layout.specs.declared.Table.{Table}
 use Rattle.table.specs.Reading.{pairSound, Sound}
-use Rattle.table.specs.declared.Table.{Table}
 use Rattle.snip.specs.declared.judging.Judged.{Judged}
 
 -- "11, 13": the table is idle, and fewer than N are decided

@@ -13,17 +13,17 @@ ghost use Rattle.table.specs.Reading.{Sound};
 ghost use Rattle.shares.specs.Calls.{Shares};
 ghost use Rattle.shares.specs.Taking.{startFault, messageFault, lastFault, waitBytes, Fitting, Takable};
 use columns::Counts;
+use layout::Table;
+use layout::places::ids_place;
+use layout::places::share_size;
+use layout::places::wait_place;
 use records::Written;
 use records::or_else;
 use snip::judging::Judged;
 use snip::judging::judge;
 use table::Found;
-use table::Table;
 use table::has_id;
 use table::pair_sound;
-use table::places::ids_place;
-use table::places::share_size;
-use table::places::wait_place;
 use table::read;
 
 // The refusal by the table: 11 where it is not idle, 13 where N returns are decided, 0 for none.

@@ -24,10 +24,11 @@ use Rattle.rules.specs.Table.{sheetSize, sheetIn, columnsIn, totalsIn, waits, t
 use Rattle.rules.specs.Table.{totalsPlace, waitPlace, sharePlace}
 use Rattle.rules.specs.Table.{headerSound, countsSound, waitingSound, tableSound, tableFault}
 use Rattle.rules.proofs.Refusals.{sheet-limits}
-use Rattle.table.specs.Places.{waitAt}
+use Rattle.layout.specs.Places.{waitAt}
+use Rattle.layout.specs.Numbers.{lengthOf, Whole}
+use Rattle.layout.specs.declared.Table.{Table}
 use Rattle.table.specs.Reading.{tableOf, headIn, foundIn, startSound, pairSound}
-use Rattle.table.specs.Reading.{lengthOf, countsSoundAt, totalsSoundAt, waitingSoundAt, Headed, Whole, Sound}
-use Rattle.table.specs.declared.Table.{Table}
+use Rattle.table.specs.Reading.{countsSoundAt, totalsSoundAt, waitingSoundAt, Headed, Sound}
 use Rattle.table.specs.declared.Found.the-variants as answer
 use Rattle.table.proofs.Header.{start-facts, header-is}
 

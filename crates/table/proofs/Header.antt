@@ -3,7 +3,6 @@
 use mathlib.Core.Path.{_≡_, refl, sym}
 use mathlib.Core.Bool.{Bool, true, false, _&&_}
 use mathlib.Core.List.{List}
-use mathlib.Core.Logic.{⊎-elim}
 use Prim.Native.Nat.{ℕ, _+_, _-_, _≤_, _<_}
 use native.Mathlib.Omega.{arith}
 use borrow.Author.Tests.{leb-true, ltb-true, eqb-true, le-leb, lt-ltb, eq-eqb, ne-eqb}
@@ -11,16 +10,15 @@ use lib.Dec.{eqb, ltb, leb}
 use lib.ListN.{length, getD, take, drop}
 use Rattle.algebra.proofs.Members.{and-left, and-right}
 use Rattle.words.specs.Bytes.{valueOf, part}
-use Rattle.records.specs.Outcome.{Outcome, ok, refused}
 use Rattle.rules.specs.Settings.{document01}
-use Rattle.rules.specs.Columns.{Column, within, readSheet, sheetFault, faultIn, listIn}
-use Rattle.rules.specs.Table.{sheetIn, headerSound}
+use Rattle.rules.specs.Columns.{within, sheetFault}
+use Rattle.rules.specs.Table.{sheetIn, columnsIn, headerSound}
 use Rattle.rules.proofs.Limits.{within-both, within-is}
-use Rattle.rules.proofs.Refusals.{sheet-refusals}
-use Rattle.columns.specs.Counting.{countsOf}
+use Rattle.rules.proofs.Refusals.{sheet-fault}
 use Rattle.columns.specs.declared.Counts.{Counts}
-use Rattle.sheet.specs.Reading.{reading, readingOf}
+use Rattle.sheet.specs.Reading.{readingOf}
 use Rattle.sheet.specs.declared.Reading.the-variants as sheet
+use Rattle.sheet.proofs.Answers.{reading-refused, reading-counts}
 use Rattle.table.specs.Reading.{tableOf, headIn, startSound, Started}
 use Rattle.table.specs.declared.Found.the-variants as answer
 
@@ -98,17 +96,6 @@ module _ (T : List ℕ) where
   header-is = simp and-assoc
 
 -- ---- the sheet's answer
-refused-of : (o : Outcome (List Column)) (n : ℕ) → reading o ≡ sheet.Refused n → o ≡ refused n
-unfolding reading
-refused-of (ok cs) n e = let z : _≡_ {A = ℕ} 0 1 = cc in absurd (omega arith)
-refused-of (refused m) n e = cc
-
-pub counts-of : (o : Outcome (List Column)) (c : Counts) → reading o ≡ sheet.Counts c
-    → (faultIn o ≡ 0) × (c ≡ countsOf (listIn o))
-unfolding reading listIn faultIn
-counts-of (ok cs) c e = (refl, cc)
-counts-of (refused m) c e = let z : _≡_ {A = ℕ} 0 1 = cc in absurd (omega arith)
-
 module _ (T : List ℕ) where
   pub head-not-started : startSound T ≡ false → answer.Unsound ≡ headIn T
   unfolding headIn
@@ -120,11 +107,10 @@ module _ (T : List ℕ) where
     the-sheet = let l : 12 + r - 12 ≡ valueOf (part 10 2 T) = omega arith in rw l
 
     pub head-refused : (n : ℕ) → readingOf (take (12 + r - 12) (drop 12 T)) ≡ sheet.Refused n → answer.Unsound ≡ headIn T
-    unfolding headIn readingOf faultIn
+    unfolding headIn
     head-refused n h =
-        let o = refused-of (readSheet (sheetIn document01 T)) n (rw the-sheet at h) in
-        let d : n ≡ 0 → ⊥ = λ z. ⊎-elim (λ x. omega arith) (λ x. omega arith) (sheet-refusals (sheetIn document01 T) n o) in
-        rw (header-is T, s, o, ne-eqb n 0 d)
+        let o = reading-refused (sheetIn document01 T) n (rw the-sheet at h) in
+        rw (header-is T, s, o .0, ne-eqb n 0 (o .1))
 
     pub head-counted : (c : Counts) → readingOf (take (12 + r - 12) (drop 12 T)) ≡ sheet.Counts c
         → answer.Table (
@@ -144,7 +130,8 @@ module _ (T : List ℕ) where
         }
         )
         ≡ headIn T
-    unfolding headIn readingOf tableOf
+    unfolding headIn tableOf
     head-counted c h =
-        let o = counts-of (readSheet (sheetIn document01 T)) c (rw the-sheet at h) in
-        rw (header-is T, s, o .0, o .1)
+        let o = reading-counts (sheetIn document01 T) c (rw the-sheet at h) in
+        let f = sheet-fault (sheetIn document01 T) (columnsIn document01 T) (o .0) in
+        rw (header-is T, s, f .0, o .1)

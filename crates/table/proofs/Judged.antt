@@ -16,10 +16,10 @@ use Rattle.rules.specs.Table.{sheetIn, columnsIn}
 use Rattle.rules.proofs.Limits.{within-is}
 use Rattle.rules.proofs.Refusals.{sheet-read}
 use Rattle.message.proofs.Parts.{span}
-use Rattle.table.specs.Places.{totalsAt, idsAt, waitAt, sizeOf}
-use Rattle.table.specs.Reading.{tableOf, lengthOf, Headed}
-use Rattle.table.specs.Reading.{countsSoundAt, totalsSoundAt, pairSound, waitingSoundAt}
-use Rattle.table.specs.declared.Table.{Table}
+use Rattle.layout.specs.Places.{totalsAt, idsAt, waitAt, sizeOf}
+use Rattle.layout.specs.Numbers.{lengthOf}
+use Rattle.layout.specs.declared.Table.{Table}
+use Rattle.table.specs.Reading.{tableOf, Headed, countsSoundAt, totalsSoundAt, pairSound, waitingSoundAt}
 
 -- ---- the limit on N of a table's sheet, as the code cuts the sheet out
 module _ (T : List ℕ) (k : Table) (h : Headed T k) where

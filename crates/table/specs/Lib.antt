@@ -1,4 +1,2 @@
--- What the contracts of this crate cite besides rules. Read Places, then Reading, then Writing.
-pub mod Places
+-- What the contracts of this crate cite besides rules and layout.
 pub mod Reading
-pub mod Writing

@@ -1,7 +1,7 @@
 -- The reading of a table: what a sound table says, in the numbers of code, and the parts of the judgement.
 -- Assumes nothing.
 use mathlib.Core.Path.{_≡_}
-use mathlib.Core.Bool.{Bool, true, false, cond, _&&_}
+use mathlib.Core.Bool.{Bool, true, cond, _&&_}
 use mathlib.Core.List.{List}
 use Prim.Native.Nat.{ℕ, _+_, _*_, _≤_, _<_}
 use lib.Dec.{eqb, ltb, leb}
@@ -12,8 +12,9 @@ use Rattle.rules.specs.Columns.{within, entriesIn, publishedIn, sheetFault, tot
 use Rattle.rules.specs.Circuit.{gatesIn, testsIn}
 use Rattle.rules.specs.Table.{stageByte, serversIn, ownIn, returnsIn, decidedIn, acceptedIn, sheetSize, sheetIn, columnsIn}
 use Rattle.rules.specs.Table.{headerSound, tableSound}
-use Rattle.table.specs.Places.{totalsAt, waitAt, lengthAt, sizeOf}
-use Rattle.table.specs.declared.Table.{Table}
+use Rattle.layout.specs.Places.{totalsAt, waitAt, sizeOf}
+use Rattle.layout.specs.Numbers.{lengthOf, Limited}
+use Rattle.layout.specs.declared.Table.{Table}
 use Rattle.table.specs.declared.Found.{Found}
 use Rattle.table.specs.declared.Found.the-variants as answer
 
@@ -68,10 +69,6 @@ unfoldable pub pairSound : ℕ → ℕ → ℕ → Bool
 pairSound gates r s = ltb gates r && (ltb r 2147483647 && ltb s 2147483647)
 
 -- ---- counts, totals and the return that waits, by the numbers of the header
--- the bytes of the table
-abbrev pub lengthOf : Table → ℕ
-lengthOf k = lengthAt (k .sheet) (k .published) (k .returns) (sizeOf (k .entries) (k .gates))
-
 module _ (k : Table) (T : List ℕ) where
   unfoldable pub countsSoundAt : Bool
   countsSoundAt =
@@ -90,30 +87,13 @@ module _ (k : Table) (T : List ℕ) where
       && allBelow 2147483647 (elementsOf 4 (part (w + 4 + 24) (4 * sizeOf (k .entries) (k .gates)) T)))
 
 -- ---- facts that the calls require
--- the numbers of a table whose header and sheet are sound
-pub record Limited (k : Table) : Type 0 where
-  pub stage-most : k .stage ≤ 3
-  pub servers-some : 2 ≤ k .servers
-  pub servers-few : k .servers ≤ 8
-  pub own-one : k .own < k .servers
-  pub returns-some : 1 ≤ k .returns
-  pub returns-most : k .returns ≤ 1024
-  pub sheet-most : k .sheet ≤ 256
-  pub entries-most : k .entries ≤ 256
-  pub published-most : k .published ≤ 256
-  pub gates-most : k .gates ≤ 256
-
+-- a table whose header and sheet are sound
 pub record Headed (T : List ℕ) (k : Table) : Type 0 where
   pub says : k ≡ tableOf T
   pub limited : Limited k
   pub header : headerSound document01 T ≡ true
   pub sheet-long : 12 + k .sheet ≤ length T
   pub no-fault : sheetFault (sheetIn document01 T) ≡ 0
-
--- the table lies within its slice
-pub record Whole (T : List ℕ) (k : Table) : Type 0 where
-  pub limited : Limited k
-  pub long : lengthOf k ≤ length T
 
 -- a sound table
 pub record Sound (T : List ℕ) (k : Table) : Type 0 where

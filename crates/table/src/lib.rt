@@ -1,40 +1,22 @@
-// A server's table in lent bytes: its places, its reading, and what is written into it. Read here: what a table says,
-// where its length, stage, counts, sheet, numbers and elements keep to the limits. The contracts cite rules and specs/.
+// The reading of a server's table in lent bytes: what a table says, where its length, stage, counts, sheet, numbers and
+// elements keep to the limits. The contracts cite rules and specs/.
 ghost use mathlib.Core.Path.{_≡_};
 ghost use mathlib.Core.Bool.{cond};
 ghost use Rattle.words.specs.Bytes.{elementsOf};
 ghost use Rattle.rules.specs.Columns.{within};
 ghost use Rattle.rules.specs.Server.{has};
+ghost use Rattle.layout.specs.Numbers.{Whole};
 ghost use Rattle.table.specs.Reading.{startSound, headIn, foundIn};
-ghost use Rattle.table.specs.Reading.{countsSoundAt, totalsSoundAt, pairSound, waitingSoundAt, Headed, Whole};
-
-pub mod places;
-pub mod writing;
-
-use places::ids_place;
-use places::share_size;
-use places::table_length;
-use places::totals_place;
-use places::wait_place;
+ghost use Rattle.table.specs.Reading.{countsSoundAt, totalsSoundAt, pairSound, waitingSoundAt, Headed};
+use layout::Table;
+use layout::places::ids_place;
+use layout::places::share_size;
+use layout::places::table_length;
+use layout::places::totals_place;
+use layout::places::wait_place;
 use sheet::Reading;
 
-// What a table says: its header, and what its sheet comes to.
-pub struct Table {
-    pub stage: u32,
-    pub servers: u32,
-    pub own: u32,
-    pub returns: u32,
-    pub decided: u32,
-    pub accepted: u32,
-    // the bytes of the sheet
-    pub sheet: usize,
-    pub columns: usize,
-    pub entries: usize,
-    pub published: usize,
-    pub gates: usize,
-    pub tests: usize,
-}
-
+// What the reader finds.
 pub enum Found {
     Table(Table),
     Unsound,

@@ -27,9 +27,9 @@ use Rattle.sheet.specs.Cursor.{begin, Stands, stepAt}
 use Rattle.sheet.proofs.Cursors.{place}
 use Rattle.sheet.proofs.Walks.{Walks, walk-start, stands-by-place, walk-end, walk-done, walk-next}
 use Rattle.message.proofs.Parts.{span}
-use Rattle.table.specs.Places.{totalsAt, shareAt}
+use Rattle.layout.specs.Places.{totalsAt, shareAt}
+use Rattle.layout.specs.declared.Table.{Table}
 use Rattle.table.specs.Reading.{Sound}
-use Rattle.table.specs.declared.Table.{Table}
 use Rattle.waiting.specs.Held.{Waits}
 use Rattle.waiting.specs.Totals.{wordAt, wordsAdded, Addable, totalWith, withPublished}
 use Rattle.waiting.proofs.AddedWords.{length-run, run-none, run-more, run-behind, length-run-put}

@@ -25,9 +25,9 @@ use Rattle.rules.specs.Table.{sheetSize, columnsIn, returnsIn, wordIn, waitingI
 use Rattle.rules.specs.Table.{headerSound, countsSound, waitingSound, tableSound, tableFault}
 use Rattle.message.proofs.Writing.{length-round}
 use Rattle.message.proofs.Parts.{span}
-use Rattle.table.specs.Places.{waitAt, shareAt, sizeOf}
+use Rattle.layout.specs.Places.{waitAt, shareAt, sizeOf}
+use Rattle.layout.specs.declared.Table.{Table}
 use Rattle.table.specs.Reading.{tableOf, Sound}
-use Rattle.table.specs.declared.Table.{Table}
 use Rattle.waiting.specs.declared.held.Waiting.{Waiting}
 use Rattle.waiting.specs.Held.{waitsIn, Waits, sigmaAt}
 

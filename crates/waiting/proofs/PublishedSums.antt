@@ -24,9 +24,9 @@ use Rattle.rules.specs.Table.{returnsIn, sheetSize, sheetIn, columnsIn, totalsI
 use Rattle.rules.specs.Table.{headerSound, countsSound, waitingSound, tableSound}
 use Rattle.rules.proofs.Refusals.{sheet-read}
 use Rattle.message.proofs.Parts.{part-of-part}
-use Rattle.table.specs.Places.{totalsAt, shareAt, sizeOf}
+use Rattle.layout.specs.Places.{totalsAt, shareAt, sizeOf}
+use Rattle.layout.specs.declared.Table.{Table}
 use Rattle.table.specs.Reading.{tableOf, startSound, Sound}
-use Rattle.table.specs.declared.Table.{Table}
 use Rattle.table.proofs.Header.{header-is}
 use Rattle.waiting.specs.Totals.{wordAt}
 

@@ -11,8 +11,8 @@ use Rattle.rules.specs.Settings.{document01}
 use Rattle.rules.specs.Columns.{within}
 use Rattle.rules.specs.Judging.{firstOnly, aOf, bOf, cOf, sigmaFrom}
 use Rattle.rules.specs.Table.{ownIn, columnsIn, waitingIn}
+use Rattle.layout.specs.declared.Table.{Table}
 use Rattle.table.specs.Reading.{Sound}
-use Rattle.table.specs.declared.Table.{Table}
 use Rattle.waiting.specs.declared.held.Waiting.{Waiting}
 
 -- rules' waitingIn, without the pair and the share

@@ -4,10 +4,10 @@ ghost use Rattle.algebra.specs.Lists.{tabulate};
 ghost use Rattle.words.specs.Bytes.{bytesOfAll, splice};
 ghost use Rattle.waiting.specs.Held.{Waits};
 ghost use Rattle.waiting.specs.Totals.{wordsAdded, Addable, withPublished};
+use layout::Table;
+use layout::places::share_place;
+use layout::places::totals_place;
 use sheet::cursor;
-use table::Table;
-use table::places::share_place;
-use table::places::totals_place;
 
 // Adds n words from `from` to those from `to`.
 fn add_words(t: &mut [u8], to: usize, from: usize, n: usize)

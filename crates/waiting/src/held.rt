@@ -9,10 +9,10 @@ ghost use Rattle.rules.specs.Messages.{roundFault, roundMessage};
 ghost use Rattle.rules.specs.Judging.{firstOnly, sigmaFrom};
 ghost use Rattle.message.specs.Rounds.{Placed};
 ghost use Rattle.waiting.specs.Held.{waitsIn, Waits, sigmaAt};
-use table::Table;
-use table::places::share_place;
-use table::places::share_size;
-use table::places::wait_place;
+use layout::Table;
+use layout::places::share_place;
+use layout::places::share_size;
+use layout::places::wait_place;
 
 // Its id; d_i and e_i in the first wait, the sums d and e in the second; r h_i(r) and tau_i.
 pub struct Waiting {

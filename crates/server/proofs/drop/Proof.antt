@@ -7,8 +7,8 @@ use Prim.Native.Nat.{ℕ}
 use native.Mathlib.Omega.{arith}
 use borrow.Author.Tests.{not-true, not-false}
 use Rattle.rules.specs.Columns.{within}
+use Rattle.layout.specs.declared.Table.{Table}
 use Rattle.table.specs.Reading.{Sound}
-use Rattle.table.specs.declared.Table.{Table}
 use Rattle.table.proofs.Answers.{sound}
 use Rattle.server.proofs.Dropping.{drop-unsound, drop-quiet, drop-done, drop-decides}
 use borrow.Author.Needs.{needs}

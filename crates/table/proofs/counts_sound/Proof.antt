@@ -9,7 +9,7 @@ use lib.ListN.{length}
 use Rattle.rules.specs.Settings.{document01}
 use Rattle.rules.specs.Columns.{totalsFit}
 use Rattle.rules.specs.Table.{columnsIn}
-use Rattle.table.specs.Reading.{lengthOf}
+use Rattle.layout.specs.Numbers.{lengthOf}
 use Rattle.table.proofs.Judged.{cut-reads, fits, fits-not, counts-unfit, counts-short, counts-over, counts-but}
 use borrow.Author.Needs.{needs}
 use Rattle.table.proofs.counts_sound.Statement.{statement}

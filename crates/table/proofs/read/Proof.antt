@@ -5,11 +5,10 @@ use mathlib.Core.Bool.{true, cond}
 use mathlib.Core.List.{List}
 use Prim.Native.Nat.{ℕ}
 use borrow.Author.Tests.{not-true, not-false}
+use Rattle.layout.specs.declared.Table.{Table}
 use Rattle.table.specs.Reading.{countsSoundAt, totalsSoundAt, waitingSoundAt, Headed, foundIn}
-use Rattle.table.specs.declared.Table.{Table}
 use Rattle.table.specs.declared.Found.the-variants as answer
-use Rattle.table.proofs.Answers.{headed, whole}
-use Rattle.table.proofs.Answers.{found-headless, found-counts, found-totals, found-quiet, found-waiting}
+use Rattle.table.proofs.Answers.{headed, whole, found-headless, found-counts, found-totals, found-quiet, found-waiting}
 use borrow.Author.Needs.{needs}
 use Rattle.table.proofs.read.Statement.{statement}
 use Rattle.table.proofs.read.Tie as tie

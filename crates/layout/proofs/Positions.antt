@@ -8,7 +8,7 @@ use Rattle.rules.specs.Columns.{Column, entriesIn, publishedIn}
 use Rattle.rules.specs.Circuit.{gatesIn}
 use Rattle.rules.specs.Judging.{shareSize}
 use Rattle.rules.specs.Table.{totalsPlace, idsPlace, waitPlace, sharePlace, tableLength}
-use Rattle.table.specs.Places.{totalsAt, idsAt, waitAt, shareAt, lengthAt, sizeOf}
+use Rattle.layout.specs.Places.{totalsAt, idsAt, waitAt, shareAt, lengthAt, sizeOf}
 
 pub share-size : (cs : List Column) → shareSize cs ≡ sizeOf (entriesIn cs) (gatesIn cs)
 unfolding shareSize

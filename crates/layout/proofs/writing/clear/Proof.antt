@@ -1,4 +1,4 @@
--- `table::writing::clear` meets its contract. The loop's invariant: the first i bytes are cleared (`clear-next`); the
+-- `layout::writing::clear` meets its contract. The loop's invariant: the first i bytes are cleared (`clear-next`); the
 -- measure is what is left of them. Assumes nothing.
 use mathlib.Core.Path.{_≡_, refl}
 use Prim.Native.Nat.{_≤_, _-_}
@@ -7,9 +7,9 @@ use borrow.Author.Needs.{needs}
 use lib.ListN.{length, take, replicate, length-set}
 use Rattle.words.specs.Bytes.{splice}
 use Rattle.words.proofs.Loops.{copy-none}
-use Rattle.table.proofs.Pieces.{clear-next, clear-all}
-use Rattle.table.proofs.writing.clear.Statement.{statement}
-use Rattle.table.proofs.writing.clear.Tie as tie
+use Rattle.layout.proofs.Pieces.{clear-next, clear-all}
+use Rattle.layout.proofs.writing.clear.Statement.{statement}
+use Rattle.layout.proofs.writing.clear.Tie as tie
 
 abbrev Inv-loop : tie.InvT-loop
 Inv-loop t₀ at n i₀ t i = (i ≤ n) × (t ≡ splice t₀ at (take i (replicate n 0))) × (length t ≡ length t₀)

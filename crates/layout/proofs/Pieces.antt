@@ -12,9 +12,9 @@ use Rattle.words.proofs.Splice.{length-splice}
 use Rattle.words.proofs.Loops.{sets-splice, grow, copy-next}
 use Rattle.message.specs.Totals.{totalsHeader}
 use Rattle.message.proofs.Writing.{length-totals-header}
-use Rattle.table.specs.Places.{totalsAt, idsAt}
-use Rattle.table.specs.Writing.{startBytes, decidedAs, closingBytes}
-use Rattle.table.specs.declared.Table.{Table}
+use Rattle.layout.specs.Places.{totalsAt, idsAt}
+use Rattle.layout.specs.Writing.{startBytes, decidedAs, closingBytes}
+use Rattle.layout.specs.declared.Table.{Table}
 
 -- ---- cleared bytes
 module _ (s : List ℕ) (a n i : ℕ) where
@@ -42,7 +42,7 @@ pub start-written : (s : List ℕ) (servers own returns n : ℕ) → 12 ≤ leng
 unfolding startBytes
 start-written s servers own returns n h =
     let first : List ℕ = 1 ∷ 0 ∷ servers ∷ own ∷ [] in
-    let six : length (first ++ bytesOf 2 returns) ≡ 6 = simp (length-append, length-bytes) in
+    let six : length (first ++ bytesOf 2 returns) ≡ 6 = simp length-bytes in
     let eight : length (first ++ bytesOf 2 returns ++ bytesOf 2 0) ≡ 8 = simp (length-append, length-bytes) in
     let ten : length (first ++ bytesOf 2 returns ++ bytesOf 2 0 ++ bytesOf 2 0) ≡ 10 = simp (length-append, length-bytes) in
     rw (

@@ -1,12 +1,12 @@
--- `table::writing::write_closing` meets its contract: the totals are put behind the header (`closing-written`).
+-- `layout::writing::write_closing` meets its contract: the totals are put behind the header (`closing-written`).
 -- Assumes nothing.
 use Prim.Native.Nat.{ℕ, _≤_}
 use native.Mathlib.Omega.{arith}
 use lib.ListN.{length}
-use Rattle.table.proofs.Pieces.{closing-written}
+use Rattle.layout.proofs.Pieces.{closing-written}
 use borrow.Author.Needs.{needs}
-use Rattle.table.proofs.writing.write_closing.Statement.{statement}
-use Rattle.table.proofs.writing.write_closing.Tie as tie
+use Rattle.layout.proofs.writing.write_closing.Statement.{statement}
+use Rattle.layout.proofs.writing.write_closing.Tie as tie
 
 cast-write-totals-header : tie.Need-cast-write-totals-header
 cast-write-totals-header c = search needs

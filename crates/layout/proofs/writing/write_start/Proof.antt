@@ -1,11 +1,11 @@
--- `table::writing::write_start` meets its contract: the pieces are put there one after another (`start-written`).
+-- `layout::writing::write_start` meets its contract: the pieces are put there one after another (`start-written`).
 -- Assumes nothing.
 use native.Mathlib.Omega.{arith}
 use lib.ListN.{length-set}
-use Rattle.table.proofs.Pieces.{start-written}
+use Rattle.layout.proofs.Pieces.{start-written}
 use borrow.Author.Needs.{needs}
-use Rattle.table.proofs.writing.write_start.Statement.{statement}
-use Rattle.table.proofs.writing.write_start.Tie as tie
+use Rattle.layout.proofs.writing.write_start.Statement.{statement}
+use Rattle.layout.proofs.writing.write_start.Tie as tie
 
 slice-write-t : tie.Need-slice-write-t
 slice-write-t c = search needs

@@ -1,14 +1,12 @@
 -- What is written into a table and into the closing message, in the numbers of code.
 -- Assumes nothing.
-use mathlib.Core.Path.{_≡_}
 use mathlib.Core.List.{List, [], _∷_, _++_}
 use Prim.Native.Nat.{ℕ, _+_, _*_, _≤_, _<_}
-use lib.ListN.{length}
 use Rattle.words.specs.Bytes.{bytesOf, part, splice}
 use Rattle.message.specs.Totals.{totalsHeader}
-use Rattle.table.specs.Places.{totalsAt, idsAt}
-use Rattle.table.specs.Reading.{Whole}
-use Rattle.table.specs.declared.Table.{Table}
+use Rattle.layout.specs.Places.{totalsAt, idsAt}
+use Rattle.layout.specs.Numbers.{Whole}
+use Rattle.layout.specs.declared.Table.{Table}
 
 -- the header of a fresh table
 unfoldable pub startBytes : ℕ → ℕ → ℕ → ℕ → List ℕ

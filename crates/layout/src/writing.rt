@@ -3,7 +3,7 @@ ghost use mathlib.Core.Path.{_≡_};
 ghost use Prim.Native.Nat.{_+_, _≤_};
 ghost use lib.ListN.{length, replicate};
 ghost use Rattle.words.specs.Bytes.{splice};
-ghost use Rattle.table.specs.Writing.{startBytes, decidedAs, Decidable, closingBytes, Closable};
+ghost use Rattle.layout.specs.Writing.{startBytes, decidedAs, Decidable, closingBytes, Closable};
 use crate::Table;
 use crate::places::ids_place;
 use crate::places::totals_place;

@@ -1,7 +1,7 @@
 // The places of a table, by plain numbers: the length of the sheet, the published entries and N.
 ghost use mathlib.Core.Path.{_≡_};
 ghost use Prim.Native.Nat.{_≤_};
-ghost use Rattle.table.specs.Places.{totalsAt, idsAt, waitAt, shareAt, lengthAt, sizeOf, Small};
+ghost use Rattle.layout.specs.Places.{totalsAt, idsAt, waitAt, shareAt, lengthAt, sizeOf, Small};
 
 // The totals stand behind the sheet.
 pub fn totals_place(n: usize) -> usize

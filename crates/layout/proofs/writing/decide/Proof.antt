@@ -1,13 +1,13 @@
--- `table::writing::decide` meets its contract: counts, id and stage are put where they stand (`decided-written`).
+-- `layout::writing::decide` meets its contract: counts, id and stage are put where they stand (`decided-written`).
 -- Assumes nothing.
 use Prim.Native.Nat.{_+_, _*_, _≤_}
 use native.Mathlib.Omega.{arith}
 use lib.ListN.{length, length-set}
-use Rattle.table.specs.Places.{idsAt}
-use Rattle.table.proofs.Pieces.{decided-written}
+use Rattle.layout.specs.Places.{idsAt}
+use Rattle.layout.proofs.Pieces.{decided-written}
 use borrow.Author.Needs.{needs}
-use Rattle.table.proofs.writing.decide.Statement.{statement}
-use Rattle.table.proofs.writing.decide.Tie as tie
+use Rattle.layout.proofs.writing.decide.Statement.{statement}
+use Rattle.layout.proofs.writing.decide.Tie as tie
 
 add-write-u16 : tie.Need-add-write-u16
 add-write-u16 c = search needs

@@ -1,0 +1,21 @@
+// A server's table in lent bytes: the numbers that it says, its places by them, and what is written into it. The contracts
+// cite specs/.
+pub mod places;
+pub mod writing;
+
+// What a table says: its header, and what its sheet comes to.
+pub struct Table {
+    pub stage: u32,
+    pub servers: u32,
+    pub own: u32,
+    pub returns: u32,
+    pub decided: u32,
+    pub accepted: u32,
+    // the bytes of the sheet
+    pub sheet: usize,
+    pub columns: usize,
+    pub entries: usize,
+    pub published: usize,
+    pub gates: usize,
+    pub tests: usize,
+}

@@ -7,7 +7,7 @@ use lib.ListN.{length, getD, take}
 use lib.Seq.{take-all}
 use Rattle.algebra.proofs.Tables.{length-tabulate, getD-tabulate}
 use Rattle.words.specs.Bytes.{bytesOf, bytesOfAll, splice}
-use Rattle.words.proofs.Loops.{write-none, write-next}
+use Rattle.elements.proofs.Loops.{write-none, write-next}
 use Rattle.client.specs.Pieces.{restOf, firstShare}
 
 module _ (random : List ℕ) (others : ℕ) (w : List ℕ) where

@@ -47,7 +47,7 @@ fn random_refusal(random: &[u8], servers: u32, size: usize) -> u32
     if random.len() != 4 * (shares * size + 4) {
         return 6;
     }
-    if words::elements_below(random, field::P) {
+    if elements::below(random, field::P) {
         return 0;
     }
     6

@@ -59,10 +59,10 @@ pub fn fill_whole(sheet: &[u8], counts: Counts, values: &[u8], random: &[u8], w:
 {
     let l = counts.entries;
     let m = counts.gates;
-    let u = words::element(random, 0);
-    let v = words::element(random, 1);
-    let a = words::element(random, 2);
-    let b = words::element(random, 3);
+    let u = elements::at(random, 0);
+    let v = elements::at(random, 1);
+    let a = elements::at(random, 2);
+    let b = elements::at(random, 3);
     encode_columns(sheet, values, w);
     put_two(w, l, u, v);
     encode_h(sheet, values, l, m, u, v, w);

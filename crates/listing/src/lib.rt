@@ -70,7 +70,7 @@ fn put_options(
     let mut next = at;
     let mut option: usize = 0;
     while option < n {
-        let total = words::element(totals, first + option);
+        let total = elements::at(totals, first + option);
         next = put_line(out, next, column, option as u32, total);
         option += 1;
     }

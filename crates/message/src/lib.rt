@@ -191,7 +191,7 @@ fn totals_sound(m: &[u8], count: u32, server: u8) -> bool
     if accepted_count(m) != count {
         return false;
     }
-    words::elements_below(&m[6..], field::P)
+    elements::below(&m[6..], field::P)
 }
 
 // Whether each server's bytes, from its own place on, are its message with this count.

@@ -48,7 +48,7 @@ fn message_refusal(m: &[u8], size: usize, own: u32) -> u32
     if refusal != 0 {
         return refusal;
     }
-    if words::elements_below(message::share_part(m, size, own), field::P) {
+    if elements::below(message::share_part(m, size, own), field::P) {
         return 0;
     }
     8
@@ -95,7 +95,7 @@ fn judged(t: &[u8], k: Table, m: &[u8], r: u32, s: u32) -> Judged
 {
     let mut x = [0u32; 774];
     let size = share_size(k.entries, k.gates);
-    words::read_elements(&m[6..], &mut x[..size]);
+    elements::read(&m[6..], &mut x[..size]);
     let end = 12 + k.sheet;
     let counts = Counts {
         columns: k.columns,
@@ -113,7 +113,7 @@ fn write_waiting(t: &mut [u8], at: usize, id: u32, r: u32, s: u32, j: Judged)
     ensures { λ _. ⌜ now (t .exit) ≡ splice (now (t .entry)) at (waitBytes id r s j) ⌝ }
 {
     let numbers = [id, r, s, j.d, j.e, j.rh, j.tau];
-    words::write_elements(t, at, &numbers);
+    elements::write(t, at, &numbers);
 }
 
 // Takes a share that is not refused: it waits for round one, whose message is written.

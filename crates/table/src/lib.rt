@@ -158,7 +158,7 @@ fn totals_sound(t: &[u8], k: Table) -> bool
 {
     let start = totals_place(k.sheet);
     let end = ids_place(k.sheet, k.published);
-    words::elements_below(&t[start..end], field::P)
+    elements::below(&t[start..end], field::P)
 }
 
 // Whether r and s are a pair for a sheet with so many multiplications.
@@ -186,11 +186,11 @@ fn waiting_sound(t: &[u8], k: Table) -> bool
         return false;
     }
     let share = at + 24;
-    if !words::elements_below(&t[at..share], field::P) {
+    if !elements::below(&t[at..share], field::P) {
         return false;
     }
     let end = share + 4 * share_size(k.entries, k.gates);
-    words::elements_below(&t[share..end], field::P)
+    elements::below(&t[share..end], field::P)
 }
 
 // What a sound table says.

@@ -11,7 +11,8 @@ use Rattle.algebra.specs.Lists.{tabulate}
 use Rattle.algebra.proofs.Tables.{length-tabulate, tabulate-next}
 use Rattle.words.specs.Bytes.{bytesOf, bytesOfAll, splice}
 use Rattle.words.proofs.Elements.{length-bytes-all, bytes-all-append, bytes-all-one}
-use Rattle.words.proofs.Loops.{grow, write-none}
+use Rattle.words.proofs.Loops.{grow}
+use Rattle.elements.proofs.Loops.{write-none}
 
 -- the bytes of the first k numbers of a rule
 abbrev pub firstOf : (ℕ → ℕ) → ℕ → List ℕ

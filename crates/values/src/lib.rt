@@ -42,7 +42,7 @@ pub fn values_refusal(s: &[u8], columns: usize, values: &[u8]) -> u32
     while c.index < columns {
         let step = next(s, c);
         let column = step.column;
-        if values_of(column) <= words::element(values, c.index) {
+        if values_of(column) <= elements::at(values, c.index) {
             return 5;
         }
         c = step.next;
@@ -112,7 +112,7 @@ pub fn encode_columns(s: &[u8], values: &[u8], out: &mut [u32])
     let mut c = start();
     while c.at < s.len() {
         let step = next(s, c);
-        let v = words::element(values, c.index);
+        let v = elements::at(values, c.index);
         let column = step.column;
         encode_column(column, v, out, c.entry);
         c = step.next;

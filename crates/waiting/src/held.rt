@@ -54,9 +54,9 @@ fn sigma_with(x: &[u8], at: usize, own: u32, d: u32, e: u32, rh: u32) -> u32
     ensures { λ r. ⌜ r ≡ sigmaFrom residues (firstOnly residues own) d e (getD (elementsOf 4 (now (x .entry))) at 0)
         (getD (elementsOf 4 (now (x .entry))) (at + 1) 0) (getD (elementsOf 4 (now (x .entry))) (at + 2) 0) rh ⌝ }
 {
-    let a = words::element(x, at);
-    let b = words::element(x, at + 1);
-    let c = words::element(x, at + 2);
+    let a = elements::at(x, at);
+    let b = elements::at(x, at + 1);
+    let c = elements::at(x, at + 2);
     snip::sigma(own, d, e, a, b, c, rh)
 }
 

@@ -1,11 +1,10 @@
 -- What holds of each number of a list. `allBelow p` is true exactly where each number is below p: by the list, as it is
 -- defined. Assumes nothing.
 use mathlib.Core.Path.{_≡_, refl}
-use mathlib.Core.Bool.{true, false}
+use mathlib.Core.Bool.{true}
 use mathlib.Core.List.{List, [], _∷_}
-use Prim.Native.Nat.{ℕ, zero, suc, _≤_, _<_}
-use native.Mathlib.Omega.{arith}
-use borrow.Author.Tests.{ltb-true, lt-ltb, le-ltb}
+use Prim.Native.Nat.{ℕ, zero, suc, _<_}
+use borrow.Author.Tests.{ltb-true, lt-ltb}
 use lib.Dec.{ltb}
 use lib.ListN.{take, drop}
 use Rattle.algebra.specs.Lists.{All, all[], all∷, every}
@@ -33,16 +32,3 @@ pub below-of-all : (p : ℕ) (xs : List ℕ) → All (λ x. x < p) xs → allBel
 unfolding allBelow every
 below-of-all p [] all[] = refl
 below-of-all p (x ∷ xs) (all∷ h a) = rw (lt-ltb x p h) (below-of-all p xs a)
-
--- the first member is below p, or not
-pub below-first : (p x : ℕ) (xs : List ℕ) → x < p → allBelow p (x ∷ xs) ≡ allBelow p xs
-unfolding allBelow every
-below-first p x xs h = rw (lt-ltb x p h)
-
-pub below-not : (p x : ℕ) (xs : List ℕ) → p ≤ x → allBelow p (x ∷ xs) ≡ false
-unfolding allBelow every
-below-not p x xs h = rw (le-ltb x p h)
-
-pub below-none : (p : ℕ) → allBelow p [] ≡ true
-unfolding allBelow every
-below-none p = refl

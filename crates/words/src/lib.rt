@@ -1,9 +1,9 @@
-// Numbers as bytes, lowest byte first, and runs of elements of four bytes. The definitions that the contracts cite, over
-// any width, are in specs/Bytes.antt. Each function asks that what it reads or writes lies within the slice.
+// Bytes copied and compared, and numbers as bytes, lowest byte first. The definitions that the contracts cite, over any
+// width, are in specs/Bytes.antt. Each function asks that what it reads or writes lies within the slice.
 ghost use mathlib.Core.Path.{_≡_};
 ghost use Prim.Native.Nat.{_+_, _*_, _≤_};
-ghost use lib.ListN.{length, getD};
-ghost use Rattle.words.specs.Bytes.{valueOf, bytesOf, bytesOfAll, part, splice, elementsOf, allBelow, sameBytes};
+ghost use lib.ListN.{length};
+ghost use Rattle.words.specs.Bytes.{valueOf, bytesOf, part, splice, sameBytes};
 
 // The number of two bytes.
 fn half(a: u8, b: u8) -> u32
@@ -55,53 +55,6 @@ pub fn write_u32(s: &mut [u8], at: usize, v: u32)
     s[at + 1] = (v / 256 % 256) as u8;
     s[at + 2] = (v / 256 / 256 % 256) as u8;
     s[at + 3] = (v / 256 / 256 / 256 % 256) as u8;
-}
-
-// Element `i` of a run of elements.
-pub fn element(s: &[u8], i: usize) -> u32
-    requires { ⌜ 4 * i + 4 ≤ length (now s) ⌝ }
-    ensures { λ r. ⌜ r ≡ getD (elementsOf 4 (now (s .entry))) i 0 ⌝ }
-{
-    read_u32(s, 4 * i)
-}
-
-// Reads a run of elements, which fill `out`.
-pub fn read_elements(s: &[u8], out: &mut [u32])
-    requires { ⌜ length (now s) ≡ 4 * length (now out) ⌝ }
-    ensures { λ _. ⌜ now (out .exit) ≡ elementsOf 4 (now (s .entry)) ⌝ }
-{
-    let mut k: usize = 0;
-    while k < out.len() {
-        out[k] = read_u32(s, 4 * k);
-        k += 1;
-    }
-}
-
-// Writes the elements `xs` from `at`.
-pub fn write_elements(s: &mut [u8], at: usize, xs: &[u32])
-    requires { ⌜ at + 4 * length (now xs) ≤ length (now s) ⌝ }
-    ensures { λ _. ⌜ now (s .exit) ≡ splice (now (s .entry)) at (bytesOfAll 4 (now (xs .entry))) ⌝ }
-{
-    let mut i: usize = 0;
-    while i < xs.len() {
-        write_u32(s, at + 4 * i, xs[i]);
-        i += 1;
-    }
-}
-
-// Whether each element of a run is below `bound`. The loop looks at all of them: so it takes several in a turn.
-pub fn elements_below(s: &[u8], bound: u32) -> bool
-    ensures { λ r. ⌜ r ≡ allBelow bound (elementsOf 4 (now (s .entry))) ⌝ }
-{
-    let mut at: usize = 0;
-    let mut below = true;
-    while 4 <= s.len() - at {
-        if bound <= read_u32(s, at) {
-            below = false;
-        }
-        at += 4;
-    }
-    below
 }
 
 // Writes the bytes `from` from `at`.

@@ -35,16 +35,16 @@ returns : tie.Need-returns
 unfolding randomFaultAt
 returns c = rw (ne-eqb _ _ (c .if1 .taken))
 
-elements-below-requires : tie.Need-elements-below-requires
-elements-below-requires c κs = search needs
+below-requires : tie.Need-below-requires
+below-requires c κs = search needs
 
 returns-2 : tie.Need-returns-2
 unfolding randomFaultAt
-returns-2 c = rw (eq-eqb _ _ (c .before .before .if1 .left), sym (c .before .elements-below .ensures) ∙ c .if2 .taken)
+returns-2 c = rw (eq-eqb _ _ (c .before .before .if1 .left), sym (c .before .below .ensures) ∙ c .if2 .taken)
 
 returns-3 : tie.Need-returns-3
 unfolding randomFaultAt
-returns-3 c = rw (eq-eqb _ _ (c .before .before .if1 .left), sym (c .before .elements-below .ensures) ∙ c .if2 .left)
+returns-3 c = rw (eq-eqb _ _ (c .before .before .if1 .left), sym (c .before .below .ensures) ∙ c .if2 .left)
 
 pub random-refusal-spec : {M : Type 1} → statement M
 random-refusal-spec =
@@ -56,6 +56,6 @@ random-refusal-spec =
     add-if1
     mul-if1-2
     returns
-    elements-below-requires
+    below-requires
     returns-2
     returns-3)

@@ -35,11 +35,11 @@ loop-holds c =
     let z = c .before .before in
     (search needs, put-as (put-none (z .args .out .now) (z .args .at) (omega (arith, z .pre .room))) _ (options-none _ _))
 
-add-element : tie.Need-add-element Inv-loop μ-loop
-add-element c = search needs
+add-at : tie.Need-add-at Inv-loop μ-loop
+add-at c = search needs
 
-element-requires : tie.Need-element-requires Inv-loop μ-loop
-element-requires c κs = search needs
+at-requires : tie.Need-at-requires Inv-loop μ-loop
+at-requires c κs = search needs
 
 cast-put-line : tie.Need-cast-put-line Inv-loop μ-loop
 cast-put-line c = search needs
@@ -64,7 +64,7 @@ loop-again c =
     let a = l .before .before .before .args in (
       search needs,
       turn (a .column) (a .first) (l .loop .option) (elementsOf 4 (a .totals .now)) _ _ _ _ _ _ _ (l .loop .inv .1)
-          (c .before .before .before .before .element .ensures) (c .before .before .put-line .ensures),
+          (c .before .before .before .before .at .ensures) (c .before .before .put-line .ensures),
     )
 
 same-length : tie.Need-same-length Inv-loop μ-loop
@@ -84,8 +84,8 @@ put-options-spec =
     Inv-loop
     μ-loop
     loop-holds
-    add-element
-    element-requires
+    add-at
+    at-requires
     cast-put-line
     put-line-requires
     add-option

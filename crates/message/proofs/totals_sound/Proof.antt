@@ -33,17 +33,17 @@ returns-3 c =
       ne-eqb _ _ (rw (c .before .accepted-count .ensures) at (c .if3 .taken)),
     )
 
-sub-elements-below : tie.Need-sub-elements-below
-sub-elements-below c = search needs
+sub-below : tie.Need-sub-below
+sub-below c = search needs
 
-part-elements-below-start : tie.Need-part-elements-below-start
-part-elements-below-start c = search needs
+part-below-start : tie.Need-part-below-start
+part-below-start c = search needs
 
-part-elements-below-end : tie.Need-part-elements-below-end
-part-elements-below-end c = search needs
+part-below-end : tie.Need-part-below-end
+part-below-end c = search needs
 
-elements-below-requires : tie.Need-elements-below-requires
-elements-below-requires c κs = search needs
+below-requires : tie.Need-below-requires
+below-requires c κs = search needs
 
 returns-4 : tie.Need-returns-4
 unfolding totalsSound
@@ -52,7 +52,7 @@ returns-4 c =
       eq-eqb _ _ (c .before .before .before .before .before .before .if1 .left),
       eq-eqb _ _ (c .before .before .before .before .if2 .left),
       eq-eqb _ _ (rw (c .before .before .before .accepted-count .ensures) at (c .before .before .if3 .left)),
-      c .elements-below .ensures,
+      c .below .ensures,
       to-end 6,
     )
 
@@ -66,8 +66,8 @@ totals-sound-spec =
     returns-2
     accepted-count-requires
     returns-3
-    sub-elements-below
-    part-elements-below-start
-    part-elements-below-end
-    elements-below-requires
+    sub-below
+    part-below-start
+    part-below-end
+    below-requires
     returns-4)

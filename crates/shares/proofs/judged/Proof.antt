@@ -13,26 +13,26 @@ use Rattle.shares.proofs.judged.Tie as tie
 share-size-requires : tie.Need-share-size-requires
 share-size-requires c κs = search needs
 
-sub-read-elements : tie.Need-sub-read-elements
-sub-read-elements c = search needs
+sub-read : tie.Need-sub-read
+sub-read c = search needs
 
-part-read-elements-start : tie.Need-part-read-elements-start
-part-read-elements-start c = search needs
+part-read-start : tie.Need-part-read-start
+part-read-start c = search needs
 
-part-read-elements-end : tie.Need-part-read-elements-end
-part-read-elements-end c = search needs
+part-read-end : tie.Need-part-read-end
+part-read-end c = search needs
 
 array-borrow-prefix-x : tie.Need-array-borrow-prefix-x
 array-borrow-prefix-x c = search needs
 
-slice-aggregate-read-elements : tie.Need-slice-aggregate-read-elements
-slice-aggregate-read-elements c =
+slice-aggregate-read : tie.Need-slice-aggregate-read
+slice-aggregate-read c =
     let z = c .before .before .share-size in
     let few : z .result ≤ 774 = omega (arith, z .ensures, c .before .before .before .before .before .pre .table .limited) in
     sym (length-take-le _ _ few)
 
-read-elements-requires : tie.Need-read-elements-requires
-read-elements-requires c κs =
+read-requires : tie.Need-read-requires
+read-requires c κs =
     let z = c .before .before .share-size in
     let p = c .before .before .before .before .before in
     let few : z .result ≤ 774 = omega (arith, z .ensures, p .pre .table .limited) in
@@ -55,7 +55,7 @@ array-share-prefix-x c =
     let z = c .before .before .before .before .before .before .share-size in
     let p = c .before .before .before .before .before .before .before .before .before in
     let few : z .result ≤ 774 = omega (arith, z .ensures, p .pre .table .limited) in
-    let x = c .before .before .before .read-elements in
+    let x = c .before .before .before .read in
     let l = x .kept .1 .0 ∙ length-take-le _ _ few in
     rw (length-append, l) (omega arith)
 
@@ -64,7 +64,7 @@ slice-aggregate-judge c =
     let z = c .before .before .before .before .before .before .before .share-size in
     let p = c .before .before .before .before .before .before .before .before .before .before in
     let few : z .result ≤ 774 = omega (arith, z .ensures, p .pre .table .limited) in
-    let x = c .before .before .before .before .read-elements in
+    let x = c .before .before .before .before .read in
     let l = x .kept .1 .0 ∙ length-take-le _ _ few in
     rw (take-at _ _ _ l) (sym l)
 
@@ -73,7 +73,7 @@ judge-requires c κs =
     let z = c .before .before .before .before .before .before .before .share-size in
     let p = c .before .before .before .before .before .before .before .before .before .before in
     let few : z .result ≤ 774 = omega (arith, z .ensures, p .pre .table .limited) in
-    let x = c .before .before .before .before .read-elements in
+    let x = c .before .before .before .before .read in
     let l = x .kept .1 .0 ∙ length-take-le _ _ few in
     let a = p .args in
     rw (take-at _ _ _ l)
@@ -84,7 +84,7 @@ returns c =
     let z = c .before .before .before .before .before .before .before .before .share-size in
     let p = c .before .before .before .before .before .before .before .before .before .before .before in
     let few : z .result ≤ 774 = omega (arith, z .ensures, p .pre .table .limited) in
-    let x = c .before .before .before .before .before .read-elements in
+    let x = c .before .before .before .before .before .read in
     let l = x .kept .1 .0 ∙ length-take-le _ _ few in
     let a = p .args in
     (rw (take-at _ _ _ l) at (c .judge .ensures)) ∙ worked-out (a .t .now) (a .k) (a .m .now) (a .r) (a .s) (p .pre) _ (x .ensures)
@@ -94,12 +94,12 @@ judged-spec =
     tie.close
     (tie.spec
     share-size-requires
-    sub-read-elements
-    part-read-elements-start
-    part-read-elements-end
+    sub-read
+    part-read-start
+    part-read-end
     array-borrow-prefix-x
-    slice-aggregate-read-elements
-    read-elements-requires
+    slice-aggregate-read
+    read-requires
     add-end
     sub-judge
     part-judge-start

@@ -18,22 +18,22 @@ returns c =
 share-part-requires : tie.Need-share-part-requires
 share-part-requires c κs = search needs
 
-elements-below-requires : tie.Need-elements-below-requires
-elements-below-requires c κs = search needs
+below-requires : tie.Need-below-requires
+below-requires c κs = search needs
 
 returns-2 : tie.Need-returns-2
 returns-2 c =
     let h = c .before .before .before .before .header-refusal in
     let a = c .before .before .before .before .before .before .args in
     message-sound (a .size) (a .own) (a .m .now) (rw (h .ensures) at (c .before .before .before .if1 .left))
-    (rw (c .before .before .share-part .ensures, c .if2 .taken) at (sym (c .before .elements-below .ensures)))
+    (rw (c .before .before .share-part .ensures, c .if2 .taken) at (sym (c .before .below .ensures)))
 
 returns-3 : tie.Need-returns-3
 returns-3 c =
     let h = c .before .before .before .before .header-refusal in
     let a = c .before .before .before .before .before .before .args in
     message-over (a .size) (a .own) (a .m .now) (rw (h .ensures) at (c .before .before .before .if1 .left))
-    (rw (c .before .before .share-part .ensures, c .if2 .left) at (sym (c .before .elements-below .ensures)))
+    (rw (c .before .before .share-part .ensures, c .if2 .left) at (sym (c .before .below .ensures)))
 
 pub message-refusal-spec : {M : Type 1} → statement M
 message-refusal-spec =
@@ -42,6 +42,6 @@ message-refusal-spec =
     header-refusal-requires
     returns
     share-part-requires
-    elements-below-requires
+    below-requires
     returns-2
     returns-3)

@@ -4,19 +4,19 @@ use borrow.Author.Needs.{needs}
 use Rattle.shares.proofs.write_waiting.Statement.{statement}
 use Rattle.shares.proofs.write_waiting.Tie as tie
 
-slice-aggregate-write-elements : tie.Need-slice-aggregate-write-elements
-slice-aggregate-write-elements c = search needs
+slice-aggregate-write : tie.Need-slice-aggregate-write
+slice-aggregate-write c = search needs
 
-write-elements-requires : tie.Need-write-elements-requires
-write-elements-requires c κs = search needs
+write-requires : tie.Need-write-requires
+write-requires c κs = search needs
 
 same-length : tie.Need-same-length
 same-length c = search needs
 
 returns : tie.Need-returns
 unfolding waitBytes
-returns c = c .before .before .write-elements .ensures
+returns c = c .before .before .write .ensures
 
 pub write-waiting-spec : {M : Type 1} → statement M
 write-waiting-spec =
-    tie.close (tie.spec slice-aggregate-write-elements write-elements-requires same-length returns)
+    tie.close (tie.spec slice-aggregate-write write-requires same-length returns)

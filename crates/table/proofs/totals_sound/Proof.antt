@@ -11,24 +11,24 @@ totals-place-requires c κs = search needs
 ids-place-requires : tie.Need-ids-place-requires
 ids-place-requires c κs = search needs
 
-sub-elements-below : tie.Need-sub-elements-below
-sub-elements-below c = search needs
+sub-below : tie.Need-sub-below
+sub-below c = search needs
 
-part-elements-below-start : tie.Need-part-elements-below-start
-part-elements-below-start c = search needs
+part-below-start : tie.Need-part-below-start
+part-below-start c = search needs
 
-part-elements-below-end : tie.Need-part-elements-below-end
-part-elements-below-end c = search needs
+part-below-end : tie.Need-part-below-end
+part-below-end c = search needs
 
-elements-below-requires : tie.Need-elements-below-requires
-elements-below-requires c κs = search needs
+below-requires : tie.Need-below-requires
+below-requires c κs = search needs
 
 returns : tie.Need-returns
 returns c =
     let a = c .before .before .before .before .before in
     cc (
       totals-cut (a .args .k) (a .args .t .now),
-      c .elements-below .ensures,
+      c .below .ensures,
       c .before .before .ids-place .ensures,
       c .before .before .before .totals-place .ensures,
     )
@@ -39,8 +39,8 @@ totals-sound-spec =
     (tie.spec
     totals-place-requires
     ids-place-requires
-    sub-elements-below
-    part-elements-below-start
-    part-elements-below-end
-    elements-below-requires
+    sub-below
+    part-below-start
+    part-below-end
+    below-requires
     returns)

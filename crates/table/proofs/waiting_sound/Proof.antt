@@ -48,21 +48,21 @@ returns c =
 add-share : tie.Need-add-share
 add-share c = search needs
 
-sub-elements-below : tie.Need-sub-elements-below
-sub-elements-below c = search needs
+sub-below : tie.Need-sub-below
+sub-below c = search needs
 
-part-elements-below-start : tie.Need-part-elements-below-start
-part-elements-below-start c = search needs
+part-below-start : tie.Need-part-below-start
+part-below-start c = search needs
 
-part-elements-below-end : tie.Need-part-elements-below-end
-part-elements-below-end c = search needs
+part-below-end : tie.Need-part-below-end
+part-below-end c = search needs
 
-elements-below-requires : tie.Need-elements-below-requires
-elements-below-requires c κs = search needs
+below-requires : tie.Need-below-requires
+below-requires c κs = search needs
 
 returns-2 : tie.Need-returns-2
 returns-2 c =
-    let words = c .before .elements-below in
+    let words = c .before .below in
     let one = c .before .before .before in
     let g = one .before in
     words-fail (pair-at (g .before)) (g .pair-sound .result) (g .pair-sound .ensures) (one .if1 .left)
@@ -77,26 +77,26 @@ mul-end c = search needs
 add-end : tie.Need-add-end
 add-end c = search needs
 
-sub-elements-below-2 : tie.Need-sub-elements-below-2
-sub-elements-below-2 c = search needs
+sub-below-2 : tie.Need-sub-below-2
+sub-below-2 c = search needs
 
-part-elements-below-start-2 : tie.Need-part-elements-below-start-2
-part-elements-below-start-2 c = search needs
+part-below-start-2 : tie.Need-part-below-start-2
+part-below-start-2 c = search needs
 
-part-elements-below-end-2 : tie.Need-part-elements-below-end-2
-part-elements-below-end-2 c = search needs
+part-below-end-2 : tie.Need-part-below-end-2
+part-below-end-2 c = search needs
 
-elements-below-requires-2 : tie.Need-elements-below-requires-2
-elements-below-requires-2 c κs = search needs
+below-requires-2 : tie.Need-below-requires-2
+below-requires-2 c κs = search needs
 
 returns-3 : tie.Need-returns-3
 returns-3 c =
     let size = c .before .before .share-size in
     let two = c .before .before .before in
-    let words = two .before .elements-below in
+    let words = two .before .below in
     let one = two .before .before .before in
     let g = one .before in
-    c .elements-below2 .ensures
+    c .below2 .ensures
     ∙ share-decides (pair-at (g .before)) (g .pair-sound .result) (g .pair-sound .ensures) (one .if1 .left)
     (words .result) (words .ensures) (two .if2 .left) (size .result) (size .ensures)
 
@@ -114,16 +114,16 @@ waiting-sound-spec =
     pair-sound-requires
     returns
     add-share
-    sub-elements-below
-    part-elements-below-start
-    part-elements-below-end
-    elements-below-requires
+    sub-below
+    part-below-start
+    part-below-end
+    below-requires
     returns-2
     share-size-requires
     mul-end
     add-end
-    sub-elements-below-2
-    part-elements-below-start-2
-    part-elements-below-end-2
-    elements-below-requires-2
+    sub-below-2
+    part-below-start-2
+    part-below-end-2
+    below-requires-2
     returns-3)

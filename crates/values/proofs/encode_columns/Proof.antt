@@ -88,8 +88,8 @@ loop-holds c =
 next-requires : tie.Need-next-requires Inv-loop μ-loop
 next-requires c κs = stands (c .before .before) (c .if1 .taken)
 
-element-requires : tie.Need-element-requires Inv-loop μ-loop
-element-requires c κs =
+at-requires : tie.Need-at-requires Inv-loop μ-loop
+at-requires c κs =
     let l = c .before .before .before in
     let z = l .before .before .before .before .before in
     let h = stands l (c .before .if1 .taken) in
@@ -117,7 +117,7 @@ loop-again c =
     let h = stands l (n .before .if1 .taken) in
     let e = n .next .ensures in (
       walk-next h _ e,
-      one-more _ _ (z .pre) h _ e _ _ _ (l .loop .inv .1) (c .before .before .before .before .before .element .ensures)
+      one-more _ _ (z .pre) h _ e _ _ _ (l .loop .inv .1) (c .before .before .before .before .before .at .ensures)
           (c .before .before .before .encode-column .ensures),
       search needs,
     )
@@ -147,7 +147,7 @@ encode-columns-spec =
     start-requires
     loop-holds
     next-requires
-    element-requires
+    at-requires
     encode-column-requires
     loop-less
     loop-again

@@ -98,8 +98,8 @@ next-requires c κs = stands (c .before .before) (c .if2 .taken)
 values-of-requires : tie.Need-values-of-requires Inv-loop μ-loop
 values-of-requires c κs = column-bounded (stands (c .before .before .before) (c .before .if2 .taken)) _ (c .next .ensures)
 
-element-requires : tie.Need-element-requires Inv-loop μ-loop
-element-requires c κs = search needs
+at-requires : tie.Need-at-requires Inv-loop μ-loop
+at-requires c κs = search needs
 
 returns-2 : tie.Need-returns-2 Inv-loop μ-loop
 returns-2 c =
@@ -107,7 +107,7 @@ returns-2 c =
     let h = stands l (c .before .before .before .before .if2 .taken) in
     let o =
     outside _ (each l) h _ (c .before .before .before .next .ensures) _ (c .before .before .values-of .ensures) _
-    (c .before .element .ensures) (c .if3 .taken) in
+    (c .before .at .ensures) (c .if3 .taken) in
     sym (values-each _ _ (each l) ∙ rw (l .loop .inv .1 ∙ o))
 
 loop-less : tie.Need-loop-less Inv-loop μ-loop
@@ -123,7 +123,7 @@ loop-again c =
     let e = c .before .before .before .before .next .ensures in (
       walk-next h _ e,
       l .loop .inv .1
-          ∙ inside _ (each l) h _ e _ (c .before .before .before .values-of .ensures) _ (c .before .before .element .ensures)
+          ∙ inside _ (each l) h _ e _ (c .before .before .before .values-of .ensures) _ (c .before .before .at .ensures)
           (c .before .if3 .left),
     )
 
@@ -151,7 +151,7 @@ values-refusal-spec =
     loop-holds
     next-requires
     values-of-requires
-    element-requires
+    at-requires
     returns-2
     loop-less
     loop-again

@@ -11,17 +11,17 @@ use borrow.Author.Needs.{needs}
 use Rattle.client.proofs.whole.fill_whole.Statement.{statement}
 use Rattle.client.proofs.whole.fill_whole.Tie as tie
 
-element-requires : tie.Need-element-requires
-element-requires c κs = search needs
+at-requires : tie.Need-at-requires
+at-requires c κs = search needs
 
-element-requires-2 : tie.Need-element-requires-2
-element-requires-2 c κs = search needs
+at-requires-2 : tie.Need-at-requires-2
+at-requires-2 c κs = search needs
 
-element-requires-3 : tie.Need-element-requires-3
-element-requires-3 c κs = search needs
+at-requires-3 : tie.Need-at-requires-3
+at-requires-3 c κs = search needs
 
-element-requires-4 : tie.Need-element-requires-4
-element-requires-4 c κs = search needs
+at-requires-4 : tie.Need-at-requires-4
+at-requires-4 c κs = search needs
 
 encode-columns-requires : tie.Need-encode-columns-requires
 encode-columns-requires c κs =
@@ -44,8 +44,8 @@ encode-h-requires c κs =
     let z = elementsOf 4 (s .args .random .now) in (
       legal-values (s .pre),
       place-of-h (s .pre) _ (c .before .before .before .put-two .kept .0 ∙ c7 .encode-columns .kept .1 .1 .0),
-      rw (c12 .element .ensures) (member-below z 0 (s .pre .elements)),
-      rw (c11 .element2 .ensures) (member-below z 1 (s .pre .elements)),
+      rw (c12 .at .ensures) (member-below z 0 (s .pre .elements)),
+      rw (c11 .at2 .ensures) (member-below z 1 (s .pre .elements)),
     )
 
 add-put-product : tie.Need-add-put-product
@@ -80,8 +80,8 @@ put-product-requires c κs =
     let z = elementsOf 4 (s .args .random .now) in
     let e = c .before .before .before .encode-h .kept .1 .1 .1 .1 .1 .1 .0 ∙ c7 .put-two .kept .0 ∙ c11 .encode-columns .kept .1 .1 .0 in (
       omega (arith, e, fits (s .pre)),
-      rw (c14 .element3 .ensures) (member-below z 2 (s .pre .elements)),
-      rw (c13 .element4 .ensures) (member-below z 3 (s .pre .elements)),
+      rw (c14 .at3 .ensures) (member-below z 2 (s .pre .elements)),
+      rw (c13 .at4 .ensures) (member-below z 3 (s .pre .elements)),
     )
 
 same-length : tie.Need-same-length
@@ -105,10 +105,10 @@ returns c =
       c6 .encode-h .ensures,
       c10 .put-two .ensures,
       c14 .encode-columns .ensures,
-      c19 .element .ensures,
-      c18 .element2 .ensures,
-      c17 .element3 .ensures,
-      c16 .element4 .ensures,
+      c19 .at .ensures,
+      c18 .at2 .ensures,
+      c17 .at3 .ensures,
+      c16 .at4 .ensures,
     )
     (whole-written _ _ (length-entries (legal-values (s .pre))) _ _ _ _ (a .w .now) (a .counts .entries) (a .counts .gates)
     (s .pre .long) (m .entries-are) (m .gates-are))
@@ -117,10 +117,10 @@ pub fill-whole-spec : {M : Type 1} → statement M
 fill-whole-spec =
     tie.close
     (tie.spec
-    element-requires
-    element-requires-2
-    element-requires-3
-    element-requires-4
+    at-requires
+    at-requires-2
+    at-requires-3
+    at-requires-4
     encode-columns-requires
     put-two-requires
     encode-h-requires

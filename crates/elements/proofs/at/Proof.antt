@@ -1,11 +1,11 @@
--- `words::element` meets its contract. Element i lies within the run, so it is the number of its four bytes
+-- `elements::at` meets its contract. Element i lies within the run, so it is the number of its four bytes
 -- (`element-within`). Assumes nothing.
 use mathlib.Core.Path.{sym, _∙_}
 use borrow.Author.Needs.{needs}
 use lib.Dec.{lit<}
 use Rattle.words.proofs.Elements.{element-within}
-use Rattle.words.proofs.element.Statement.{statement}
-use Rattle.words.proofs.element.Tie as tie
+use Rattle.elements.proofs.at.Statement.{statement}
+use Rattle.elements.proofs.at.Tie as tie
 
 mul-read-u32 : tie.Need-mul-read-u32
 mul-read-u32 c = search needs
@@ -18,5 +18,5 @@ returns c =
     let a = c .before .before in
     c .read-u32 .ensures ∙ sym (element-within 4 (lit< tt) (a .args .s .now) (a .args .i) (a .pre))
 
-pub element-spec : {M : Type 1} → statement M
-element-spec = tie.close (tie.spec mul-read-u32 read-u32-requires returns)
+pub at-spec : {M : Type 1} → statement M
+at-spec = tie.close (tie.spec mul-read-u32 read-u32-requires returns)

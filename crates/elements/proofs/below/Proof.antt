@@ -1,4 +1,4 @@
--- `words::elements_below` meets its contract. The loop's invariant: the answer is that of the elements from `at` on, where
+-- `elements::below` meets its contract. The loop's invariant: the answer is that of the elements from `at` on, where
 -- those before are all below (`test-next`), else false; the measure is what is left of the slice. Assumes nothing.
 use mathlib.Core.Path.{_≡_, refl, sym, _∙_}
 use mathlib.Core.Logic.{⊎-elim}
@@ -7,10 +7,10 @@ use Prim.Native.Nat.{_≤_, _-_}
 use borrow.Author.Needs.{needs}
 use lib.Dec.{lit<}
 use lib.ListN.{length, drop}
 use Rattle.words.specs.Bytes.{elementsOf, allBelow}
-use Rattle.words.proofs.Loops.{test-next, test-not, test-end}
-use Rattle.words.proofs.elements_below.Statement.{statement}
-use Rattle.words.proofs.elements_below.Tie as tie
+use Rattle.elements.proofs.Loops.{test-next, test-not, test-end}
+use Rattle.elements.proofs.below.Statement.{statement}
+use Rattle.elements.proofs.below.Tie as tie
 
 abbrev Inv-loop : tie.InvT-loop
 Inv-loop s bound at₀ below₀ at below =
@@ -61,7 +61,7 @@ returns c =
     sym (l .loop .inv .1
     ∙ test-end 4 (lit< tt) (a .args .bound) (a .args .s .now) (l .loop .at) (l .loop .below) (c .loop-test .left))
 
-pub elements-below-spec : {M : Type 1} → statement M
-elements-below-spec =
+pub below-spec : {M : Type 1} → statement M
+below-spec =
     tie.close
     (tie.spec Inv-loop μ-loop loop-holds sub-loop read-u32-requires add-at loop-less loop-again returns)

@@ -1,4 +1,4 @@
--- `words::read_elements` meets its contract. The loop's invariant: the first k places of `out` hold the table of elements
+-- `elements::read` meets its contract. The loop's invariant: the first k places of `out` hold the table of elements
 -- up to k, the others what they held (`fill-next`); the measure is what is left of `out`. Assumes nothing.
 use mathlib.Core.Path.{_≡_, refl, sym, _∙_}
 use mathlib.Core.List.{_++_}
@@ -9,10 +9,10 @@ use lib.Dec.{lit<}
 use lib.ListN.{length, drop, length-set}
 use Rattle.algebra.specs.Lists.{tabulate}
 use Rattle.algebra.proofs.Tables.{fill-none, fill-next, fill-all}
 use Rattle.words.specs.Bytes.{valueOf, part}
 use Rattle.words.proofs.Elements.{elements-whole}
-use Rattle.words.proofs.read_elements.Statement.{statement}
-use Rattle.words.proofs.read_elements.Tie as tie
+use Rattle.elements.proofs.read.Statement.{statement}
+use Rattle.elements.proofs.read.Tie as tie
 
 abbrev Inv-loop : tie.InvT-loop
 Inv-loop s out₀ k₀ out k =
@@ -65,8 +65,8 @@ returns c =
     (search needs) (search needs) (l .loop .inv .1)
     ∙ sym (elements-whole 4 (lit< tt) (a .args .s .now) (length (a .args .out .now)) (a .pre))
 
-pub read-elements-spec : {M : Type 1} → statement M
-read-elements-spec =
+pub read-spec : {M : Type 1} → statement M
+read-spec =
     tie.close
     (tie.spec
     Inv-loop

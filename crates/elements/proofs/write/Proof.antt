@@ -1,14 +1,14 @@
--- `words::write_elements` meets its contract. The loop's invariant: the first i elements are put there (`write-next`);
+-- `elements::write` meets its contract. The loop's invariant: the first i elements are put there (`write-next`);
 -- the measure is what is left of them. Assumes nothing.
 use mathlib.Core.Path.{_≡_, refl}
 use Prim.Native.Nat.{_≤_, _-_}
 use borrow.Author.Needs.{needs}
 use lib.ListN.{length, take}
 use lib.Seq.{take-all}
 use Rattle.words.specs.Bytes.{bytesOfAll, splice}
-use Rattle.words.proofs.Loops.{write-none, write-next}
-use Rattle.words.proofs.write_elements.Statement.{statement}
-use Rattle.words.proofs.write_elements.Tie as tie
+use Rattle.elements.proofs.Loops.{write-none, write-next}
+use Rattle.elements.proofs.write.Statement.{statement}
+use Rattle.elements.proofs.write.Tie as tie
 
 abbrev Inv-loop : tie.InvT-loop
 Inv-loop s₀ at xs i₀ s i = (i ≤ length xs) × (s ≡ splice s₀ at (bytesOfAll 4 (take i xs))) × (length s ≡ length s₀)
@@ -60,8 +60,8 @@ returns c =
     let a = l .before .before .before in
     cc (take-all (l .loop .i) (a .args .xs .now) (c .loop-test .left))
 
-pub write-elements-spec : {M : Type 1} → statement M
-write-elements-spec =
+pub write-spec : {M : Type 1} → statement M
+write-spec =
     tie.close
     (tie.spec
     Inv-loop

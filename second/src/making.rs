@@ -97,15 +97,19 @@ pub(crate) fn messages(id: u32, whole: &[u64], shares: &[u64]) -> Vec<u8> {
     let mut out = Vec::new();
     let all = std::iter::once(remains.as_slice()).chain(shares.chunks_exact(whole.len()));
     for (server, share) in (0u8..).zip(all) {
-        // "Share message: byte 33, id (4 bytes, any), server number (1), the elements."
-        out.push(SHARE);
-        out.extend_from_slice(&id.to_le_bytes());
-        out.push(server);
+        out.extend_from_slice(&header(id, server));
         for &element in share {
             field::put(&mut out, element);
         }
     }
     out
+}
+
+/// "Share message: byte 33, id (4 bytes, any), server number (1), the elements": all but the
+/// elements.
+pub(crate) fn header(id: u32, server: u8) -> [u8; 6] {
+    let [i0, i1, i2, i3] = id.to_le_bytes();
+    [SHARE, i0, i1, i2, i3, server]
 }
 
 /// A polynomial's values at 0 and at 1..M, in one list.

@@ -3,7 +3,7 @@
 use super::layout::{value, Word};
 use super::points::{signed, Run, CONSTANTS};
 use super::shape::Shape;
-use crate::fast::{fold, mul, negate, powers_sum, strict};
+use crate::fast::arithmetic::{fold, mul, negate, powers_sum, strict};
 use crate::field::P;
 use crate::judging::Findings;
 use crate::sheet::{Column, MAX_MULTIPLICATIONS, MAX_TESTS};

@@ -9,7 +9,8 @@
 //! The weight of j for degree n is (-1)^(n - j) / (j! (n - j)!).
 
 use super::layout::{value, Word};
-use crate::fast::{fold, mul, negate, product, strict, tables, LAST_POINT, TABLES};
+use crate::fast::arithmetic::{fold, mul, negate, product, strict};
+use crate::fast::constants::{tables, LAST_POINT, TABLES};
 
 /// Enough that the compiler makes vectors of them.
 const LANES: usize = 8;

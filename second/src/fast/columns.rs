@@ -1,0 +1,72 @@
+//! What a sheet's columns ask of a share: bit checks and test wires.
+
+use super::arithmetic::strict;
+use crate::field::P;
+use crate::sheet::{Column, Sheet};
+
+/// The entry of each bit check, in the order of the multiplications.
+pub(super) fn gate_entries(sheet: &Sheet) -> impl Iterator<Item = usize> + '_ {
+    let mut start = 0;
+    sheet.columns().iter().flat_map(move |column| {
+        let end = start + column.entries();
+        let first = end - column.multiplications();
+        start = end;
+        first..end
+    })
+}
+
+/// Columns as they are tested: neighbouring yes/no columns are taken together.
+#[derive(Clone, Copy, Debug)]
+pub(super) enum Group {
+    YesNo(usize),
+    Choice(usize),
+    Number(usize),
+}
+
+pub(super) fn groups(sheet: &Sheet) -> Vec<Group> {
+    let mut groups = Vec::new();
+    for &column in sheet.columns() {
+        match (column, groups.last_mut()) {
+            (Column::YesNo, Some(Group::YesNo(count))) => *count += 1,
+            (Column::YesNo, _) => groups.push(Group::YesNo(1)),
+            (Column::Choice(options), _) => groups.push(Group::Choice(usize::from(options))),
+            (Column::Number(bits), _) => groups.push(Group::Number(usize::from(bits))),
+        }
+    }
+    groups
+}
+
+/// Fills in the test wires, column by column, loose. `outputs` are h(1)..h(M).
+pub(super) fn test_wires(
+    tests: &mut Vec<u64>,
+    groups: &[Group],
+    first: bool,
+    mut entries: &[u64],
+    mut outputs: &[u64],
+) {
+    let minus_one = if first { P - 1 } else { 0 };
+    tests.clear();
+    for &group in groups {
+        // Each bit check tests its product.
+        let (Group::YesNo(checks) | Group::Choice(checks) | Group::Number(checks)) = group;
+        let (own, next) = outputs.split_at(checks);
+        tests.extend_from_slice(own);
+        outputs = next;
+        match group {
+            Group::YesNo(count) => entries = &entries[count..],
+            Group::Choice(options) => {
+                let (own, next) = entries.split_at(options);
+                entries = next;
+                tests.push(strict(own.iter().sum::<u64>() + minus_one));
+            }
+            // Below 2^31 + 2^55 before the reduction.
+            Group::Number(bits) => {
+                let (own, next) = entries.split_at(1 + bits);
+                entries = next;
+                let terms = own[1..].iter().zip(0u32..);
+                let sum: u64 = terms.map(|(&bit, j)| bit << j).sum();
+                tests.push(strict(sum + P - own[0]));
+            }
+        }
+    }
+}

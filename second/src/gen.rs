@@ -5,8 +5,10 @@
 //! that another implementation can be played against them. The same seed always gives
 //! the same data.
 
+mod any;
 mod cases;
 mod circuits;
+mod closings;
 mod hex;
 mod returns;
 mod rng;

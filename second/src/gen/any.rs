@@ -1,0 +1,56 @@
+//! Single arguments of calls, good and not.
+
+use super::{sheets, Rng};
+use crate::sheet::Sheet;
+
+/// A sheet, damaged in so many of a hundred cases.
+pub(super) fn any_sheet(rng: &mut Rng, max: usize, percent_damaged: u64) -> Vec<u8> {
+    if rng.chance(percent_damaged) {
+        return sheets::damaged_sheet(rng);
+    }
+    let mut sheet = sheets::sheet(rng, max);
+    // Sometimes a wide number, which is what refusal 4 is about.
+    if sheet.len() < 10 && max > 30 && rng.chance(30) {
+        sheet.truncate(0);
+        sheet.extend(rng.pick([&[17][..], &[], &[18, 3]]));
+        sheet.extend([19, rng.between(21, 24) as u8]);
+    }
+    sheet
+}
+
+/// An S, wrong in so many of a hundred cases.
+pub(super) fn any_servers(rng: &mut Rng, percent_wrong: u64) -> u32 {
+    if rng.chance(percent_wrong) {
+        rng.pick([0, 1, 9, 255, 256, 258, 65_538, u32::MAX])
+    } else {
+        rng.between(2, 8) as u32
+    }
+}
+
+/// An N, at the edge or past it in so many of a hundred cases.
+pub(super) fn any_limit(rng: &mut Rng, sheet: &[u8], percent_edge: u64) -> u32 {
+    let most = Sheet::read(sheet).map_or(1, |sheet| sheets::largest_limit(&sheet));
+    if rng.chance(percent_edge) {
+        let far = rng.pick([0, 1025, 65_537, u32::MAX]);
+        rng.pick([most, most + 1, most + 1, 1024, far])
+    } else {
+        rng.between(1, u64::from(most)) as u32
+    }
+}
+
+/// Room for so many bytes, too short in so many of a hundred cases.
+pub(super) fn any_room(rng: &mut Rng, needed: usize, percent_short: u64) -> usize {
+    if rng.chance(percent_short) {
+        let less = rng.index(needed + 1);
+        rng.pick([0, needed.saturating_sub(1), less])
+    } else {
+        let more = needed + rng.index(64);
+        rng.pick([needed, more, usize::MAX])
+    }
+}
+
+/// An id, often at the edges.
+pub(super) fn any_id(rng: &mut Rng) -> u32 {
+    let any = rng.next_u64() as u32;
+    rng.pick([0, 1, u32::MAX, any, any, any])
+}

@@ -1,0 +1,174 @@
+//! Random cases.
+
+use super::Case;
+use crate::circuit::circuit;
+use crate::gen::any::{any_id, any_limit, any_room, any_servers, any_sheet};
+use crate::gen::closings::{closing, damage_closings, recount_input};
+use crate::gen::{circuits, sheets, Rng};
+use crate::sheet::Sheet;
+
+impl Case {
+    /// A random case: half of them good, the rest with one fault or more.
+    pub fn random(rng: &mut Rng) -> Case {
+        match rng.below(6) {
+            0 => Case::random_circuit(rng),
+            1 => Case::random_read_circuit(rng),
+            2 => Case::random_make(rng),
+            3 => Case::random_open(rng),
+            4 => Case::random_join(rng),
+            _ => Case::random_recount(rng),
+        }
+    }
+
+    /// Sheet to circuit.
+    pub fn random_circuit(rng: &mut Rng) -> Case {
+        let sheet = any_sheet(rng, 256, 40);
+        let needed = circuit(&sheet, usize::MAX).map_or(0, |bytes| bytes.len());
+        let room = any_room(rng, needed, 20);
+        Case::Circuit { sheet, room }
+    }
+
+    /// Reading a circuit.
+    pub fn random_read_circuit(rng: &mut Rng) -> Case {
+        let (entries, bytes) = match rng.below(10) {
+            0..=2 => circuits::circuit(rng),
+            // A sheet's own circuit, with the right L or another.
+            3 => {
+                let sheet = sheets::sheet(rng, 256);
+                let bytes = circuit(&sheet, usize::MAX).unwrap_or_default();
+                let right = Sheet::read(&sheet).map_or(0, |sheet| sheet.entries() as u32);
+                (rng.pick([right, right, right - 1, right + 1, 256]), bytes)
+            }
+            _ => circuits::damaged_circuit(rng),
+        };
+        Case::ReadCircuit { entries, bytes }
+    }
+
+    /// Making a return.
+    pub fn random_make(rng: &mut Rng) -> Case {
+        let max = rng.pick([4, 12, 12, 40, 40, 120]);
+        let sheet = any_sheet(rng, max, 10);
+        let servers = any_servers(rng, 10);
+        let read = Sheet::read(&sheet);
+        let shape = Sheet::read(&[17]);
+        // For a damaged sheet the rest fits another sheet.
+        let (values, count, length) = match read.as_ref().or(shape.as_ref()) {
+            Ok(sheet) => {
+                let values = if rng.chance(15) {
+                    sheets::damaged_values(rng, sheet)
+                } else {
+                    sheets::values(rng, sheet)
+                };
+                (values, sheet.share_elements(), sheet.share_length())
+            }
+            Err(_) => (Vec::new(), 0, 0),
+        };
+        let small = servers.clamp(2, 8) as usize;
+        let needed = (small - 1) * count + 4;
+        let random = if rng.chance(15) {
+            sheets::damaged_elements(rng, needed)
+        } else {
+            sheets::elements(rng, needed)
+        };
+        Case::Make {
+            sheet,
+            servers,
+            id: any_id(rng),
+            values,
+            random,
+            room: any_room(rng, small * length, 15),
+        }
+    }
+
+    /// Opening a table.
+    pub fn random_open(rng: &mut Rng) -> Case {
+        let sheet = any_sheet(rng, 256, 20);
+        let servers = any_servers(rng, 15);
+        let own = if rng.chance(15) {
+            let any = rng.next_u64() as u32;
+            rng.pick([servers, servers.saturating_add(1), 256, u32::MAX, any])
+        } else {
+            rng.below(u64::from(servers.clamp(1, 8))) as u32
+        };
+        let limit = any_limit(rng, &sheet, 40);
+        Case::Open {
+            servers,
+            own,
+            sheet,
+            limit,
+        }
+    }
+
+    /// Joining closing messages.
+    pub fn random_join(rng: &mut Rng) -> Case {
+        let sheet = any_sheet(rng, 40, 10);
+        let servers = any_servers(rng, 10);
+        let limit = any_limit(rng, &sheet, 15);
+        let published = Sheet::read(&sheet).map_or(1, |sheet| sheet.published());
+        let count = match limit {
+            0 => 0,
+            _ => rng.below(u64::from(limit) + 1) as u32,
+        };
+        let mut joined = Vec::new();
+        for server in 0..servers.clamp(2, 8) {
+            joined.extend(closing(rng, server, count, published));
+        }
+        if rng.chance(40) {
+            damage_closings(rng, &mut joined, published, limit);
+        }
+        Case::Join {
+            servers,
+            sheet,
+            limit,
+            joined,
+            room: any_room(rng, 4 * published, 15),
+        }
+    }
+
+    /// The text of recount.
+    pub fn random_recount(rng: &mut Rng) -> Case {
+        let mut input = match Case::random_join(rng) {
+            Case::Join {
+                servers,
+                sheet,
+                limit,
+                joined,
+                ..
+            } => recount_input(servers, &sheet, limit, &joined),
+            _ => Vec::new(),
+        };
+        damage_input(rng, &mut input);
+        Case::Recount { input }
+    }
+}
+
+/// Puts a fault into the input of recount, or none.
+fn damage_input(rng: &mut Rng, input: &mut Vec<u8>) {
+    match rng.below(10) {
+        // Cut anywhere, often in the head.
+        0 => {
+            let keep = rng.index(input.len() + 1);
+            input.truncate(keep);
+        }
+        1 => {
+            let keep = rng.index(input.len().min(12) + 1);
+            input.truncate(keep);
+        }
+        // A sheet length that does not fit.
+        2 if input.len() >= 2 => {
+            let wrong = rng.pick([0u16, 1, 2, 300, 65_535]);
+            input[..2].copy_from_slice(&wrong.to_le_bytes());
+        }
+        // A sheet of the greatest length.
+        3 => {
+            let mut sheet = vec![17; 65_535];
+            if rng.chance(50) {
+                sheet[65_534] = rng.pick([18, 19, 20]);
+            }
+            *input = recount_input(2, &sheet, 1, &[]);
+            let cut = rng.below(5) as usize;
+            input.truncate(input.len() - cut);
+        }
+        _ => {}
+    }
+}

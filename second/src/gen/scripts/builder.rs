@@ -1,0 +1,137 @@
+//! A script under construction: the calls so far and the tables as these left them.
+
+use std::collections::BTreeMap;
+
+use super::{Answer, Call, Server, Step};
+use crate::gen::any::any_id;
+use crate::gen::{sheets, Origin, Return, Rng};
+use crate::judging::round_message;
+use crate::sheet::Sheet;
+use crate::table::{self, Table};
+
+/// A script under construction, with the tables as the calls left them.
+pub(super) struct Builder {
+    pub seed: u64,
+    pub rng: Rng,
+    pub servers: u32,
+    pub bytes: Vec<u8>,
+    pub sheet: Sheet,
+    pub limit: u32,
+    pub tables: Vec<Table>,
+    pub returns: Vec<Return>,
+    /// How many returns an orderly script sends.
+    pub planned: u64,
+    pub steps: Vec<Step>,
+    /// The round messages that were written, by id, kind byte and server.
+    pub written: BTreeMap<(u32, u8, u32), Vec<u8>>,
+    pub closings: BTreeMap<u32, Vec<u8>>,
+}
+
+impl Builder {
+    /// A script of a seed, before its first call.
+    pub fn new(seed: u64) -> Builder {
+        let mut rng = Rng::new(seed ^ 0x5EC0_4D00_0000_0000);
+        let servers = rng.between(2, 8) as u32;
+        let (max, planned) = match rng.below(20) {
+            0 => (256, rng.between(1, 2)),
+            1..=3 => (60, rng.between(1, 5)),
+            _ => (12, rng.between(2, 12)),
+        };
+        let (bytes, sheet) = loop {
+            let bytes = sheets::sheet(&mut rng, max);
+            if let Ok(sheet) = Sheet::read(&bytes) {
+                break (bytes, sheet);
+            }
+        };
+        // N a little above or below the number of returns, or large.
+        let most = sheets::largest_limit(&sheet);
+        let near = rng.between(1, planned + 2) as u32;
+        let limit = rng.pick([near, near, most, 1024]).min(most);
+        let tables = (0..servers)
+            .filter_map(|own| table::open(servers, own, &bytes, limit).ok())
+            .collect();
+        Builder {
+            seed,
+            rng,
+            servers,
+            bytes,
+            sheet,
+            limit,
+            tables,
+            returns: Vec::new(),
+            planned,
+            steps: Vec::new(),
+            written: BTreeMap::new(),
+            closings: BTreeMap::new(),
+        }
+    }
+
+    /// Carries out a call and notes it.
+    pub fn call(&mut self, server: u32, call: Call) -> Answer {
+        let answer = self.tables[server as usize].call(&call);
+        if let Answer::Message(message) = &answer {
+            if let Call::Close { .. } = call {
+                self.closings.insert(server, message.clone());
+            } else if let Some(id) = self.tables[server as usize].waiting_id() {
+                let place = (id, message[0], server);
+                self.written.insert(place, message.clone());
+            }
+        }
+        self.steps.push(Step {
+            server,
+            call,
+            answer: answer.clone(),
+        });
+        answer
+    }
+
+    /// The server numbers in random order.
+    pub fn order(&mut self) -> Vec<u32> {
+        let mut order: Vec<u32> = (0..self.servers).collect();
+        self.rng.shuffle(&mut order);
+        order
+    }
+
+    /// An id that no return of this script has yet.
+    fn fresh_id(&mut self) -> u32 {
+        loop {
+            let id = any_id(&mut self.rng);
+            if self.returns.iter().all(|known| known.id != id) {
+                return id;
+            }
+        }
+    }
+
+    /// Adds a return; gives its number.
+    pub fn new_return(&mut self) -> usize {
+        let id = self.fresh_id();
+        let origin = match self.rng.below(20) {
+            0..=9 => Origin::Honest,
+            10..=12 => Origin::Altered,
+            13 | 14 => Origin::FalseEntries,
+            15 => Origin::Forged,
+            16 | 17 => Origin::Lucky,
+            18 => Origin::FalseTriple,
+            _ => Origin::LuckyTriple,
+        };
+        let made = Return::random(&mut self.rng, &self.sheet, self.servers, id, origin);
+        self.returns.push(made);
+        self.returns.len() - 1
+    }
+
+    /// The messages written for an id and a round, in server order; where none was written,
+    /// a made-up one.
+    pub fn joined(&mut self, id: u32, kind: u8) -> Vec<u8> {
+        let mut joined = Vec::new();
+        for server in 0..self.servers {
+            match self.written.get(&(id, kind, server)) {
+                Some(message) => joined.extend_from_slice(message),
+                None => {
+                    let (x, y) = (self.rng.element(), self.rng.element());
+                    joined.extend(round_message(kind, id, server, x, y));
+                }
+            }
+        }
+        joined
+    }
+}

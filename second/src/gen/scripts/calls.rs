@@ -1,0 +1,75 @@
+//! The calls of a script, their answers, and the tables that take them.
+
+use crate::judging::ROUND_LENGTH;
+use crate::table::{self, Form, Table, Verdict};
+
+/// A call on a table.
+#[derive(Clone, Debug, PartialEq, Eq)]
+#[allow(missing_docs)]
+pub enum Call {
+    /// A share with its challenges.
+    Share {
+        message: Vec<u8>,
+        r: u64,
+        s: u64,
+        room: usize,
+    },
+    /// Round one's joined messages.
+    RoundOne { joined: Vec<u8>, room: usize },
+    /// Round two's joined messages.
+    RoundTwo { joined: Vec<u8> },
+    /// A drop.
+    Drop,
+    /// A close.
+    Close { room: usize },
+}
+
+/// The answer to a call.
+#[derive(Clone, Debug, PartialEq, Eq)]
+pub enum Answer {
+    /// The message that was written.
+    Message(Vec<u8>),
+    /// Round two's verdict.
+    Verdict(Verdict),
+    /// A drop was taken.
+    Dropped,
+    /// The refusal's number.
+    Refused(u32),
+}
+
+/// One call at one server, with the plain form's answer.
+#[derive(Clone, Debug, PartialEq, Eq)]
+pub struct Step {
+    /// The server's number.
+    pub server: u32,
+    /// The call.
+    pub call: Call,
+    /// The plain form's answer.
+    pub answer: Answer,
+}
+
+/// A table that takes the calls of a script.
+pub trait Server {
+    /// Carries out one call.
+    fn call(&mut self, call: &Call) -> Answer;
+}
+
+/// Tables of the plain and the fast form.
+impl<F: Form> Server for Table<F> {
+    fn call(&mut self, call: &Call) -> Answer {
+        let message = |bytes: [u8; ROUND_LENGTH]| Answer::Message(bytes.to_vec());
+        let answer = match call {
+            Call::Share {
+                message: share,
+                r,
+                s,
+                room,
+            } => table::share(self, share, *r, *s, *room).map(message),
+            Call::RoundOne { joined, room } => table::round_one(self, joined, *room).map(message),
+            Call::RoundTwo { joined } => table::round_two(self, joined).map(Answer::Verdict),
+            Call::Drop => table::drop(self).map(|()| Answer::Dropped),
+            Call::Close { room } => table::close(self, *room).map(Answer::Message),
+        };
+        answer.unwrap_or_else(Answer::Refused)
+    }
+}

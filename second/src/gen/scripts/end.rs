@@ -1,0 +1,93 @@
+//! The end of a script: its joins, and what must come out.
+
+use super::builder::Builder;
+use super::{Answer, Call, Script};
+use crate::field;
+use crate::gen::closings::{closing, damage_closings, recount_input};
+use crate::gen::{added_up, Case, Exchange};
+use crate::joining::Joined;
+use crate::table::Verdict;
+
+impl Builder {
+    /// Joins at the end: the closing messages as they are, then damaged ones.
+    fn joins(&mut self) -> Vec<Exchange> {
+        let published = self.sheet.published();
+        let mut joined = Vec::new();
+        for server in 0..self.servers {
+            match self.closings.get(&server) {
+                Some(message) => joined.extend_from_slice(message),
+                None => {
+                    let accepted = self.tables[server as usize].accepted();
+                    joined.extend(closing(&mut self.rng, server, accepted, published));
+                }
+            }
+        }
+        let join = |limit: u32, joined: Vec<u8>, room: usize| {
+            Exchange::of(Case::Join {
+                servers: self.servers,
+                sheet: self.bytes.clone(),
+                limit,
+                joined,
+                room,
+            })
+        };
+        let needed = field::WIDTH * published;
+        let mut joins = vec![
+            join(self.limit, joined.clone(), needed),
+            join(self.limit, joined.clone(), needed - 1),
+            join(self.tables[0].accepted(), joined.clone(), needed),
+        ];
+        for _ in 0..2 {
+            let mut damaged = joined.clone();
+            damage_closings(&mut self.rng, &mut damaged, published, self.limit);
+            joins.push(join(self.limit, damaged, needed));
+        }
+        let input = recount_input(self.servers, &self.bytes, self.limit, &joined);
+        joins.push(Exchange::of(Case::Recount { input }));
+        joins
+    }
+
+    /// The count and the totals of the returns that round two accepted.
+    fn truth(&self) -> Joined {
+        let mut count = 0;
+        let mut totals = vec![0; self.sheet.published()];
+        let mut waiting = None;
+        // All servers give the same verdict: server 0 is asked.
+        for step in self.steps.iter().filter(|step| step.server == 0) {
+            match (&step.call, &step.answer) {
+                (Call::Share { message, .. }, Answer::Message(_)) => {
+                    waiting = message.get(1..5).map(|id| [id[0], id[1], id[2], id[3]]);
+                }
+                (Call::RoundTwo { .. }, Answer::Verdict(Verdict::Accepted)) => {
+                    count += 1;
+                    let id = waiting.map(u32::from_le_bytes);
+                    let accepted = self.returns.iter().find(|given| Some(given.id) == id);
+                    let whole = accepted.and_then(|given| added_up(&self.sheet, &given.shares));
+                    let whole = whole.unwrap_or_default();
+                    for (total, entry) in totals.iter_mut().zip(self.sheet.published_entries()) {
+                        *total = field::add(*total, whole.get(entry).copied().unwrap_or(0));
+                    }
+                }
+                _ => {}
+            }
+        }
+        let totals = totals.into_iter().flat_map(field::bytes).collect();
+        Joined { count, totals }
+    }
+
+    /// The finished script.
+    pub fn finish(mut self, orderly: bool) -> Script {
+        let joins = self.joins();
+        let truth = orderly.then(|| self.truth());
+        Script {
+            seed: self.seed,
+            servers: self.servers,
+            sheet: self.bytes,
+            limit: self.limit,
+            returns: self.returns,
+            steps: self.steps,
+            joins,
+            truth,
+        }
+    }
+}

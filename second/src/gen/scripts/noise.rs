@@ -1,0 +1,155 @@
+//! Refused calls between the others.
+
+use super::builder::Builder;
+use super::{Answer, Call, Server};
+use crate::field::{self, P};
+use crate::gen::any::{any_id, any_room};
+use crate::gen::closings::swap;
+use crate::gen::{pair, sheets, Rng};
+use crate::judging::{ROUND_LENGTH, ROUND_ONE, ROUND_TWO};
+use crate::making::header;
+
+impl Builder {
+    /// Adds up to three refused calls at a server. A call that would be taken is left out.
+    pub fn noise(&mut self, server: u32) {
+        if self.rng.chance(50) {
+            return;
+        }
+        for _ in 0..self.rng.between(1, 3) {
+            let call = match self.rng.below(8) {
+                0..=2 => self.noise_share(server),
+                3 | 4 => self.noise_round(server, ROUND_ONE),
+                5 | 6 => self.noise_round(server, ROUND_TWO),
+                _ if self.rng.chance(50) => Call::Drop,
+                _ => Call::Close {
+                    room: any_room(&mut self.rng, self.sheet.closing_length(), 70),
+                },
+            };
+            let mut trial = self.tables[server as usize].clone();
+            if let Answer::Refused(_) = trial.call(&call) {
+                self.call(server, call);
+            }
+        }
+    }
+
+    /// A share with several faults, one or none.
+    fn noise_share(&mut self, server: u32) -> Call {
+        let rng = &mut self.rng;
+        let percent = rng.pick([5, 15, 40]);
+        let decided = self.tables[server as usize].decided();
+        let id = if !decided.is_empty() && rng.chance(50) {
+            decided[rng.index(decided.len())]
+        } else {
+            any_id(rng)
+        };
+        let elements = self.sheet.share_elements();
+        let gates = self.sheet.multiplications();
+        let mut message = header(id, server as u8).to_vec();
+        message.extend(sheets::elements(rng, elements));
+        let (mut r, mut s) = pair(rng, gates);
+        damage_share(rng, percent, &mut message, elements);
+        if rng.chance(percent) {
+            r = wrong_r(rng, gates as u64);
+        }
+        if rng.chance(percent) {
+            let far = rng.between(P, u64::MAX - 1);
+            s = rng.pick([P, P + 1, 1 << 32, (1 << 32) + 1, far, u64::MAX]);
+        }
+        let mut room = ROUND_LENGTH;
+        if rng.chance(percent) {
+            room = rng.index(ROUND_LENGTH);
+        }
+        Call::Share {
+            message,
+            r,
+            s,
+            room,
+        }
+    }
+
+    /// A round's joined messages with several faults, one or none.
+    fn noise_round(&mut self, server: u32, kind: u8) -> Call {
+        let id = match self.tables[server as usize].waiting_id() {
+            Some(id) => id,
+            None => any_id(&mut self.rng),
+        };
+        let mut joined = self.joined(id, kind);
+        let mut room = ROUND_LENGTH;
+        for _ in 0..self.rng.between(1, 2) {
+            if joined.len() < ROUND_LENGTH {
+                break;
+            }
+            let own = ROUND_LENGTH * server as usize;
+            damage_round(&mut self.rng, own, kind, &mut joined, &mut room);
+        }
+        if kind == ROUND_ONE {
+            Call::RoundOne { joined, room }
+        } else {
+            Call::RoundTwo { joined }
+        }
+    }
+}
+
+/// Puts faults into a share message, each in so many of a hundred cases.
+fn damage_share(rng: &mut Rng, percent: u64, message: &mut Vec<u8>, elements: usize) {
+    if rng.chance(percent) {
+        message[0] = rng.pick([0, 17, 32, 34, 35, 36, 255]);
+    }
+    if rng.chance(percent) {
+        message[5] = rng.pick([0, 1, 2, 7, 8, 255]);
+    }
+    if rng.chance(percent) {
+        let at = 6 + 4 * rng.index(elements);
+        message[at..at + 4].copy_from_slice(&rng.no_element().to_le_bytes());
+    }
+    if rng.chance(percent) {
+        let any = rng.index(message.len());
+        let n = message.len();
+        let length = rng.pick([0, 1, 5, 6, any, n - 4, n - 1, n + 1, n + 4]);
+        message.resize(length, 0);
+    }
+}
+
+/// An r outside its range.
+fn wrong_r(rng: &mut Rng, gates: u64) -> u64 {
+    let far = rng.between(P, u64::MAX - 1);
+    let wide = 1 << 32;
+    let cut = wide + gates + 1;
+    rng.pick([0, 1, gates, P, P + 1, wide + 4, cut, far, u64::MAX])
+}
+
+/// Puts a fault into a round's joined messages, or makes the room short. `own` is where the
+/// server's own message stands.
+fn damage_round(rng: &mut Rng, own: usize, kind: u8, joined: &mut Vec<u8>, room: &mut usize) {
+    let places = joined.len() / ROUND_LENGTH;
+    let start = ROUND_LENGTH * rng.index(places);
+    let other = ROUND_LENGTH * rng.index(places);
+    match rng.below(9) {
+        0 => joined[start] = rng.pick([0, 33, ROUND_ONE, ROUND_TWO, 36]),
+        1 => joined[start + 1 + rng.index(4)] ^= rng.pick([1, 16, 128]),
+        2 => joined[start + 5] = rng.pick([0, 1, 2, 7, 8, 255]),
+        3 => {
+            let at = start + rng.pick([6, 10]);
+            joined[at..at + 4].copy_from_slice(&rng.no_element().to_le_bytes());
+        }
+        // The own message altered, still with sound elements.
+        4 if own + ROUND_LENGTH <= joined.len() => {
+            let at = own + rng.pick([6, 10]);
+            joined[at..at + 4].copy_from_slice(&field::bytes(rng.element()));
+        }
+        5 => swap(joined, start, other, ROUND_LENGTH),
+        6 => {
+            let any = rng.index(joined.len());
+            let n = joined.len();
+            let length = rng.pick([0, 13, 14, any, n - 14, n - 1, n + 1, n + 14]);
+            joined.resize(length, 0);
+        }
+        // The other round's messages.
+        7 => {
+            for message in joined.chunks_exact_mut(ROUND_LENGTH) {
+                message[0] = ROUND_ONE + ROUND_TWO - kind;
+            }
+        }
+        _ => *room = rng.index(ROUND_LENGTH),
+    }
+}

@@ -1,16 +1,18 @@
-//! "Sheet and circuit", second half: a sheet's circuit and the circuit reader.
+//! "Sheet and circuit", second half: circuits, their steps and their runs.
+
+mod build;
+mod read;
 
 use crate::field::{self, P};
 use crate::refusal;
-use crate::sheet::{Column, Sheet, MAX_ENTRIES, MAX_MULTIPLICATIONS, MAX_TESTS};
+use crate::sheet::Sheet;
+use build::Builder;
+pub use read::read_circuit;
 
 /// Circuit bytes, at most.
 pub const MAX_BYTES: usize = 17_920;
 /// Wires, at most.
 pub const MAX_WIRES: usize = 2_048;
-
-/// "The body lengths of step kinds 1 to 6 are 4, 2, 4, 6, 4 and 2 bytes."
-const BODY_LENGTHS: [usize; 6] = [4, 2, 4, 6, 4, 2];
 
 /// One step of a circuit.
 #[derive(Clone, Copy, Debug, PartialEq, Eq)]
@@ -84,37 +86,7 @@ impl Circuit {
         let minus_one = builder.make(Step::Constant(P - 1));
         let mut entry = 0;
         for column in sheet.columns() {
-            match *column {
-                // "Kind 17 is one bit check."
-                Column::YesNo => {
-                    builder.bit_check(entry, minus_one);
-                }
-                // "B bit checks; then, from wire 0, add each option's entry wire in
-                // order; test the last sum."
-                Column::Choice(options) => {
-                    let wires: Vec<u16> = (0..u16::from(options))
-                        .map(|option| builder.bit_check(entry + option, minus_one))
-                        .collect();
-                    let last = wires.iter().fold(minus_one, |running, &wire| {
-                        builder.make(Step::Add(running, wire))
-                    });
-                    builder.steps.push(Step::Test(last));
-                }
-                // "Entry v; b bit checks; v times p - 1; for each bit j from 0, bit
-                // wire times 2^j, then add the running sum and it; test the last sum."
-                Column::Number(bits) => {
-                    let value = builder.make(Step::Entry(entry));
-                    let wires: Vec<u16> = (0..u16::from(bits))
-                        .map(|bit| builder.bit_check(entry + 1 + bit, minus_one))
-                        .collect();
-                    let start = builder.make(Step::Scale(value, P - 1));
-                    let last = wires.iter().zip(0u32..).fold(start, |running, (&wire, j)| {
-                        let term = builder.make(Step::Scale(wire, 1 << j));
-                        builder.make(Step::Add(running, term))
-                    });
-                    builder.steps.push(Step::Test(last));
-                }
-            }
+            builder.column(*column, entry, minus_one);
             entry += column.entries() as u16;
         }
         Circuit {
@@ -220,32 +192,6 @@ pub(crate) struct Run {
     pub tests: Vec<u64>,
 }
 
-/// Steps under construction; "kinds 1 to 5 each make the next wire, from 0".
-#[derive(Default)]
-struct Builder {
-    steps: Vec<Step>,
-    wires: u16,
-}
-
-impl Builder {
-    /// Adds a step that makes a wire; gives the wire's number.
-    fn make(&mut self, step: Step) -> u16 {
-        self.steps.push(step);
-        self.wires += 1;
-        self.wires - 1
-    }
-
-    /// "A bit check of entry e: entry e; add it and wire 0; multiply the entry wire by
-    /// that sum; test the product." Gives the entry wire.
-    fn bit_check(&mut self, entry: u16, minus_one: u16) -> u16 {
-        let bit = self.make(Step::Entry(entry));
-        let less_one = self.make(Step::Add(bit, minus_one));
-        let product = self.make(Step::Multiply(bit, less_one));
-        self.steps.push(Step::Test(product));
-        bit
-    }
-}
-
 /// Sheet to circuit. Order of refusals: sheet, 14.
 pub fn circuit(sheet: &[u8], room: usize) -> Result<Vec<u8>, u32> {
     let bytes = Circuit::of(&Sheet::read(sheet)?).bytes();
@@ -253,84 +199,4 @@ pub fn circuit(sheet: &[u8], room: usize) -> Result<Vec<u8>, u32> {
         return Err(refusal::ROOM);
     }
     Ok(bytes)
-}
-
-/// Reads a circuit of L entries. "Reading stops at the first record at fault, and its
-/// number is the refusal: kind and cut, then counts and constants, then wires and
-/// entries; the total limits last (L of a circuit and its bytes before any step)."
-pub fn read_circuit(entries: u32, bytes: &[u8]) -> Result<Circuit, u32> {
-    if !(1..=MAX_ENTRIES).contains(&u64::from(entries)) || bytes.len() > MAX_BYTES {
-        return Err(refusal::LIMIT);
-    }
-    let mut circuit = Circuit {
-        entries: entries as usize,
-        steps: Vec::new(),
-        wires: 0,
-        multiplications: 0,
-        tests: 0,
-    };
-    let mut rest = bytes;
-    while let Some((&kind, after_kind)) = rest.split_first() {
-        // Kind and cut.
-        let length = usize::from(kind)
-            .checked_sub(1)
-            .and_then(|index| BODY_LENGTHS.get(index))
-            .ok_or(refusal::KIND)?;
-        let (body, next) = after_kind.split_at_checked(*length).ok_or(refusal::KIND)?;
-        let step = read_step(kind, body).ok_or(refusal::KIND)?;
-        check_step(&circuit, step)?;
-        match step {
-            Step::Multiply(..) => {
-                circuit.multiplications += 1;
-                circuit.wires += 1;
-            }
-            Step::Test(_) => circuit.tests += 1,
-            _ => circuit.wires += 1,
-        }
-        circuit.steps.push(step);
-        rest = next;
-    }
-    if circuit.wires > MAX_WIRES
-        || !(1..=MAX_MULTIPLICATIONS).contains(&(circuit.multiplications as u64))
-        || !(1..=MAX_TESTS).contains(&(circuit.tests as u64))
-    {
-        return Err(refusal::LIMIT);
-    }
-    Ok(circuit)
-}
-
-/// The step of a kind and a body of that kind's length.
-fn read_step(kind: u8, body: &[u8]) -> Option<Step> {
-    let short = |low: u8, high: u8| u16::from_le_bytes([low, high]);
-    let long = |bytes: [u8; 4]| u64::from(u32::from_le_bytes(bytes));
-    Some(match (kind, body) {
-        (1, &[a, b, c, d]) => Step::Constant(long([a, b, c, d])),
-        (2, &[a, b]) => Step::Entry(short(a, b)),
-        (3, &[a, b, c, d]) => Step::Add(short(a, b), short(c, d)),
-        (4, &[a, b, c, d, e, f]) => Step::Scale(short(a, b), long([c, d, e, f])),
-        (5, &[a, b, c, d]) => Step::Multiply(short(a, b), short(c, d)),
-        (6, &[a, b]) => Step::Test(short(a, b)),
-        _ => return None,
-    })
-}
-
-/// Constants first (refusal 2), then wires and entries (refusal 3).
-fn check_step(circuit: &Circuit, step: Step) -> Result<(), u32> {
-    if let Step::Constant(constant) | Step::Scale(_, constant) = step {
-        if constant >= P {
-            return Err(refusal::LIMIT);
-        }
-    }
-    let made = |wire: u16| usize::from(wire) < circuit.wires;
-    let sound = match step {
-        Step::Constant(_) => true,
-        Step::Entry(entry) => usize::from(entry) < circuit.entries,
-        Step::Add(left, right) | Step::Multiply(left, right) => made(left) && made(right),
-        Step::Scale(wire, _) | Step::Test(wire) => made(wire),
-    };
-    if sound {
-        Ok(())
-    } else {
-        Err(refusal::WIRE)
-    }
 }

@@ -1,0 +1,66 @@
+//! A sheet's circuit, column by column.
+
+use super::Step;
+use crate::field::P;
+use crate::sheet::Column;
+
+/// Steps under construction; "kinds 1 to 5 each make the next wire, from 0".
+#[derive(Default)]
+pub(super) struct Builder {
+    pub steps: Vec<Step>,
+    pub wires: u16,
+}
+
+impl Builder {
+    /// Adds a step that makes a wire; gives the wire's number.
+    pub fn make(&mut self, step: Step) -> u16 {
+        self.steps.push(step);
+        self.wires += 1;
+        self.wires - 1
+    }
+
+    /// Adds a column's steps; `entry` is its first entry.
+    pub fn column(&mut self, column: Column, entry: u16, minus_one: u16) {
+        match column {
+            // "Kind 17 is one bit check."
+            Column::YesNo => {
+                self.bit_check(entry, minus_one);
+            }
+            // "B bit checks; then, from wire 0, add each option's entry wire in
+            // order; test the last sum."
+            Column::Choice(options) => {
+                let wires: Vec<u16> = (0..u16::from(options))
+                    .map(|option| self.bit_check(entry + option, minus_one))
+                    .collect();
+                let last = wires.iter().fold(minus_one, |running, &wire| {
+                    self.make(Step::Add(running, wire))
+                });
+                self.steps.push(Step::Test(last));
+            }
+            // "Entry v; b bit checks; v times p - 1; for each bit j from 0, bit
+            // wire times 2^j, then add the running sum and it; test the last sum."
+            Column::Number(bits) => {
+                let value = self.make(Step::Entry(entry));
+                let wires: Vec<u16> = (0..u16::from(bits))
+                    .map(|bit| self.bit_check(entry + 1 + bit, minus_one))
+                    .collect();
+                let start = self.make(Step::Scale(value, P - 1));
+                let last = wires.iter().zip(0u32..).fold(start, |running, (&wire, j)| {
+                    let term = self.make(Step::Scale(wire, 1 << j));
+                    self.make(Step::Add(running, term))
+                });
+                self.steps.push(Step::Test(last));
+            }
+        }
+    }
+
+    /// "A bit check of entry e: entry e; add it and wire 0; multiply the entry wire by
+    /// that sum; test the product." Gives the entry wire.
+    fn bit_check(&mut self, entry: u16, minus_one: u16) -> u16 {
+        let bit = self.make(Step::Entry(entry));
+        let less_one = self.make(Step::Add(bit, minus_one));
+        let product = self.make(Step::Multiply(bit, less_one));
+        self.steps.push(Step::Test(product));
+        bit
+    }
+}

@@ -4,7 +4,11 @@
 pub mod lent_table;
 
 use second::field::{self, P};
-use second::{open, round_one, round_two, share, Table, Verdict};
+use second::gen::{self, Rng};
+use second::{make, open, round_one, round_two, share, Sheet, Table, Verdict};
+
+/// p as a 4-byte number.
+pub const P32: u32 = P as u32;
 
 /// Room that never runs out.
 pub const ROOM: usize = usize::MAX;
@@ -18,6 +22,20 @@ pub fn hex(text: &str) -> Vec<u8> {
 /// 4 bytes to a number, lowest byte first.
 pub fn words(numbers: &[u32]) -> Vec<u8> {
     numbers.iter().flat_map(|n| n.to_le_bytes()).collect()
+}
+
+/// The bytes with others in their place from a position on.
+pub fn with(bytes: &[u8], at: usize, others: &[u8]) -> Vec<u8> {
+    let mut bytes = bytes.to_vec();
+    bytes[at..at + others.len()].copy_from_slice(others);
+    bytes
+}
+
+/// The bytes cut or filled up with zeros to a length.
+pub fn resized(bytes: &[u8], length: usize) -> Vec<u8> {
+    let mut bytes = bytes.to_vec();
+    bytes.resize(length, 0);
+    bytes
 }
 
 /// A share message.
@@ -79,4 +97,21 @@ pub fn judge(
         .collect();
     assert!(verdicts.iter().all(|verdict| *verdict == verdicts[0]));
     (first, second, verdicts[0])
+}
+
+/// The share messages of a return that was made, one for each server.
+pub fn split(sheet: &Sheet, messages: &[u8]) -> Vec<Vec<u8>> {
+    let shares = messages.chunks(sheet.share_length());
+    shares.map(<[u8]>::to_vec).collect()
+}
+
+/// An honest return of a sheet, as share messages.
+pub fn honest(sheet: &[u8], servers: u32, id: u32) -> Vec<Vec<u8>> {
+    let mut rng = Rng::new(u64::from(id) + 100);
+    let shape = Sheet::read(sheet).unwrap();
+    let count = (servers as usize - 1) * shape.share_elements() + 4;
+    let values = gen::values(&mut rng, &shape);
+    let random = gen::elements(&mut rng, count);
+    let messages = make(sheet, servers, id, &values, &random, ROOM).unwrap();
+    split(&shape, &messages)
 }

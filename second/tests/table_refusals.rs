@@ -1,0 +1,271 @@
+//! The refusals of the calls on a table, and their order.
+
+mod common;
+
+use common::*;
+use second::field::P;
+use second::{close, drop, open, round_one, round_two, share, Sheet, Stage, Table, Verdict};
+
+/// A call that is refused with this number and changes nothing.
+fn refused<T: std::fmt::Debug + PartialEq>(
+    table: &mut Table,
+    number: u32,
+    call: impl FnOnce(&mut Table) -> Result<T, u32>,
+) {
+    let before = table.clone();
+    assert_eq!(call(table), Err(number));
+    assert_eq!(*table, before);
+}
+
+/// Two tables that await round one, with the joined messages of round one.
+fn waiting(sheet: &[u8], limit: u32) -> (Vec<Table>, Vec<u8>) {
+    let mut tables = open_all(2, sheet, limit);
+    let shares = honest(sheet, 2, 7);
+    let mut joined = Vec::new();
+    for (table, message) in tables.iter_mut().zip(&shares) {
+        joined.extend(share(table, message, 100, 3, 14).unwrap());
+    }
+    (tables, joined)
+}
+
+/// Takes round one at every table; gives the joined messages of round two.
+fn second_round(tables: &mut [Table], first: &[u8]) -> Vec<u8> {
+    let messages = tables.iter_mut().map(|table| round_one(table, first, 14));
+    messages.flat_map(Result::unwrap).collect()
+}
+
+#[test]
+fn share_order() {
+    let sheet = [17, 18, 2];
+    let shape = Sheet::read(&sheet).unwrap();
+    let (mut tables, _) = waiting(&sheet, 1);
+    let table = &mut tables[0];
+
+    // 11 while a return waits, however broken the share.
+    refused(table, 11, |t| share(t, &[], 0, P, 0));
+    // 13 when N are decided, however broken the share.
+    drop(table).unwrap();
+    refused(table, 13, |t| share(t, &[], 0, P, 0));
+    close(table, ROOM).unwrap();
+    refused(table, 11, |t| share(t, &[], 0, P, 0));
+
+    // The rest with room for another return. One fault after the other goes away.
+    let (mut tables, _) = waiting(&sheet, 2);
+    let table = &mut tables[0];
+    drop(table).unwrap();
+    let used = &honest(&sheet, 2, 7)[0];
+    let fresh = &honest(&sheet, 2, 8)[0];
+    assert_eq!(used.len(), shape.share_length());
+    let large = with(used, 10, &P32.to_le_bytes());
+    let wrong = with(&large, 0, &[34]);
+    refused(table, 7, |t| share(t, &wrong, 0, P, 0));
+    refused(table, 8, |t| share(t, &large, 0, P, 0));
+    refused(table, 10, |t| share(t, used, 0, P, 0));
+    refused(table, 9, |t| share(t, fresh, 0, P, 0));
+    refused(table, 9, |t| share(t, fresh, 0, 0, 0));
+    refused(table, 9, |t| share(t, fresh, 100, P, 0));
+    refused(table, 14, |t| share(t, fresh, 100, 0, 0));
+    refused(table, 14, |t| share(t, fresh, 100, 0, 13));
+    // Refused 9 and 14 leave the id unused.
+    assert!(share(table, fresh, 100, 0, 14).is_ok());
+}
+
+#[test]
+fn share_message_faults() {
+    let sheet = [17, 19, 3];
+    let shares = honest(&sheet, 3, 1);
+    let mut table = open(3, 1, &sheet, 5).unwrap();
+    let good = &shares[1];
+    // Every other kind byte, every other server.
+    for byte in (0..=255).filter(|&byte| byte != 33) {
+        let message = with(good, 0, &[byte]);
+        refused(&mut table, 7, |t| share(t, &message, 100, 0, 14));
+    }
+    for byte in (0..=255).filter(|&byte| byte != 1) {
+        let message = with(good, 5, &[byte]);
+        refused(&mut table, 7, |t| share(t, &message, 100, 0, 14));
+    }
+    // Every shorter length, some longer ones.
+    for length in (0..good.len()).chain([good.len() + 1, good.len() + 4, good.len() + 1000]) {
+        let message = resized(good, length);
+        refused(&mut table, 7, |t| share(t, &message, 100, 0, 14));
+    }
+    // Every element.
+    for at in (6..good.len()).step_by(4) {
+        for large in [P32, P32 + 1, u32::MAX] {
+            let message = with(good, at, &large.to_le_bytes());
+            refused(&mut table, 8, |t| share(t, &message, 100, 0, 14));
+        }
+    }
+    challenges(&mut table, good);
+}
+
+/// Challenges outside their range, never cut: M = 4.
+fn challenges(table: &mut Table, good: &[u8]) {
+    for r in [
+        0,
+        1,
+        3,
+        4,
+        P,
+        P + 1,
+        (1 << 32) + 4,
+        (1 << 32) + 100,
+        u64::MAX,
+    ] {
+        refused(table, 9, |t| share(t, good, r, 0, 14));
+    }
+    for s in [P, P + 1, 1 << 32, (1 << 32) + 1, u64::MAX] {
+        refused(table, 9, |t| share(t, good, 5, s, 14));
+    }
+    for (r, s) in [(5, 0), (8, P - 1), (9, 1), (P - 1, P - 1)] {
+        assert!(share(&mut table.clone(), good, r, s, 14).is_ok());
+    }
+}
+
+#[test]
+fn stages() {
+    let sheet = [17];
+    let (mut tables, first) = waiting(&sheet, 3);
+    let mut idle = open(2, 0, &sheet, 3).unwrap();
+    assert_eq!(idle.stage(), Stage::Idle);
+    // Idle takes a share or a close.
+    refused(&mut idle, 11, |t| round_one(t, &first, 14));
+    refused(&mut idle, 11, |t| round_two(t, &first));
+    refused(&mut idle, 11, drop);
+    // Awaiting round one takes that round or a drop.
+    let shares = honest(&sheet, 2, 9);
+    let table = &mut tables[0];
+    assert_eq!(table.stage(), Stage::AwaitsRoundOne);
+    refused(table, 11, |t| share(t, &shares[0], 100, 0, 14));
+    refused(table, 11, |t| round_two(t, &first));
+    refused(table, 11, |t| close(t, ROOM));
+    assert_eq!(drop(&mut table.clone()), Ok(()));
+    // Awaiting round two likewise.
+    let second = second_round(&mut tables, &first);
+    let table = &mut tables[0];
+    assert_eq!(table.stage(), Stage::AwaitsRoundTwo);
+    refused(table, 11, |t| share(t, &shares[0], 100, 0, 14));
+    refused(table, 11, |t| round_one(t, &first, 14));
+    refused(table, 11, |t| close(t, ROOM));
+    assert_eq!(drop(&mut table.clone()), Ok(()));
+    assert_eq!(round_two(table, &second), Ok(Verdict::Accepted));
+    assert_eq!(table.stage(), Stage::Idle);
+    refused(table, 11, |t| round_two(t, &second));
+    refused(table, 11, drop);
+    // Closed takes nothing.
+    close(table, ROOM).unwrap();
+    assert_eq!(table.stage(), Stage::Closed);
+    refused(table, 11, |t| share(t, &shares[0], 100, 0, 14));
+    refused(table, 11, |t| round_one(t, &first, 14));
+    refused(table, 11, |t| round_two(t, &second));
+    refused(table, 11, drop);
+    refused(table, 11, |t| close(t, ROOM));
+}
+
+/// Joined messages with every kind of fault, one at a time.
+fn damaged(joined: &[u8]) -> Vec<Vec<u8>> {
+    // Every shorter length, some longer ones.
+    let lengths = (0..joined.len()).chain([joined.len() + 1, joined.len() + 14]);
+    let mut all: Vec<Vec<u8>> = lengths.map(|length| resized(joined, length)).collect();
+    for start in [0, 14] {
+        // Kind, id and server bytes.
+        for at in start..start + 6 {
+            all.extend((0..8).map(|bit| with(joined, at, &[joined[at] ^ 1 << bit])));
+        }
+        for at in [start + 6, start + 10] {
+            all.extend(
+                [P32, P32 + 1, u32::MAX].map(|large| with(joined, at, &large.to_le_bytes())),
+            );
+        }
+    }
+    all.push([&joined[14..], &joined[..14]].concat());
+    all
+}
+
+/// Joined messages with one of the elements at a place altered.
+fn altered(joined: &[u8], place: usize) -> [Vec<u8>; 2] {
+    [6, 10].map(|at| {
+        let at = 14 * place + at;
+        let old = u32::from_le_bytes(joined[at..at + 4].try_into().unwrap());
+        with(joined, at, &((old + 1) % P32).to_le_bytes())
+    })
+}
+
+#[test]
+fn joined_rounds() {
+    let (mut tables, first) = waiting(&[18, 2], 3);
+    for (place, table) in tables.iter_mut().enumerate() {
+        for wrong in damaged(&first) {
+            refused(table, 12, |t| round_one(t, &wrong, 14));
+            refused(table, 12, |t| round_one(t, &wrong, 0));
+        }
+        for wrong in altered(&first, place) {
+            refused(table, 12, |t| round_one(t, &wrong, 14));
+        }
+        refused(table, 14, |t| round_one(t, &first, 13));
+        refused(table, 14, |t| round_one(t, &first, 0));
+        // The others' messages may be any sound ones.
+        for other in altered(&first, 1 - place) {
+            assert!(round_one(&mut table.clone(), &other, 14).is_ok());
+        }
+    }
+    let second = second_round(&mut tables, &first);
+    for (place, table) in tables.iter_mut().enumerate() {
+        for wrong in damaged(&second) {
+            refused(table, 12, |t| round_two(t, &wrong));
+        }
+        for wrong in altered(&second, place) {
+            refused(table, 12, |t| round_two(t, &wrong));
+        }
+        // The first round's messages again.
+        refused(table, 12, |t| round_two(t, &first));
+        for other in altered(&second, 1 - place) {
+            assert_eq!(round_two(&mut table.clone(), &other), Ok(Verdict::Rejected));
+        }
+        assert_eq!(round_two(table, &second), Ok(Verdict::Accepted));
+    }
+}
+
+#[test]
+fn decided_ids_and_the_limit() {
+    let sheet = [17];
+    let mut tables = open_all(2, &sheet, 3);
+    let accepted = honest(&sheet, 2, 1);
+    assert_eq!(judge(&mut tables, &accepted, 5, 1).2, Verdict::Accepted);
+    let mut rejected = honest(&sheet, 2, 2);
+    let last = rejected[0].len() - 4;
+    let c = (u32::from_le_bytes(rejected[0][last..].try_into().unwrap()) + 1) % P32;
+    rejected[0][last..].copy_from_slice(&c.to_le_bytes());
+    assert_eq!(judge(&mut tables, &rejected, 5, 1).2, Verdict::Rejected);
+    // Accepted and rejected ids are used; so are dropped ones.
+    for (server, table) in tables.iter_mut().enumerate() {
+        refused(table, 10, |t| share(t, &accepted[server], 5, 1, 14));
+        refused(table, 10, |t| share(t, &rejected[server], 5, 1, 14));
+        let third = honest(&sheet, 2, 3);
+        share(table, &third[server], 5, 1, 14).unwrap();
+        drop(table).unwrap();
+        assert_eq!(table.decided(), [1, 2, 3]);
+        // All three count towards N.
+        refused(table, 13, |t| share(t, &third[server], 5, 1, 14));
+        refused(table, 13, |t| {
+            share(t, &honest(&sheet, 2, 4)[server], 5, 1, 14)
+        });
+    }
+    // A dropped id is refused 10 while N is not reached.
+    let mut table = open(2, 0, &sheet, 2).unwrap();
+    share(&mut table, &accepted[0], 5, 1, 14).unwrap();
+    drop(&mut table).unwrap();
+    refused(&mut table, 10, |t| share(t, &accepted[0], 5, 1, 14));
+}
+
+#[test]
+fn closing_room() {
+    let sheet = [17, 18, 3, 19, 5];
+    let mut table = open(2, 1, &sheet, 3).unwrap();
+    for room in 0..6 + 4 * 5 {
+        refused(&mut table, 14, |t| close(t, room));
+    }
+    let message = close(&mut table, 26).unwrap();
+    assert_eq!(message, closing(1, 0, &[0; 5]));
+}

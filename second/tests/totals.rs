@@ -1,0 +1,148 @@
+//! What comes out of a pool: the true sums, and little else.
+
+mod common;
+
+use common::*;
+use second::field::P;
+use second::gen::{self, added_up, lets_in, Origin, Return, Rng};
+use second::{close, drop, join, make, open, share, Circuit, Column, Joined, Sheet, Verdict};
+
+/// Adds values to the published sums.
+fn add_values(sheet: &Sheet, values: &[u8], sums: &mut [u64]) {
+    let mut at = 0;
+    for (column, value) in sheet.columns().iter().zip(values.chunks(4)) {
+        let value = u32::from_le_bytes(value.try_into().unwrap());
+        if let Column::Choice(options) = column {
+            sums[at + value as usize] += 1;
+            at += usize::from(*options);
+        } else {
+            sums[at] += u64::from(value);
+            at += 1;
+        }
+    }
+}
+
+/// Takes returns of random values through a pool of a sheet.
+fn pool(rng: &mut Rng, bytes: &[u8]) {
+    let sheet = Sheet::read(bytes).unwrap();
+    let servers = rng.between(2, 8) as u32;
+    let returns = if sheet.entries() > 100 { 2 } else { 6 };
+    let limit = gen::largest_limit(&sheet).min(returns + 2);
+    let mut tables = open_all(servers, bytes, limit);
+    let mut expected = vec![0u64; sheet.published()];
+    for id in 0..returns {
+        let values = gen::values(rng, &sheet);
+        let count = (servers as usize - 1) * sheet.share_elements() + 4;
+        let random = gen::elements(rng, count);
+        let messages = make(bytes, servers, id, &values, &random, ROOM).unwrap();
+        let (r, s) = gen::pair(rng, sheet.multiplications());
+        let judged = judge(&mut tables, &split(&sheet, &messages), r, s);
+        assert_eq!(judged.2, Verdict::Accepted);
+        add_values(&sheet, &values, &mut expected);
+    }
+    let closings = tables.iter_mut().map(|table| close(table, ROOM).unwrap());
+    let joined = closings.collect::<Vec<_>>().concat();
+    let totals: Vec<u32> = expected.iter().map(|&total| total as u32).collect();
+    assert!(expected.iter().all(|&total| total < P));
+    assert_eq!(
+        join(servers, bytes, limit, &joined, ROOM),
+        Ok(Joined {
+            count: returns,
+            totals: words(&totals),
+        })
+    );
+}
+
+/// Values in, true sums out, for sheets of every kind and up to 256 entries.
+#[test]
+fn true_sums() {
+    let mut rng = Rng::new(6);
+    let mut sheets = vec![
+        vec![17; 256],
+        vec![18, 64, 18, 64, 18, 64, 18, 64],
+        [19, 24].repeat(10).into_iter().chain([19, 5]).collect(),
+        [19, 1].repeat(128),
+        [18, 2].repeat(128),
+    ];
+    for max in [1, 2, 5, 10, 20, 40, 80] {
+        for _ in 0..6 {
+            sheets.push(gen::sheet(&mut rng, max));
+        }
+    }
+    for bytes in sheets {
+        pool(&mut rng, &bytes);
+    }
+}
+
+/// N at its greatest: 1,024 decided returns, some of them dropped.
+#[test]
+fn a_full_pool() {
+    let mut rng = Rng::new(7);
+    let mut tables = open_all(2, &[17], 1024);
+    let (mut count, mut total) = (0, 0);
+    for id in 0..1024 {
+        let value = rng.below(2) as u32;
+        let random = gen::elements(&mut rng, 13);
+        let messages = make(&[17], 2, id, &words(&[value]), &random, 84).unwrap();
+        let shares: Vec<Vec<u8>> = messages.chunks(42).map(<[u8]>::to_vec).collect();
+        if rng.chance(10) {
+            for (table, message) in tables.iter_mut().zip(&shares) {
+                share(table, message, 2, 0, 14).unwrap();
+                drop(table).unwrap();
+            }
+        } else {
+            let (r, s) = gen::pair(&mut rng, 1);
+            assert_eq!(judge(&mut tables, &shares, r, s).2, Verdict::Accepted);
+            count += 1;
+            total += value;
+        }
+    }
+    let mut joined = Vec::new();
+    for table in &mut tables {
+        assert_eq!(share(table, &[], 0, 0, 0), Err(13));
+        joined.extend(close(table, 10).unwrap());
+    }
+    assert_eq!(
+        join(2, &[17], 1024, &joined, 4),
+        Ok(Joined {
+            count,
+            totals: words(&[total]),
+        })
+    );
+}
+
+/// At most so many pairs let a false return in: for the smallest circuit, count them over
+/// small r and s.
+#[test]
+fn few_pairs_let_a_false_return_in() {
+    let sheet = Sheet::read(&[17]).unwrap();
+    let mut rng = Rng::new(8);
+    for origin in [Origin::FalseEntries, Origin::Forged, Origin::Lucky] {
+        for _ in 0..10 {
+            let given = Return::random(&mut rng, &sheet, 2, 1, origin);
+            let whole = added_up(&sheet, &given.shares).unwrap();
+            if Circuit::of(&sheet).is_valid(&whole[..1]) == Some(true) {
+                continue;
+            }
+            // r × (f g - h) + c - a b has degree at most 2M + 1; with one test, s has no say.
+            let pairs = (2..200)
+                .filter(|&r| lets_in(&sheet, &whole, r, 3) == Some(true))
+                .count();
+            assert!(pairs <= 3, "{pairs} of {origin:?}");
+        }
+    }
+}
+
+#[test]
+fn a_dropped_share_leaves_no_trace_in_the_totals() {
+    let sheet = Sheet::read(&[19, 4]).unwrap();
+    let mut rng = Rng::new(9);
+    let given = Return::random(&mut rng, &sheet, 2, 1, Origin::Honest);
+    for own in 0..2 {
+        let mut table = open(2, own, &[19, 4], 3).unwrap();
+        let message = &given.shares[own as usize];
+        share(&mut table, message, given.r, given.s, 14).unwrap();
+        drop(&mut table).unwrap();
+        assert_eq!(close(&mut table, 10), Ok(closing(own as u8, 0, &[0])));
+    }
+}

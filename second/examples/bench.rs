@@ -8,8 +8,8 @@ use std::time::Instant;
 use second::gen::{self, Rng};
 use second::{fast, field::P, table, Sheet};
 
-/// Microseconds for one of so many calls: the best of a hundred batches, since the machine may be
-/// busy with other work.
+/// Microseconds for one of so many calls: the best of a hundred batches, since the machine may
+/// be busy with other work.
 fn time(count: u32, mut call: impl FnMut(u32)) -> f64 {
     let batch = count.div_ceil(100);
     let mut best = f64::INFINITY;
@@ -21,6 +21,131 @@ fn time(count: u32, mut call: impl FnMut(u32)) -> f64 {
         best = best.min(before.elapsed().as_secs_f64());
     }
     best * 1e6 / f64::from(batch)
+}
+
+/// What the calls on one sheet take. Two servers.
+struct Setting<'a> {
+    bytes: &'a [u8],
+    gates: u64,
+    values: Vec<u8>,
+    random: Vec<u8>,
+    challenges: Vec<(u64, u64)>,
+    shares: Vec<Vec<u8>>,
+}
+
+const SERVERS: u32 = 2;
+const ROOM: usize = usize::MAX;
+/// A fresh table every so many returns.
+const LIMIT: u32 = 64;
+
+impl Setting<'_> {
+    fn of(bytes: &[u8]) -> Result<Setting<'_>, u32> {
+        let sheet = Sheet::read(bytes)?;
+        let mut rng = Rng::new(1);
+        let values = gen::values(&mut rng, &sheet);
+        let random = gen::elements(&mut rng, sheet.share_elements() + 4);
+        let gates = sheet.multiplications() as u64;
+        let challenges = (0..256)
+            .map(|_| (rng.between(gates + 1, P - 1), rng.below(P)))
+            .collect();
+        let made = fast::make(bytes, SERVERS, 7, &values, &random, ROOM)?;
+        let shares = made.chunks(sheet.share_length());
+        Ok(Setting {
+            bytes,
+            gates,
+            values,
+            random,
+            challenges,
+            shares: shares.map(<[u8]>::to_vec).collect(),
+        })
+    }
+
+    /// How often the plain form is called.
+    fn plain_count(&self) -> u32 {
+        if self.gates > 100 {
+            3
+        } else {
+            200
+        }
+    }
+
+    fn make_plain(&self) -> f64 {
+        time(self.plain_count(), |id| {
+            let made = second::make(self.bytes, SERVERS, id, &self.values, &self.random, ROOM);
+            let _ = black_box(made);
+        })
+    }
+
+    fn make_fast(&self) -> f64 {
+        time(2000, |id| {
+            let made = fast::make(self.bytes, SERVERS, id, &self.values, &self.random, ROOM);
+            let _ = black_box(made);
+        })
+    }
+
+    fn share_plain(&self) -> Result<f64, u32> {
+        let plain = table::open(SERVERS, 0, self.bytes, 1)?;
+        Ok(time(self.plain_count(), |number| {
+            let (r, s) = self.challenges[number as usize % 256];
+            let mut table = plain.clone();
+            let _ = black_box(table::share(&mut table, &self.shares[0], r, s, 14));
+        }))
+    }
+
+    /// A share and a drop; ids are rewritten in place.
+    fn share_fast(&self) -> Result<f64, u32> {
+        let mut message = self.shares[0].clone();
+        let fresh = || fast::open(SERVERS, 0, self.bytes, LIMIT);
+        let mut table = fresh()?;
+        Ok(time(20_000, |number| {
+            if number % LIMIT == 0 {
+                if let Ok(fresh) = fresh() {
+                    table = fresh;
+                }
+            }
+            message[1..5].copy_from_slice(&number.to_le_bytes());
+            let (r, s) = self.challenges[number as usize % 256];
+            let _ = black_box(fast::share(&mut table, &message, r, s, 14));
+            let _ = fast::drop(&mut table);
+        }))
+    }
+
+    /// Round one and round two at one server, on messages of two servers.
+    fn rounds(&self) -> Result<f64, u32> {
+        let (r, s) = self.challenges[0];
+        let (mut tables, mut first, mut second) = (Vec::new(), Vec::new(), Vec::new());
+        for (own, share) in (0..SERVERS).zip(&self.shares) {
+            let mut table = fast::open(SERVERS, own, self.bytes, LIMIT)?;
+            first.extend(fast::share(&mut table, share, r, s, 14)?);
+            tables.push(table);
+        }
+        for table in &tables {
+            second.extend(fast::round_one(&mut table.clone(), &first, 14)?);
+        }
+        let cloned = time(20_000, |_| {
+            black_box(tables[0].clone());
+        });
+        let both = time(20_000, |_| {
+            let mut table = tables[0].clone();
+            let _ = black_box(fast::round_one(&mut table, &first, 14));
+            let _ = black_box(fast::round_two(&mut table, &second));
+        });
+        Ok(both - cloned)
+    }
+}
+
+/// The line of one sheet.
+fn line(name: &str, bytes: &[u8]) -> Result<String, u32> {
+    let setting = Setting::of(bytes)?;
+    Ok(format!(
+        "{name:24} {:>4} {:>12.2} {:>12.2} {:>12.2} {:>12.2} {:>12.2}",
+        setting.gates,
+        setting.make_plain(),
+        setting.make_fast(),
+        setting.share_plain()?,
+        setting.share_fast()?,
+        setting.rounds()?
+    ))
 }
 
 fn main() {
@@ -39,85 +164,9 @@ fn main() {
         "microseconds", "M", "make plain", "make fast", "share plain", "share fast", "rounds"
     );
     for (name, bytes) in &sheets {
-        let Ok(sheet) = Sheet::read(bytes) else {
-            continue;
-        };
-        let mut rng = Rng::new(1);
-        let servers = 2;
-        let values = gen::values(&mut rng, &sheet);
-        let random = gen::elements(&mut rng, sheet.share_elements() + 4);
-        let room = usize::MAX;
-        let gates = sheet.multiplications() as u64;
-        let challenges: Vec<(u64, u64)> = (0..256)
-            .map(|_| (rng.between(gates + 1, P - 1), rng.below(P)))
-            .collect();
-        let plain_count = if gates > 100 { 3 } else { 200 };
-
-        let make_plain = time(plain_count, |id| {
-            let made = second::make(bytes, servers, id, &values, &random, room);
-            let _ = black_box(made);
-        });
-        let make_fast = time(2000, |id| {
-            let made = fast::make(bytes, servers, id, &values, &random, room);
-            let _ = black_box(made);
-        });
-
-        let Ok(made) = fast::make(bytes, servers, 7, &values, &random, room) else {
-            continue;
-        };
-        let shares: Vec<&[u8]> = made.chunks(sheet.share_length()).collect();
-        let Ok(plain) = table::open(servers, 0, bytes, 1) else {
-            continue;
-        };
-        let share_plain = time(plain_count, |number| {
-            let (r, s) = challenges[number as usize % 256];
-            let mut table = plain.clone();
-            let _ = black_box(table::share(&mut table, shares[0], r, s, 14));
-        });
-
-        // A fresh table every 64 returns; ids are rewritten in place.
-        let mut message = shares[0].to_vec();
-        let limit = 64;
-        let fresh = || fast::open(servers, 0, bytes, limit);
-        let (Ok(mut quick), Ok(mut pair)) = (fresh(), fresh()) else {
-            continue;
-        };
-        let share_fast = time(20_000, |number| {
-            if number % limit == 0 {
-                if let Ok(table) = fresh() {
-                    quick = table;
-                }
-            }
-            message[1..5].copy_from_slice(&number.to_le_bytes());
-            let (r, s) = challenges[number as usize % 256];
-            let _ = black_box(fast::share(&mut quick, &message, r, s, 14));
-            let _ = fast::drop(&mut quick);
-        });
-
-        // Round one and round two at one server, on messages of two servers.
-        let Ok(mut other) = fast::open(servers, 1, bytes, limit) else {
-            continue;
-        };
-        let (r, s) = challenges[0];
-        let mut first = Vec::new();
-        for (table, share) in [&mut pair, &mut other].into_iter().zip(&shares) {
-            first.extend(fast::share(table, share, r, s, 14).unwrap_or_default());
+        match line(name, bytes) {
+            Ok(line) => println!("{line}"),
+            Err(number) => println!("{name:24} refused {number}"),
         }
-        let mut second = Vec::new();
-        for table in [&mut pair.clone(), &mut other.clone()] {
-            second.extend(fast::round_one(table, &first, 14).unwrap_or_default());
-        }
-        let cloned = time(20_000, |_| {
-            black_box(pair.clone());
-        });
-        let both = time(20_000, |_| {
-            let mut table = pair.clone();
-            let _ = black_box(fast::round_one(&mut table, &first, 14));
-            let _ = black_box(fast::round_two(&mut table, &second));
-        });
-        println!(
-            "{name:24} {gates:>4} {make_plain:>12.2} {make_fast:>12.2} {share_plain:>12.2} {share_fast:>12.2} {:>12.2}",
-            both - cloned
-        );
     }
 }

@@ -60,7 +60,12 @@ fn making() {
     assert_eq!(make(&sheet, 2, 5, &values, &random, 0), Err(14));
     assert_eq!(make(&sheet, 2, 5, &values, &random, room - 1), Err(14));
 
-    // Values.
+    wrong_values(&sheet, &values, &random, room);
+    wrong_random(&sheet, &values, &random, room);
+}
+
+/// Values at fault: too few, too many, one outside its column.
+fn wrong_values(sheet: &[u8], values: &[u8], random: &[u8], room: usize) {
     for wrong in [
         &[][..],
         &[1],
@@ -70,19 +75,21 @@ fn making() {
         &[u32::MAX, 0],
         &[257, 0],
     ] {
-        assert_eq!(make(&sheet, 2, 5, &words(wrong), &random, room), Err(5));
+        assert_eq!(make(sheet, 2, 5, &words(wrong), random, room), Err(5));
     }
-    assert_eq!(make(&sheet, 2, 5, &values[..7], &random, room), Err(5));
+    assert_eq!(make(sheet, 2, 5, &values[..7], random, room), Err(5));
+}
 
-    // Random elements: too few, too many, one not below p.
+/// Random elements at fault: too few, too many, one not below p.
+fn wrong_random(sheet: &[u8], values: &[u8], random: &[u8], room: usize) {
     let short = &random[..random.len() - 1];
-    assert_eq!(make(&sheet, 2, 5, &values, short, room), Err(6));
-    let long = resized(&random, random.len() + 1);
-    assert_eq!(make(&sheet, 2, 5, &values, &long, room), Err(6));
-    assert_eq!(make(&sheet, 3, 5, &values, &random, ROOM), Err(6));
-    for at in 0..elements + 4 {
-        let wrong = with(&random, 4 * at, &P32.to_le_bytes());
-        assert_eq!(make(&sheet, 2, 5, &values, &wrong, room), Err(6));
+    assert_eq!(make(sheet, 2, 5, values, short, room), Err(6));
+    let long = resized(random, random.len() + 1);
+    assert_eq!(make(sheet, 2, 5, values, &long, room), Err(6));
+    assert_eq!(make(sheet, 3, 5, values, random, ROOM), Err(6));
+    for at in 0..random.len() / 4 {
+        let wrong = with(random, 4 * at, &P32.to_le_bytes());
+        assert_eq!(make(sheet, 2, 5, values, &wrong, room), Err(6));
     }
 }
 
@@ -107,24 +114,7 @@ fn joining() {
     assert_eq!(join(2, &sheet, 2, &good, 7), Err(14));
     assert_eq!(join(2, &sheet, 2, &good, 0), Err(14));
 
-    let wrong = |joined: Vec<u8>| assert_eq!(join(2, &sheet, 2, &joined, 8), Err(12));
-    for length in (0..good.len()).chain([good.len() + 1, good.len() + 14]) {
-        wrong(resized(&good, length));
-    }
-    for place in [0, 14] {
-        // Kind, server and count, bit by bit.
-        for at in place..place + 6 {
-            for bit in 0..8 {
-                wrong(with(&good, at, &[good[at] ^ 1 << bit]));
-            }
-        }
-        for at in [place + 6, place + 10] {
-            for large in [P32, u32::MAX] {
-                wrong(with(&good, at, &large.to_le_bytes()));
-            }
-        }
-    }
-    wrong([&good[14..], &good[..14]].concat());
+    wrong_closings(&sheet, &good);
     // Counts over N.
     assert_eq!(join(2, &sheet, 1, &good, 8), Err(12));
     // A count of 0 with totals that are not 0 is no fault.
@@ -136,6 +126,28 @@ fn joining() {
             totals: words(&[4, 6]),
         })
     );
+}
+
+/// Two closing messages of two elements each, with every kind of fault, one at a time.
+fn wrong_closings(sheet: &[u8], good: &[u8]) {
+    let wrong = |joined: Vec<u8>| assert_eq!(join(2, sheet, 2, &joined, 8), Err(12));
+    for length in (0..good.len()).chain([good.len() + 1, good.len() + 14]) {
+        wrong(resized(good, length));
+    }
+    for place in [0, 14] {
+        // Kind, server and count, bit by bit.
+        for at in place..place + 6 {
+            for bit in 0..8 {
+                wrong(with(good, at, &[good[at] ^ 1 << bit]));
+            }
+        }
+        for at in [place + 6, place + 10] {
+            for large in [P32, u32::MAX] {
+                wrong(with(good, at, &large.to_le_bytes()));
+            }
+        }
+    }
+    wrong([&good[14..], &good[..14]].concat());
 }
 
 #[test]

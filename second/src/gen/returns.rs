@@ -73,23 +73,7 @@ impl Return {
         };
         let free = [(); 4].map(|()| rng.element());
         let mut whole = making::whole(&circuit, &entries, &free);
-        match origin {
-            Origin::Honest | Origin::Altered | Origin::FalseEntries => {}
-            Origin::Forged => claim_zero(&circuit, &mut whole),
-            Origin::Lucky => {
-                claim_zero(&circuit, &mut whole);
-                bend(rng, &circuit, &mut whole, r);
-            }
-            Origin::FalseTriple | Origin::LuckyTriple => {
-                let delta = rng.between(1, P - 1);
-                if let Some(c) = whole.last_mut() {
-                    *c = field::add(*c, delta);
-                }
-                if origin == Origin::LuckyTriple {
-                    bend(rng, &circuit, &mut whole, r);
-                }
-            }
-        }
+        falsify(rng, &circuit, origin, &mut whole, r);
         let random: Vec<u64> = (whole.len()..servers as usize * whole.len())
             .map(|_| rng.element())
             .collect();
@@ -99,14 +83,7 @@ impl Return {
             .map(<[u8]>::to_vec)
             .collect();
         if origin == Origin::Altered {
-            for _ in 0..rng.between(1, 3) {
-                let server = rng.index(shares.len());
-                let at = 6 + 4 * rng.index(whole.len());
-                let element = &mut shares[server][at..at + 4];
-                let old = field::words(element).map(u64::from).sum();
-                let new = field::add(old, rng.between(1, P - 1));
-                element.copy_from_slice(&field::bytes(new));
-            }
+            alter(rng, &mut shares, whole.len());
         }
         Return {
             id,
@@ -115,6 +92,39 @@ impl Return {
             r,
             s,
         }
+    }
+}
+
+/// Puts the origin's fault into a whole return that will meet r.
+fn falsify(rng: &mut Rng, circuit: &Circuit, origin: Origin, whole: &mut [u64], r: u64) {
+    match origin {
+        Origin::Honest | Origin::Altered | Origin::FalseEntries => {}
+        Origin::Forged => claim_zero(circuit, whole),
+        Origin::Lucky => {
+            claim_zero(circuit, whole);
+            bend(rng, circuit, whole, r);
+        }
+        Origin::FalseTriple | Origin::LuckyTriple => {
+            let delta = rng.between(1, P - 1);
+            if let Some(c) = whole.last_mut() {
+                *c = field::add(*c, delta);
+            }
+            if origin == Origin::LuckyTriple {
+                bend(rng, circuit, whole, r);
+            }
+        }
+    }
+}
+
+/// Changes an element or more of shares of so many elements.
+fn alter(rng: &mut Rng, shares: &mut [Vec<u8>], elements: usize) {
+    for _ in 0..rng.between(1, 3) {
+        let server = rng.index(shares.len());
+        let at = 6 + 4 * rng.index(elements);
+        let element = &mut shares[server][at..at + 4];
+        let old = field::words(element).map(u64::from).sum();
+        let new = field::add(old, rng.between(1, P - 1));
+        element.copy_from_slice(&field::bytes(new));
     }
 }
 

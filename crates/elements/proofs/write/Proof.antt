@@ -1,11 +1,12 @@
 -- `elements::write` meets its contract. The loop's invariant: the first i elements are put there (`write-next`);
 -- the measure is what is left of them. Assumes nothing.
-use mathlib.Core.Path.{_≡_, refl}
-use Prim.Native.Nat.{_≤_, _-_}
+use mathlib.Core.Path.{_≡_, refl, _∙_}
+use mathlib.Core.List.{List}
+use Prim.Native.Nat.{ℕ, _≤_, _<_, _-_, _+_, _*_}
 use borrow.Author.Needs.{needs}
-use lib.ListN.{length, take}
+use lib.ListN.{length, take, getD}
 use lib.Seq.{take-all}
-use Rattle.words.specs.Bytes.{bytesOfAll, splice}
+use Rattle.words.specs.Bytes.{bytesOf, bytesOfAll, splice}
 use Rattle.elements.proofs.Loops.{write-none, write-next}
 use Rattle.elements.proofs.write.Statement.{statement}
 use Rattle.elements.proofs.write.Tie as tie
@@ -15,6 +16,12 @@ Inv-loop s₀ at xs i₀ s i = (i ≤ length xs) × (s ≡ splice s₀ at (bytes
 
 abbrev μ-loop : tie.MeasureT-loop
 μ-loop s₀ at xs i₀ s i = length xs - i
+
+-- one element more, where t is what the slice then holds
+one-more : (s₀ : List ℕ) (at : ℕ) (xs s : List ℕ) (i : ℕ) (t : List ℕ) → at + 4 * length xs ≤ length s₀ → i < length xs
+    → s ≡ splice s₀ at (bytesOfAll 4 (take i xs)) → t ≡ splice s (at + 4 * i) (bytesOf 4 (getD xs i 0))
+    → t ≡ splice s₀ at (bytesOfAll 4 (take (i + 1) xs))
+one-more s₀ at xs s i t room h was put = put ∙ rw was (write-next s₀ at 4 xs i room h)
 
 loop-holds : tie.Need-loop-holds Inv-loop μ-loop
 loop-holds c =
@@ -47,7 +54,8 @@ loop-again c =
     let l = c .before .before .before .before .before .before in
     let a = l .before .before .before in (
       search needs,
-      cc (write-next (a .args .s .now) (a .args .at) 4 (a .args .xs .now) (l .loop .i) (a .pre) (search needs)),
+      one-more (a .args .s .now) (a .args .at) (a .args .xs .now) (l .loop .s) (l .loop .i) _ (a .pre) (search needs)
+          (l .loop .inv .1) (c .before .before .write-u32 .ensures),
       search needs,
     )
 

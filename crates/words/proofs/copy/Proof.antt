@@ -1,10 +1,11 @@
 -- `words::copy` meets its contract. The loop's invariant: the first i bytes are put there (`copy-next`); the measure is
 -- what is left of them. Assumes nothing.
-use mathlib.Core.Path.{_≡_, refl}
-use Prim.Native.Nat.{_≤_, _-_}
+use mathlib.Core.Path.{_≡_, refl, ap, _∙_}
+use mathlib.Core.List.{List}
+use Prim.Native.Nat.{ℕ, _≤_, _-_, _+_}
 use native.Mathlib.Omega.{arith}
 use borrow.Author.Needs.{needs}
-use lib.ListN.{length, take, length-set}
+use lib.ListN.{length, take, set, getD, length-set}
 use lib.Seq.{take-all}
 use Rattle.words.specs.Bytes.{splice}
 use Rattle.words.proofs.Loops.{copy-none, copy-next}
@@ -40,7 +41,8 @@ loop-again c =
     let l = c .before .before in
     let a = l .before in (
       search needs,
-      cc (copy-next (a .args .s .now) (a .args .at) (a .args .from .now) (l .loop .i) (a .pre) (search needs)),
+      ap (λ (t : List ℕ). set t (a .args .at + l .loop .i) (getD (a .args .from .now) (l .loop .i) 0)) (l .loop .inv .1)
+          ∙ copy-next (a .args .s .now) (a .args .at) (a .args .from .now) (l .loop .i) (a .pre) (search needs),
       simp length-set (omega arith),
     )
 

@@ -55,13 +55,13 @@ returns c =
     let k = a .args .k in
     let h : 12 ≤ length (a .args .t .now) = omega (arith, a .pre) in
     let m : idsAt (k .sheet) (k .published) + 4 * k .decided + 4 ≤ length (a .args .t .now) = omega (arith, a .pre) in
-    cc (
-      decided-written k (a .args .accepted) (a .args .id) (a .args .t .now) h m,
+    rw (
       third .write-u32 .ensures,
       third .before .ids-place .ensures,
       second .write-u162 .ensures,
       first .write-u16 .ensures,
     )
+    (decided-written k (a .args .accepted) (a .args .id) (a .args .t .now) h m)
 
 pub decide-spec : {M : Type 1} → statement M
 decide-spec =

@@ -39,13 +39,13 @@ returns : tie.Need-returns
 returns c =
     let a = c .before .before .before .before .before .before .before .before .before .before .before .before .before .before in
     let h : 6 ≤ length (a .args .out .now) = omega (arith, a .pre) in
-    cc (
-      closing-written (a .args .k) (a .args .t .now) (a .args .out .now) h,
+    rw (
       c .before .before .copy .ensures,
       c .before .before .before .before .before .ids-place .ensures,
       c .before .before .before .before .before .before .totals-place .ensures,
       c .before .before .before .before .before .before .before .before .before .write-totals-header .ensures,
     )
+    (closing-written (a .args .k) (a .args .t .now) (a .args .out .now) h)
 
 pub write-closing-spec : {M : Type 1} → statement M
 write-closing-spec =

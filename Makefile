@@ -31,8 +31,9 @@ target/bin/recount: $(SOURCES)
 	@touch $@
 
 run:
-	@rt check worked
-	@target/bin/worked
+	@rt check worked_forms worked_pools
+	@target/bin/worked_forms
+	@target/bin/worked_pools
 
 test:
 	@.ci/run

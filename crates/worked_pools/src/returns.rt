@@ -1,0 +1,181 @@
+// Returns of sheet 17 at two servers, through the C functions. Server 1's share is all zeros, so what server 0 writes
+// are the sums: d, e and sigma of the whole return.
+ghost use Prim.Native.Nat.{_+_, _≤_};
+use printing::fill;
+use printing::item;
+use printing::refused;
+use printing::write;
+
+// A server: its table, and the answer and the message of its last call.
+struct Server {
+    table: [u8; 121],
+    number: u32,
+    message: [u8; 14],
+}
+
+// A table of server `own`, for 10 returns.
+fn open(own: u32) -> Server {
+    let mut table = [0u8; 121];
+    let mut written: usize = 0;
+    let number = pool::pool_open(2, own, &[17], 10, &mut table, &mut written);
+    Server {
+        table: table,
+        number: number,
+        message: [0u8; 14],
+    }
+}
+
+// A share comes in, with the pair r, 0.
+fn share(server: Server, m: [u8; 42], r: u64) -> Server {
+    let mut table = server.table;
+    let mut message = [0u8; 14];
+    let mut written: usize = 0;
+    let number = pool::pool_share(&mut table, &m, r, 0, &mut message, &mut written);
+    Server {
+        table: table,
+        number: number,
+        message: message,
+    }
+}
+
+// Round one, with the messages of both servers.
+fn round_one(server: Server, joined: [u8; 28]) -> Server {
+    let mut table = server.table;
+    let mut message = [0u8; 14];
+    let mut written: usize = 0;
+    let number = pool::pool_round_one(&mut table, &joined, &mut message, &mut written);
+    Server {
+        table: table,
+        number: number,
+        message: message,
+    }
+}
+
+// Round two.
+fn verdict(server: Server, joined: [u8; 28]) {
+    let mut table = server.table;
+    let mut accepted: u32 = 0;
+    let number = pool::pool_round_two(&mut table, &joined, &mut accepted);
+    if number != 0 {
+        refused(number);
+        return;
+    }
+    if accepted == 1 {
+        write(b", accepted\n");
+        return;
+    }
+    write(b", rejected\n");
+}
+
+// The messages of both servers, one behind the other.
+fn join(first: [u8; 14], second: [u8; 14]) -> [u8; 28] {
+    let mut joined = [0u8; 28];
+    words::copy(&mut joined, 0, &first);
+    words::copy(&mut joined, 14, &second);
+    joined
+}
+
+// The two numbers of a message.
+fn pair(text: &[u8], m: [u8; 14]) {
+    fill(
+        text,
+        [
+            words::read_u32(&m, 6) as u64,
+            words::read_u32(&m, 10) as u64,
+            0,
+            0,
+            0,
+        ],
+    );
+}
+
+// Server 1's share: zeros.
+fn zeros() -> [u8; 42] {
+    let mut m = [0u8; 42];
+    m[0] = 33;
+    m[1] = 9;
+    m[5] = 1;
+    m
+}
+
+// A return whose share at server 0 is `first`, with r, judged to the end at fresh tables.
+pub fn judge(first: [u8; 42], r: u64) {
+    item(b"r ", r);
+    let here = share(open(0), first, r);
+    let there = share(open(1), zeros(), r);
+    if here.number != 0 {
+        refused(here.number);
+        return;
+    }
+    let own = here.message;
+    let other = there.message;
+    pair(b": d #, e #", own);
+    let ones = join(own, other);
+    let here = round_one(here, ones);
+    let there = round_one(there, ones);
+    let own = here.message;
+    let other = there.message;
+    pair(b", sigma #, tau #", own);
+    verdict(here, join(own, other));
+}
+
+// One element of a share message.
+fn element(m: [u8; 84], at: usize) -> u64
+    requires { ⌜ at + 4 ≤ 84 ⌝ }
+{
+    words::read_u32(&m, at) as u64
+}
+
+// The first of two share messages.
+fn first(made: [u8; 84]) -> [u8; 42] {
+    let mut m = [0u8; 42];
+    words::copy(&mut m, 0, &made[..42]);
+    m
+}
+
+// What was made: its length, and h and c of the first message.
+fn made(number: u32, out: [u8; 84], written: usize) {
+    if number != 0 {
+        refused(number);
+        return;
+    }
+    fill(
+        b"yes: bytes #, h # # #, c #\n",
+        [
+            written as u64,
+            element(out, 18),
+            element(out, 22),
+            element(out, 26),
+            element(out, 38),
+        ],
+    );
+}
+
+// The random numbers of the example: u_0 = 2, v_0 = 3, a = 5, b = 7 and a share of zeros for server 1.
+fn random() -> [u8; 52] {
+    let mut numbers = [0u8; 52];
+    numbers[0] = 2;
+    numbers[4] = 3;
+    numbers[8] = 5;
+    numbers[12] = 7;
+    numbers
+}
+
+// Making a yes: server 0's share.
+pub fn make() -> [u8; 42] {
+    let mut out = [0u8; 84];
+    let mut written: usize = 0;
+    let numbers = random();
+    let number = pool::pool_make(&[17], 2, 9, &[1, 0, 0, 0], &numbers, &mut out, &mut written);
+    made(number, out, written);
+    first(out)
+}
+
+// Whether a table of sheet 19 24 opens for so many returns.
+pub fn opens(returns: u32) {
+    let mut table = [0u8; 1000];
+    let mut written: usize = 0;
+    item(b"sheet 19 24, N ", returns as u64);
+    let number = pool::pool_open(2, 0, &[19, 24], returns, &mut table, &mut written);
+    printing::outcome(number, b": a table of bytes ", written as u64);
+}

@@ -2,14 +2,14 @@
 -- that one expects. Each follows Horner's form. Assumes nothing.
 use mathlib.Core.Path.{_≡_, refl, sym, _∙_, ap, ap₂, subst}
 use mathlib.Core.List.{List, [], _∷_}
-use Prim.Native.Nat.{ℕ, zero, suc, _+_, _-_, _≤_, _<_}
-use native.Mathlib.Nat.{suc-add, sub-add-cancel, zero-add as n-zero-add}
+use Prim.Native.Nat.{ℕ, zero, suc, _+_, _-_, _<_}
+use native.Mathlib.Nat.{suc-add, zero-add as n-zero-add}
 use native.Mathlib.Omega.{arith}
 use lib.ListN.{length, getD}
 use Rattle.algebra.specs.Ops.{Ops, Field}
 use Rattle.algebra.specs.Sums.{sum, product, power}
 use Rattle.algebra.specs.Polynomial.{PolyFn, const, step, horner}
-use Rattle.algebra.proofs.Ring.{ring, add-zero, mul-comm, one-mul}
+use Rattle.algebra.proofs.Ring.{ring, one-mul}
 use Rattle.algebra.proofs.Sums.{sum-ext, sum-front, times-sum, product-front}
 
 module _ (𝓕 : Field) where
@@ -69,10 +69,6 @@ module _ (𝓕 : Field) where
   poly-ups : {n : ℕ} (m : ℕ) {f : F → F} → PolyFn 𝓕 n f → PolyFn 𝓕 (m + n) f
   poly-ups zero p = rw n-zero-add p
   poly-ups (suc m) p = rw suc-add (poly-up (poly-ups m p))
-
-  -- a bound on the degree may be raised
-  pub poly-le : {n m : ℕ} {f : F → F} → PolyFn 𝓕 n f → n ≤ m → PolyFn 𝓕 m f
-  poly-le {n} {m} {f} p h = subst (λ k. PolyFn 𝓕 k f) (sub-add-cancel h) (poly-ups (m - n) p)
 
   pub poly-add : {n : ℕ} {f g : F → F} → PolyFn 𝓕 n f → PolyFn 𝓕 n g → PolyFn 𝓕 n (λ x. f x ⊕ g x)
   poly-add (const c e) (const d h) = flat (c ⊕ d) (λ x. rw (e x, h x))

@@ -3,7 +3,7 @@
 -- Assumes nothing.
 use mathlib.Core.Path.{_≡_, refl, ap, _∙_}
 use mathlib.Core.Bool.{true, _&&_}
-use mathlib.Core.List.{List, _++_}
+use mathlib.Core.List.{List}
 use Prim.Native.Nat.{ℕ, _+_, _*_, _≤_, _<_}
 use native.Mathlib.Omega.{arith}
 use borrow.Author.Tests.{eqb-true}
@@ -11,19 +11,18 @@ use lib.Dec.{eqb, leb, lit<}
 use lib.ListN.{length, getD, drop, length-drop}
 use Rattle.algebra.specs.Lists.{tabulate}
 use Rattle.algebra.proofs.Members.{and-left}
-use Rattle.words.specs.Bytes.{valueOf, bytesOfAll, part, allBelow}
+use Rattle.words.specs.Bytes.{valueOf, part, allBelow}
 use Rattle.words.proofs.Splice.{length-part, part-of-drop}
 use Rattle.words.proofs.Elements.{element-within}
 use Rattle.words.proofs.Below.{all-of-below}
 use Rattle.rules.specs.Settings.{document01}
 use Rattle.rules.specs.Columns.{Column, publishedIn, columnsOf}
-use Rattle.rules.specs.Server.{Opened, totalsMessage}
 use Rattle.rules.specs.Joining.{acceptedCount, sumsIn, totalsSound, joinedFault, joinTotals}
 use Rattle.field.specs.Residues.{prime}
 use Rattle.field.proofs.Below.{member-below}
 use Rattle.message.specs.Words.{Words, sumOf}
 use Rattle.message.specs.Totals.{totalsBytes, totalsPart, totalsSoundAt, allTotalsSound}
-use Rattle.message.specs.Totals.{joinedFaultAt, totalAt, totalsHeader, WholeTotals, SummableTotals}
+use Rattle.message.specs.Totals.{joinedFaultAt, totalAt, WholeTotals, SummableTotals}
 use Rattle.message.proofs.Every.{every-at}
 use Rattle.message.proofs.Parts.{check-holds, second, fourth}
 use Rattle.message.proofs.Words.{message-within, words-within, words-sum}
@@ -38,11 +37,6 @@ pub join-totals : (servers : ℕ) (sheet joined : List ℕ)
     ≡ tabulate (totalAt servers (publishedIn (columnsOf sheet)) joined) (publishedIn (columnsOf sheet))
 unfolding joinTotals totalAt
 join-totals servers sheet joined = refl
-
-pub totals-message : (o : Opened) (count : ℕ) (totals : List ℕ)
-    → totalsMessage document01 o count totals ≡ totalsHeader (o .own) count ++ bytesOfAll 4 totals
-unfolding totalsMessage totalsHeader
-totals-message o count totals = refl
 
 pub totals-within : {servers published : ℕ} {joined : List ℕ} {i : ℕ} → WholeTotals servers published joined → i < servers
     → totalsBytes published * i + totalsBytes published ≤ length joined

@@ -30,9 +30,6 @@ pub inverse-low : (invs : List ℕ) (n i : ℕ) → invs ≡ tabulate (λ i. res
 inverse-low invs n i e = rw e (member-below _ i (tabulate-below _ n (λ i. inverse-below (suc i))))
 
 module _ {n : ℕ} {falls back : List ℕ} (r : Ready n falls back) where
-  pub falls-long : length falls ≡ n
-  falls-long = ap length (r .falls-are) ∙ length-tabulate _ n
-
   pub back-long : length back ≡ n + n
   back-long = ap length (r .back-are) ∙ length-tabulate _ (n + n)
 

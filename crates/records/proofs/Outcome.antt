@@ -1,6 +1,6 @@
 -- Laws of checks in an order: the first refusal counts, and there is none exactly where each check gives 0. They go by
 -- the first number, as `orElse` is defined. Assumes nothing.
-use mathlib.Core.Path.{_≡_, refl, sym, _∙_}
+use mathlib.Core.Path.{_≡_, refl, sym}
 use mathlib.Core.List.{List, [], _∷_, _++_}
 use Prim.Native.Nat.{ℕ, zero, suc}
 use native.Mathlib.Omega.{arith}
@@ -15,11 +15,6 @@ pub or-first : (a b : ℕ) → (a ≡ 0 → ⊥) → orElse a b ≡ a
 unfolding orElse
 or-first zero b h = absurd (h refl)
 or-first (suc a) b h = refl
-
-pub or-last : (a : ℕ) → orElse a 0 ≡ a
-unfolding orElse
-or-last zero = refl
-or-last (suc a) = refl
 
 pub or-assoc : (a b c : ℕ) → orElse (orElse a b) c ≡ orElse a (orElse b c)
 unfolding orElse
@@ -49,9 +44,3 @@ pub zero-first : (s : List ℕ) → All (λ a. a ≡ 0) s → first s ≡ 0
 unfolding first
 zero-first [] all[] = refl
 zero-first (a ∷ s) (all∷ h z) = rw (h, or-none (first s)) (zero-first s z)
-
--- the first refusal, where each check before it gives 0
-pub first-after : (s : List ℕ) (m : ℕ) (t : List ℕ) → All (λ a. a ≡ 0) s → (m ≡ 0 → ⊥) → first (s ++ (m ∷ t)) ≡ m
-unfolding first
-first-after s m t z h =
-    first-append s (m ∷ t) ∙ rw (zero-first s z, or-none (first (m ∷ t))) (or-first m (first t) h)

@@ -3,7 +3,7 @@ use mathlib.Core.Path.{_≡_}
 use mathlib.Core.Bool.{true}
 use mathlib.Core.List.{List}
 use Prim.Native.Nat.{ℕ, _<_}
-use borrow.Author.Tests.{eqb-true, ltb-true, eq-eqb, lt-ltb}
+use borrow.Author.Tests.{eqb-true, ltb-true, eq-eqb}
 use lib.Dec.{eqb, ltb}
 use Rattle.algebra.specs.Modulo.{modulo}
 use Rattle.algebra.proofs.Members.{and-true, and-left, and-right}
@@ -27,11 +27,6 @@ module _ (σ : Setting) (cs : List Column) where
         r-below = ltb-true _ _ (and-left _ _ below);
         s-below = ltb-true _ _ (and-right (ltb r (σ .modulus)) _ below);
       }
-
-  pub says-allowed : (r s : ℕ) → Allowed r s → allowedPair σ cs r s ≡ true
-  unfolding allowedPair
-  says-allowed r s a =
-      and-true _ _ (lt-ltb _ _ (a .r-above)) (and-true _ _ (lt-ltb _ _ (a .r-below)) (lt-ltb _ _ (a .s-below)))
 
   module _ (servers : ℕ) (x : ℕ → ℕ → ℕ) where
     pub record BothZero (r s : ℕ) : Type 0 where

@@ -19,7 +19,7 @@ use Rattle.rules.specs.Columns.{sheetLimits, limitedSheet, readSheet, fa
 use Rattle.rules.specs.Settings.{Setting}
 use Rattle.rules.specs.Circuit.{Step, constant, entry, add, scale, multiply, test}
 use Rattle.rules.specs.CircuitReader.{stepOf, stepWires, stepGates, stepTests, stepFault, judgedStep, judgeStep}
-use Rattle.rules.specs.CircuitReader.{stepFormat, circuitLimits, limitedCircuit, readCircuit, circuitFault}
+use Rattle.rules.specs.CircuitReader.{stepFormat, circuitLimits, limitedCircuit, readCircuit}
 use Rattle.rules.proofs.Limits.{Limits, limits}
 
 module _ {A : Type 0} where
@@ -163,11 +163,3 @@ module _ (σ : Setting) (l : ℕ) where
       started : (b : Bool) → cond b (limitedCircuit (read (stepFormat σ l) s)) (refused 2) ≡ refused n → OneToThree n
       started true g = outcome (read (stepFormat σ l) s) refl g
       started false g = let e : 2 ≡ n = cc in (omega arith, omega arith)
-
-  pub circuit-read : (s : List ℕ) → circuitFault σ l s ≡ 0 → readCircuit σ l s ≡ ok (listIn (readCircuit σ l s))
-  unfolding circuitFault faultIn listIn
-  circuit-read s h = outcome (readCircuit σ l s) refl h
-    where
-      outcome : (r : Outcome (List Step)) → readCircuit σ l s ≡ r → faultIn r ≡ 0 → r ≡ ok (listIn r)
-      outcome (ok ks) q g = refl
-      outcome (refused n) q g = absurd (let b = circuit-refusals s n q in omega arith)

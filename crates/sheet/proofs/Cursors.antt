@@ -1,7 +1,7 @@
 -- Laws of the cursor over the columns of a sheet that is read: where it starts, goes on and ends, the bytes that stand under
 -- it, and that no count passes the sheet's. A loop keeps `c ≡ cursorAt s (c .index)` by them.
 -- Assumes that the sheet is read, where it is said.
-use mathlib.Core.Path.{_≡_, refl, sym, ap, _∙_, subst}
+use mathlib.Core.Path.{_≡_, sym, ap, _∙_, subst}
 use mathlib.Core.List.{List, [], _∷_, _++_}
 use Prim.Native.Nat.{ℕ, suc, _+_, _-_, _≤_, _<_}
 use native.Mathlib.Nat.{add-zero}
@@ -19,7 +19,7 @@ use Rattle.columns.specs.Kinds.{bytesOfKind, columnBytes, columnFrom}
 use Rattle.columns.proofs.Sums.{entries, published, gates, total-next, total-most}
 use Rattle.columns.proofs.ColumnBytes.{told}
 use Rattle.sheet.specs.declared.cursor.Cursor.{Cursor}
-use Rattle.sheet.specs.Cursor.{sheetBytes, cursorAt, begin, Stands}
+use Rattle.sheet.specs.Cursor.{sheetBytes, cursorAt, Stands}
 use Rattle.sheet.proofs.SheetBytes.{sheet-bytes, bytes, bytes-from}
 
 -- ---- what stands under a cursor
@@ -89,9 +89,6 @@ module _ (s : List ℕ) (is-read : readSheet s ≡ ok (columnsOf s)) where
       }
 
   -- ---- for a loop over the columns
-  pub cursor-start : begin ≡ cursorAt s 0
-  cursor-start = refl
-
   pub cursor-end : (k : ℕ) → length (columnsOf s) ≤ k
       → cursorAt s k
       ≡ record {

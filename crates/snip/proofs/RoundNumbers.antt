@@ -1,10 +1,10 @@
 -- The numbers of the two rounds from the walk over the columns: the run of the circuit is the walk, and the constant p - 1
 -- at a server is the server's factor times it. Assumes nothing.
-use mathlib.Core.Path.{_≡_, refl, sym, ap, ap₂, _∙_}
+use mathlib.Core.Path.{_≡_, sym, ap, ap₂, _∙_}
 use mathlib.Core.List.{List}
-use Prim.Native.Nat.{ℕ, suc, _+_, _-_, _≤_, _<_}
+use Prim.Native.Nat.{ℕ, suc, _+_, _-_}
 use native.Mathlib.Omega.{arith}
-use lib.ListN.{length, getD, take, drop}
+use lib.ListN.{length, take, drop}
 use lib.Seq.{getD-take, getD-drop}
 use Rattle.algebra.specs.Ops.{minus}
 use Rattle.algebra.specs.Interpolation.{basis, interpolate}
@@ -15,11 +15,8 @@ use Rattle.rules.specs.Columns.{Column, entriesIn}
 use Rattle.rules.specs.Circuit.{gatesIn}
 use Rattle.rules.specs.Run.{atServer}
 use Rattle.rules.specs.Judging.{through, folded, hOf, aOf, bOf, shareRun, fAt, gAt, hAt, dOf, eOf, tauOf}
-use Rattle.rules.specs.Server.{Opened, Waiting, waitingOf}
 use Rattle.rules.specs.Walk.{walkLefts, walkRights, walkTests}
 use Rattle.rules.proofs.Walk.{walk-is-run}
-use Rattle.snip.specs.declared.judging.Judged.{Judged}
-use Rattle.snip.specs.Judged.{judgedOf}
 use Rattle.walk.specs.Walks.{held, plain, members, outputs}
 use Rattle.walk.proofs.Meanings.{server-lefts, server-rights, server-tests}
 
@@ -121,15 +118,3 @@ module _ (cs : List Column) (k : ℕ) (xs : List ℕ) where
         p
         ∙ ap₂ (λ n i. folded residues (walkTests document01 (held n x (outputs i xs)) 0 0 cs) s) ec el
         ∙ tau-is s
-
--- these are the fields of the return that waits, in the rules of a server
-pub record Fields (w : Waiting) (j : Judged) : Type 0 where
-  pub d-field : w .d ≡ j .d
-  pub e-field : w .e ≡ j .e
-  pub rh-field : w .rh ≡ j .rh
-  pub tau-field : w .tau ≡ j .tau
-
-pub waiting-fields : (o : Opened) (id : ℕ) (xs : List ℕ) (r s : ℕ)
-    → Fields (waitingOf document01 o id xs r s) (judgedOf (o .columns) (o .own) xs r s)
-unfolding waitingOf
-waiting-fields o id xs r s = record { d-field = refl; e-field = refl; rh-field = refl; tau-field = refl }

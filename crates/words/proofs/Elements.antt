@@ -1,15 +1,14 @@
 -- Laws of runs of elements, for any width w. A run in two parts, the first of whole elements, says the elements of the
--- first and then those of the second; the laws of the first element, of a drop, and of writing and reading follow.
+-- first and then those of the second; the laws of the first element, and of writing and reading, follow.
 -- Assumes that the width is not 0, where it is said.
 use mathlib.Core.Path.{_≡_, refl, sym, ap, ap₂, _∙_}
-use mathlib.Core.Logic.{_⊎_, inl, inr, ⊎-elim}
 use mathlib.Core.List.{List, [], _∷_, _++_, append-assoc, append-nil}
 use Prim.Native.Nat.{ℕ, zero, suc, _+_, _*_, _/_, _-_, _^_, _≤_, _<_}
-use native.Mathlib.Nat.{mul-zero, mul-add, mul-comm, mul-le-mul-left, mul-add-div, mul-div-right}
-use native.Mathlib.Nat.{div-eq-of-lt, div-lt-iff-lt-mul, le-div-iff-mul-le}
+use native.Mathlib.Nat.{mul-zero, mul-add, mul-le-mul-left, mul-add-div, mul-div-right}
+use native.Mathlib.Nat.{div-eq-of-lt, le-div-iff-mul-le}
 use native.Mathlib.Omega.{arith}
-use lib.ListN.{length, getD, take, drop, length-append, length-drop, take-append-drop, drop-of-length-le}
-use lib.Seq.{length-take-le, take-append-le, drop-append-le, drop-append-add, take-at, drop-at, take-all}
+use lib.ListN.{length, getD, take, drop, length-append, length-drop, take-append-drop}
+use lib.Seq.{length-take-le, take-append-le, drop-append-le, drop-append-add, take-at, take-all}
 use Rattle.algebra.specs.Lists.{All, all[], all∷, tabulate}
 use Rattle.algebra.proofs.Tables.{length-tabulate, getD-tabulate, tabulate-append, tabulate-cong, tabulate-none}
 use Rattle.words.specs.Bytes.{valueOf, bytesOf, bytesOfAll, part, elementsOf}
@@ -17,12 +16,6 @@ use Rattle.words.proofs.Numbers.{length-bytes, value-bytes, value-below
 use Rattle.words.proofs.Splice.{length-part}
 use Rattle.algebra.proofs.Members.{getD-all}
 use Rattle.words.proofs.Below.{all-take, all-drop}
-
--- one of two orders
-order : (a b : ℕ) → (a ≤ b) ⊎ (b < a)
-order zero b = inl (omega arith)
-order (suc a) zero = inr (omega arith)
-order (suc a) (suc b) = ⊎-elim (λ h. inl (omega arith)) (λ h. inr (omega arith)) (order a b)
 
 -- ---- numbers one after another
 pub length-bytes-all : (w : ℕ) (vs : List ℕ) → length (bytesOfAll w vs) ≡ w * length vs
@@ -112,25 +105,6 @@ module _ (w : ℕ) (pos : 0 < w) where
       ap (elementsOf w) (sym (take-append-drop w s))
       ∙ elements-append (take w s) (drop w s) 1 (omega arith)
       ∙ ap (λ (l : List ℕ). l ++ elementsOf w (drop w s)) (elements-one (take w s) l)
-
-  -- what follows the first i
-  pub elements-drop : (s : List ℕ) (i : ℕ) → elementsOf w (drop (w * i) s) ≡ drop i (elementsOf w s)
-  elements-drop s i = ⊎-elim within past (order (w * i) (length s)) where
-    within : w * i ≤ length s → elementsOf w (drop (w * i) s) ≡ drop i (elementsOf w s)
-    within h =
-        let l : length (take (w * i) s) ≡ w * i = length-take-le (w * i) s h in
-        let m : length (elementsOf w (take (w * i) s)) ≡ i
-        = length-elements w (take (w * i) s) ∙ ap (λ (k : ℕ). k / w) l ∙ mul-div-right i pos in
-        sym (drop-at (elementsOf w (take (w * i) s)) (elementsOf w (drop (w * i) s)) i m)
-        ∙ ap (drop i) (sym (elements-append (take (w * i) s) (drop (w * i) s) i l))
-        ∙ ap (λ (l : List ℕ). drop i (elementsOf w l)) (take-append-drop (w * i) s)
-
-    past : length s < w * i → elementsOf w (drop (w * i) s) ≡ drop i (elementsOf w s)
-    past h =
-        let e : drop (w * i) s ≡ [] = drop-of-length-le s {i = w * i} (omega arith) in
-        let k : length s / w < i = div-lt-iff-lt-mul pos .1 (rw mul-comm h) in
-        let l : length (elementsOf w s) ≤ i = rw length-elements (omega arith) in
-        ap (elementsOf w) e ∙ elements-end [] pos ∙ sym (drop-of-length-le (elementsOf w s) l)
 
   -- what was written as elements is read as them
   pub elements-bytes : (xs : List ℕ) → All (λ x. x < 256 ^ w) xs → elementsOf w (bytesOfAll w xs) ≡ xs

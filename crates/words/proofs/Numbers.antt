@@ -55,11 +55,6 @@ value-bytes-mod (suc n) v =
 pub value-bytes : (n v : ℕ) → v < 256 ^ n → valueOf (bytesOf n v) ≡ v
 value-bytes n v h = value-bytes-mod n v ∙ mod-eq-of-lt h
 
-pub bytes-below : (n v : ℕ) → All (λ b. b < 256) (bytesOf n v)
-unfolding bytesOf
-bytes-below zero v = all[]
-bytes-below (suc n) v = all∷ (mod-lt v (lit< tt)) (bytes-below n (v / 256))
-
 value-small : (bs : List ℕ) → All (λ b. b < 256) bs → valueOf bs < 256 ^ length bs
 unfolding valueOf
 value-small [] all[] = lit< tt

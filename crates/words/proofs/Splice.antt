@@ -92,10 +92,3 @@ module _ (s : List ℕ) (a : ℕ) (ys : List ℕ) (fits : a + length ys ≤ leng
       let f : drop (a + length ys + length zs) (splice s a ys) ≡ drop (a + length (ys ++ zs)) s
       = drop-splice-add (length zs) ∙ rw (length-append, add-assoc) in
       rw (take-end-splice, f, append-assoc (take a s) ys zs)
-
-  -- one run over the other
-  pub splice-again : (zs : List ℕ) → length zs ≡ length ys → splice (splice s a ys) a zs ≡ splice s a zs
-  unfolding splice
-  splice-again zs e =
-      let f : drop (a + length zs) (splice s a ys) ≡ drop (a + length zs) s = drop-splice (a + length zs) (omega arith) in
-      rw (take-splice a (omega arith), f)

@@ -8,9 +8,9 @@ use borrow.Author.Tests.{ne-eqb, eqb-true, eqb-false}
 use lib.Dec.{eqb}
 use Rattle.rules.specs.Settings.{document01}
 use Rattle.rules.specs.Table.{twoRefused, twoVerdict}
-use Rattle.rounds.specs.declared.Verdict.{Verdict}
-use Rattle.rounds.specs.declared.Verdict.the-variants as answer
-use Rattle.rounds.specs.Calls.{verdictOf, RoundTwo}
+use Rattle.round_two.specs.declared.Verdict.{Verdict}
+use Rattle.round_two.specs.declared.Verdict.the-variants as answer
+use Rattle.round_two.specs.Calls.{verdictOf, RoundTwo}
 use Rattle.pool.specs.Outcomes.{ifDone}
 use Rattle.pool.specs.Tables.{Decides}
 

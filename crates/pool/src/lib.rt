@@ -6,7 +6,7 @@ ghost use Rattle.pool.specs.Outcomes.{numberOf, lengthOf};
 ghost use Rattle.pool.specs.Calls.{ReadsSheet, WritesCircuit, ReadsCircuit};
 ghost use Rattle.pool.specs.Tables.{Makes, Opens, TakesShare, TakesOne, Decides, Drops, Closes, Joins};
 use records::Written;
-use rounds::Verdict;
+use round_two::Verdict;
 use sheet::Reading;
 use totals::Joined;
 
@@ -143,7 +143,7 @@ pub extern "C" fn pool_round_one(
     ensures { λ a. ⌜ TakesOne (now (table .entry)) (now (joined .entry)) (now (out .entry)) (now (written .entry))
         a (now (table .exit)) (now (out .exit)) (now (written .exit)) ⌝ }
 {
-    told(rounds::round_one(table, joined, out), written)
+    told(round_one::round_one(table, joined, out), written)
 }
 
 #[no_mangle]
@@ -151,7 +151,7 @@ pub extern "C" fn pool_round_two(table: &mut [u8], joined: &[u8], accepted: &mut
     ensures { λ a. ⌜ Decides (now (table .entry)) (now (joined .entry)) (now (accepted .entry))
         a (now (table .exit)) (now (accepted .exit)) ⌝ }
 {
-    match rounds::round_two(table, joined) {
+    match round_two::round_two(table, joined) {
         Verdict::Refused(refusal) => refusal,
         Verdict::Accepted => {
             *accepted = 1;

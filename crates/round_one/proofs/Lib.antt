@@ -1,0 +1,2 @@
+-- Laws of round one.
+pub mod FirstRound

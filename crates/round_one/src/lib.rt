@@ -1,0 +1,83 @@
+// Round one on a server's table: the refusal, then the sums, the stage and the message of round two. The definitions
+// that the contracts cite are those of the crate rules, at document 01's setting, and of specs/. A refusal leaves the
+// table and the buffer as they were.
+ghost use mathlib.Core.Path.{_≡_};
+ghost use Prim.Native.Nat.{_+_, _≤_};
+ghost use lib.ListN.{length};
+ghost use Rattle.words.specs.Bytes.{splice};
+ghost use Rattle.rules.specs.Settings.{document01};
+ghost use Rattle.rules.specs.Table.{oneTable, oneBytes};
+ghost use Rattle.waiting.specs.Held.{waitsIn, Waits};
+ghost use Rattle.round_one.specs.One.{oneFaultAt, sumsStored, OneReady};
+ghost use Rattle.round_one.specs.Calls.{RoundOne};
+use layout::Table;
+use layout::places::wait_place;
+use records::Written;
+use table::Found;
+use table::read;
+use waiting::held::Waiting;
+use waiting::held::own_refusal;
+use waiting::held::read_waiting;
+use waiting::held::sigma_of;
+
+// The refusal by the joined messages and by the room for the message that is written: 12, 14, or 0 for none.
+fn one_refusal(t: &[u8], joined: &[u8], k: Table, w: Waiting, room: usize) -> u32
+    requires { ⌜ Waits (now t) k × (w ≡ waitsIn (now t)) ⌝ }
+    ensures { λ r. ⌜ r ≡ oneFaultAt (now (t .entry)) (now (joined .entry)) room ⌝ }
+{
+    let fault = own_refusal(joined, k.servers, 34, w.id, k.own, w.d, w.e);
+    if fault != 0 {
+        return fault;
+    }
+    if room < 14 {
+        return 14;
+    }
+    0
+}
+
+// Stores the sums d and e from `at`, and the stage.
+fn store_sums(t: &mut [u8], at: usize, d: u32, e: u32)
+    requires { ⌜ (2 ≤ length (now t)) × (at + 8 ≤ length (now t)) ⌝ }
+    ensures { λ _. ⌜ now (t .exit) ≡ sumsStored (now (t .entry)) at d e ⌝ }
+{
+    words::write_u32(t, at, d);
+    words::write_u32(t, at + 4, e);
+    t[1] = 2;
+}
+
+// Stores the sums of the joined messages, and writes the own message of round two.
+fn take_one(t: &mut [u8], joined: &[u8], k: Table, w: Waiting, out: &mut [u8])
+    requires { ⌜ OneReady (now t) (now joined) k w (length (now out)) ⌝ }
+    ensures { λ _. ⌜ (now (t .exit) ≡ oneTable document01 (now (t .entry)) (now (joined .entry)))
+        × (now (out .exit)
+        ≡ splice (now (out .entry)) 0 (oneBytes document01 (now (t .entry)) (now (joined .entry)))) ⌝ }
+{
+    let d = message::first_sum(joined, k.servers);
+    let e = message::second_sum(joined, k.servers);
+    let sigma = sigma_of(t, k, w, d, e);
+    let at = wait_place(k.sheet, k.published, k.returns) + 4 + 8;
+    store_sums(t, at, d, e);
+    message::write_round(out, 35, w.id, k.own as u8, sigma, w.tau);
+}
+
+// Takes the joined messages of round one, and writes the own message of round two.
+pub fn round_one(table: &mut [u8], joined: &[u8], out: &mut [u8]) -> Written
+    ensures { λ r. ⌜ RoundOne (now (table .entry)) (now (joined .entry)) (now (out .entry)) r
+        (now (table .exit)) (now (out .exit)) ⌝ }
+{
+    match read(table) {
+        Found::Unsound => Written::Refused(11),
+        Found::Table(k) => {
+            if k.stage != 1 {
+                return Written::Refused(11);
+            }
+            let w = read_waiting(table, k);
+            let refusal = one_refusal(table, joined, k, w, out.len());
+            if refusal != 0 {
+                return Written::Refused(refusal);
+            }
+            take_one(table, joined, k, w, out);
+            Written::Done(14)
+        }
+    }
+}

@@ -1,0 +1,2 @@
+-- Laws of round two.
+pub mod SecondRound

@@ -1,0 +1,150 @@
+-- `round_two::round_two` meets its contract: what a sound table gives is what the functions below ask for, and each way out is
+-- a case of the definition (`second-unsound`, `second-stage`, `second-refused`, `second-accepted`, `second-rejected`).
+-- Assumes nothing.
+use mathlib.Core.Path.{sym, _∙_}
+use Rattle.table.proofs.Answers.{sound}
+use Rattle.round_two.proofs.SecondRound.{second-unsound, second-stage, second-waits, second-refused, second-ready}
+use Rattle.round_two.proofs.SecondRound.{second-accepted, second-rejected}
+use borrow.Author.Needs.{needs}
+use Rattle.round_two.proofs.round_two.Statement.{statement}
+use Rattle.round_two.proofs.round_two.Tie as tie
+
+read-requires : tie.Need-read-requires
+read-requires c κs = search needs
+
+enum-told : tie.Need-enum-told
+enum-told c = search needs
+
+enum-known-k : tie.Need-enum-known-k
+enum-known-k c = search needs
+
+same-length : tie.Need-same-length
+same-length c = search needs
+
+returns : tie.Need-returns
+returns c =
+    let u = c .before .before .before in
+    let r = u .before .before in
+    let a = r .before .before .before .before in
+    let T = a .args .table .now in
+    let J = a .args .joined .now in
+    let s = sound T _ (sym (r .read .ensures) ∙ u .k .given .1) in
+    second-stage T J _ s (c .if1 .taken)
+
+read-waiting-requires : tie.Need-read-waiting-requires
+read-waiting-requires c κs =
+    let i = c .before in
+    let u = i .before .before .before in
+    let r = u .before .before in
+    let a = r .before .before .before .before in
+    let T = a .args .table .now in
+    let J = a .args .joined .now in
+    let s = sound T _ (sym (r .read .ensures) ∙ u .k .given .1) in
+    second-waits T J _ s (i .if1 .left)
+
+two-refusal-requires : tie.Need-two-refusal-requires
+two-refusal-requires c κs =
+    let w = c .before in
+    let i = w .before .before in
+    let u = i .before .before .before in
+    let r = u .before .before in
+    let a = r .before .before .before .before in
+    let T = a .args .table .now in
+    let J = a .args .joined .now in
+    let s = sound T _ (sym (r .read .ensures) ∙ u .k .given .1) in
+    (second-waits T J _ s (i .if1 .left), w .read-waiting .ensures)
+
+same-length-2 : tie.Need-same-length-2
+same-length-2 c = search needs
+
+returns-2 : tie.Need-returns-2
+returns-2 c =
+    let f = c .before in
+    let i = f .before .before .before .before in
+    let u = i .before .before .before in
+    let r = u .before .before in
+    let a = r .before .before .before .before in
+    let T = a .args .table .now in
+    let J = a .args .joined .now in
+    let s = sound T _ (sym (r .read .ensures) ∙ u .k .given .1) in
+    second-refused T J _ s (i .if1 .left) _ (f .two-refusal .ensures) (c .if2 .taken)
+
+settle-requires : tie.Need-settle-requires
+settle-requires c κs =
+    let z = c .before in
+    let f = z .before in
+    let w = f .before .before in
+    let i = w .before .before in
+    let u = i .before .before .before in
+    let r = u .before .before in
+    let a = r .before .before .before .before in
+    let T = a .args .table .now in
+    let J = a .args .joined .now in
+    let s = sound T _ (sym (r .read .ensures) ∙ u .k .given .1) in
+    second-ready T J _ s (i .if1 .left) _ (f .two-refusal .ensures) _ (w .read-waiting .ensures) (z .if2 .left)
+
+same-length-3 : tie.Need-same-length-3
+same-length-3 c = search needs
+
+returns-3 : tie.Need-returns-3
+returns-3 c =
+    let t = c .before .before .before in
+    let z = t .before .before in
+    let f = z .before in
+    let i = f .before .before .before .before in
+    let u = i .before .before .before in
+    let r = u .before .before in
+    let a = r .before .before .before .before in
+    let T = a .args .table .now in
+    let J = a .args .joined .now in
+    let s = sound T _ (sym (r .read .ensures) ∙ u .k .given .1) in
+    second-accepted T J _ s (i .if1 .left) _ (f .two-refusal .ensures) _ (z .if2 .left) (sym (c .if3 .taken) ∙ t .settle .ensures .0)
+    (t .settle .ensures .1)
+
+same-length-4 : tie.Need-same-length-4
+same-length-4 c = search needs
+
+returns-4 : tie.Need-returns-4
+returns-4 c =
+    let r = c .before .before in
+    let a = r .before .before .before .before in
+    second-unsound (a .args .table .now) (a .args .joined .now) (sym (r .read .ensures) ∙ c .enum-told .given .1)
+
+same-length-5 : tie.Need-same-length-5
+same-length-5 c = search needs
+
+returns-5 : tie.Need-returns-5
+returns-5 c =
+    let t = c .before .before .before in
+    let z = t .before .before in
+    let f = z .before in
+    let i = f .before .before .before .before in
+    let u = i .before .before .before in
+    let r = u .before .before in
+    let a = r .before .before .before .before in
+    let T = a .args .table .now in
+    let J = a .args .joined .now in
+    let s = sound T _ (sym (r .read .ensures) ∙ u .k .given .1) in
+    second-rejected T J _ s (i .if1 .left) _ (f .two-refusal .ensures) _ (z .if2 .left) (sym (c .if3 .left) ∙ t .settle .ensures .0)
+    (t .settle .ensures .1)
+
+pub round-two-spec : {M : Type 1} → statement M
+round-two-spec =
+    tie.close
+    (tie.spec
+    read-requires
+    enum-told
+    enum-known-k
+    same-length
+    returns
+    read-waiting-requires
+    two-refusal-requires
+    same-length-2
+    returns-2
+    settle-requires
+    same-length-3
+    returns-3
+    same-length-4
+    returns-4
+    same-length-5
+    returns-5)

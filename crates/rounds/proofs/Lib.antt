@@ -1,3 +1,0 @@
--- Laws of the two rounds.
-pub mod FirstRound
-pub mod SecondRound

@@ -27,9 +27,10 @@ use Rattle.layout.specs.declared.Table.{Table}
 use Rattle.table.specs.Reading.{foundIn, pairSound, Sound}
 use Rattle.table.specs.declared.Found.the-variants as found
 use Rattle.table.proofs.Answers.{unsound}
+use Rattle.share_checks.specs.Checks.{startFault, messageFault, lastFault}
+use Rattle.share_checks.proofs.Refusing.{refusal-in-order}
 use Rattle.shares.specs.Calls.{Shares}
-use Rattle.shares.specs.Taking.{startFault, messageFault, lastFault, Takable}
-use Rattle.shares.proofs.Refusing.{refusal-in-order}
+use Rattle.shares.specs.Taking.{Takable}
 
 module _ (T m : List ℕ) (r s : ℕ) (out : List ℕ) where
   refused-as : (x : ℕ) → shareRefused document01 T m r s (length out) ≡ x → (x ≡ 0 → ⊥)

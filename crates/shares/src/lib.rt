@@ -1,91 +1,25 @@
-// Taking a share. The definitions that the contracts cite are those of the crate rules, at document 01's setting, and of
-// specs/. A refusal leaves the table and the buffer as they were.
+// Taking a share. The definitions that the contracts cite are those of the crate rules, at document 01's setting, and
+// of specs/. A refusal leaves the table and the buffer as they were.
 ghost use mathlib.Core.Path.{_≡_};
 ghost use Prim.Native.Nat.{_+_, _≤_};
 ghost use lib.ListN.{length};
 ghost use Rattle.words.specs.Bytes.{splice};
 ghost use Rattle.rules.specs.Settings.{document01};
-ghost use Rattle.rules.specs.Server.{shareRefusal};
 ghost use Rattle.rules.specs.Messages.{shareElements};
-ghost use Rattle.rules.specs.Table.{known, columnsIn, shareTable, shareBytes};
+ghost use Rattle.rules.specs.Table.{columnsIn, shareTable, shareBytes};
 ghost use Rattle.snip.specs.Judged.{judgedOf};
-ghost use Rattle.table.specs.Reading.{Sound};
 ghost use Rattle.shares.specs.Calls.{Shares};
-ghost use Rattle.shares.specs.Taking.{startFault, messageFault, lastFault, waitBytes, Fitting, Takable};
+ghost use Rattle.shares.specs.Taking.{waitBytes, Takable};
 use columns::Counts;
 use layout::Table;
-use layout::places::ids_place;
 use layout::places::share_size;
 use layout::places::wait_place;
 use records::Written;
-use records::or_else;
+use share_checks::share_refusal;
 use snip::judging::Judged;
 use snip::judging::judge;
 use table::Found;
-use table::has_id;
-use table::pair_sound;
 use table::read;
-
-// The refusal by the table: 11 where it is not idle, 13 where N returns are decided, 0 for none.
-fn start_refusal(k: Table) -> u32
-    ensures { λ n. ⌜ n ≡ startFault k ⌝ }
-{
-    if k.stage != 0 {
-        return 11;
-    }
-    if k.decided < k.returns {
-        return 0;
-    }
-    13
-}
-
-// The refusal by the message of a share of `size` elements: 7 by its header, 8 by an element, 0 for none.
-fn message_refusal(m: &[u8], size: usize, own: u32) -> u32
-    requires { ⌜ size ≤ 774 ⌝ }
-    ensures { λ n. ⌜ n ≡ messageFault size own (now (m .entry)) ⌝ }
-{
-    let refusal = message::header_refusal(m, size, own);
-    if refusal != 0 {
-        return refusal;
-    }
-    if elements::below(message::share_part(m, size, own), field::P) {
-        return 0;
-    }
-    8
-}
-
-// The refusal by what is left: 10 for an id already decided, 9 for a pair out of range, 14 for too little room, 0 for none.
-fn last_refusal(t: &[u8], k: Table, m: &[u8], r: u64, s: u64, room: usize) -> u32
-    requires { ⌜ Fitting (now t) k (now m) ⌝ }
-    ensures { λ n. ⌜ n ≡ lastFault (now (t .entry)) k (now (m .entry)) r s room ⌝ }
-{
-    let start = ids_place(k.sheet, k.published);
-    let end = start + 4 * (k.decided as usize);
-    if has_id(&t[start..end], message::id_of(m)) {
-        return 10;
-    }
-    if !pair_sound(k.gates, r, s) {
-        return 9;
-    }
-    if room < 14 {
-        return 14;
-    }
-    0
-}
-
-// The refusal of a share by a sound table, 0 for none: 11, 13, 7, 8, 10, 9, 14.
-fn share_refusal(t: &[u8], k: Table, m: &[u8], r: u64, s: u64, room: usize) -> u32
-    requires { ⌜ Sound (now t) k ⌝ }
-    ensures { λ n. ⌜ n ≡ shareRefusal document01 (known document01 (now (t .entry))) (now (m .entry)) r s room ⌝ }
-{
-    let first = start_refusal(k);
-    let second = message_refusal(m, share_size(k.entries, k.gates), k.own);
-    let refusal = or_else(first, second);
-    if refusal != 0 {
-        return refusal;
-    }
-    last_refusal(t, k, m, r, s, room)
-}
 
 // What the server works out from the share m with the pair r, s.
 fn judged(t: &[u8], k: Table, m: &[u8], r: u32, s: u32) -> Judged

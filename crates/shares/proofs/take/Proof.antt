@@ -1,6 +1,6 @@
 -- `shares::take` meets its contract: what it writes into the table and into the buffer is what rules say (`table-written`,
 -- `message-written`). Assumes nothing.
-use mathlib.Core.Path.{ap, _∙_}
+use mathlib.Core.Path.{ap}
 use native.Mathlib.Omega.{arith}
 use lib.ListN.{length-set}
 use Rattle.words.specs.Bytes.{splice}
@@ -68,10 +68,10 @@ returns c =
       rw (y .copy .ensures, z .write-waiting .ensures)
           (table-written (a .table .now) (a .k) (a .m .now) (a .r) (a .s) (p .pre .0) (i .result) (j .result) (i .ensures) (j .ensures)
           (w .result) (w .ensures)),
-      c .before .before .write-round .ensures
-          ∙ ap (splice (a .out .now) 0)
+      rw (c .before .before .write-round .ensures)
+          (ap (splice (a .out .now) 0)
           (message-written (a .table .now) (a .k) (a .m .now) (a .r) (a .s) (p .pre .0) (i .result) (j .result) (i .ensures)
-          (j .ensures)),
+          (j .ensures))),
     )
 
 pub take-spec : {M : Type 1} → statement M

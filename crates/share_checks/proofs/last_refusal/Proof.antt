@@ -1,9 +1,9 @@
--- `shares::last_refusal` meets its contract: the ids decided, the pair and the room are tested in turn (`last-used` and so
+-- `share_checks::last_refusal` meets its contract: the ids decided, the pair and the room are tested in turn (`last-used` and so
 -- on). Assumes nothing.
-use Rattle.shares.proofs.Faults.{last-used, last-pair, last-short, last-none}
+use Rattle.share_checks.proofs.Faults.{last-used, last-pair, last-short, last-none}
 use borrow.Author.Needs.{needs}
-use Rattle.shares.proofs.last_refusal.Statement.{statement}
-use Rattle.shares.proofs.last_refusal.Tie as tie
+use Rattle.share_checks.proofs.last_refusal.Statement.{statement}
+use Rattle.share_checks.proofs.last_refusal.Tie as tie
 
 ids-place-requires : tie.Need-ids-place-requires
 ids-place-requires c κs = search needs

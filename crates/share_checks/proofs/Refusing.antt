@@ -24,7 +24,7 @@ use Rattle.message.proofs.Shares.{header-fault, header-long}
 use Rattle.layout.specs.Places.{idsAt, sizeOf}
 use Rattle.layout.specs.declared.Table.{Table}
 use Rattle.table.specs.Reading.{tableOf, pairSound, Sound}
-use Rattle.shares.specs.Taking.{startFault, messageFault, lastFault, Fitting}
+use Rattle.share_checks.specs.Checks.{startFault, messageFault, lastFault, Fitting}
 
 abbrev stageOf : ℕ → Waiting → Stage
 stageOf b w = cond (eqb b 0) idle (cond (eqb b 1) (awaitsOne w) (cond (eqb b 2) (awaitsTwo w) closed))

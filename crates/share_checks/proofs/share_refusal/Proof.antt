@@ -1,10 +1,10 @@
--- `shares::share_refusal` meets its contract: the table and the message decide, and where they do not the rest does
+-- `share_checks::share_refusal` meets its contract: the table and the message decide, and where they do not the rest does
 -- (`refused-first`, `refused-last`). Assumes nothing.
 use mathlib.Core.Path.{_∙_}
-use Rattle.shares.proofs.Refusing.{refused-first, refused-last, fitting}
+use Rattle.share_checks.proofs.Refusing.{refused-first, refused-last, fitting}
 use borrow.Author.Needs.{needs}
-use Rattle.shares.proofs.share_refusal.Statement.{statement}
-use Rattle.shares.proofs.share_refusal.Tie as tie
+use Rattle.share_checks.proofs.share_refusal.Statement.{statement}
+use Rattle.share_checks.proofs.share_refusal.Tie as tie
 
 start-refusal-requires : tie.Need-start-refusal-requires
 start-refusal-requires c κs = search needs

@@ -1,7 +1,7 @@
--- `shares::start_refusal` meets its contract: the stage is tested, then the count (`start-busy` and so on). Assumes nothing.
-use Rattle.shares.proofs.Faults.{start-busy, start-open, start-full}
-use Rattle.shares.proofs.start_refusal.Statement.{statement}
-use Rattle.shares.proofs.start_refusal.Tie as tie
+-- `share_checks::start_refusal` meets its contract: the stage is tested, then the count (`start-busy` and so on). Assumes nothing.
+use Rattle.share_checks.proofs.Faults.{start-busy, start-open, start-full}
+use Rattle.share_checks.proofs.start_refusal.Statement.{statement}
+use Rattle.share_checks.proofs.start_refusal.Tie as tie
 
 returns : tie.Need-returns
 returns c = start-busy (c .before .before .args .k) (c .if1 .taken)

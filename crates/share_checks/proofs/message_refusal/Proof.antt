@@ -1,10 +1,10 @@
--- `shares::message_refusal` meets its contract: a header that is not refused has its elements behind it, and these decide
+-- `share_checks::message_refusal` meets its contract: a header that is not refused has its elements behind it, and these decide
 -- (`message-sound`, `message-over`). Assumes nothing.
 use mathlib.Core.Path.{sym, _∙_}
-use Rattle.shares.proofs.Faults.{message-header, message-sound, message-over}
+use Rattle.share_checks.proofs.Faults.{message-header, message-sound, message-over}
 use borrow.Author.Needs.{needs}
-use Rattle.shares.proofs.message_refusal.Statement.{statement}
-use Rattle.shares.proofs.message_refusal.Tie as tie
+use Rattle.share_checks.proofs.message_refusal.Statement.{statement}
+use Rattle.share_checks.proofs.message_refusal.Tie as tie
 
 header-refusal-requires : tie.Need-header-refusal-requires
 header-refusal-requires c κs = search needs

@@ -16,7 +16,7 @@ use Rattle.message.proofs.Parts.{span}
 use Rattle.layout.specs.Places.{idsAt}
 use Rattle.layout.specs.declared.Table.{Table}
 use Rattle.table.specs.Reading.{pairSound}
-use Rattle.shares.specs.Taking.{startFault, messageFault, lastFault}
+use Rattle.share_checks.specs.Checks.{startFault, messageFault, lastFault}
 
 -- ---- the table
 module _ (k : Table) where

@@ -1,0 +1,3 @@
+-- Laws of the checks of a share.
+pub mod Faults
+pub mod Refusing

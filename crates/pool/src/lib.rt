@@ -115,7 +115,7 @@ pub extern "C" fn pool_open(
     ensures { λ a. ⌜ Opens servers own (now (sheet .entry)) returns (now (table .entry)) (now (written .entry))
         a (now (table .exit)) (now (written .exit)) ⌝ }
 {
-    told(server::open(servers, own, sheet, returns, table), written)
+    told(opening::open(servers, own, sheet, returns, table), written)
 }
 
 #[no_mangle]
@@ -168,7 +168,7 @@ pub extern "C" fn pool_round_two(table: &mut [u8], joined: &[u8], accepted: &mut
 pub extern "C" fn pool_drop(table: &mut [u8]) -> u32
     ensures { λ a. ⌜ Drops (now (table .entry)) a (now (table .exit)) ⌝ }
 {
-    server::drop(table)
+    closing::drop(table)
 }
 
 #[no_mangle]
@@ -176,7 +176,7 @@ pub extern "C" fn pool_close(table: &mut [u8], out: &mut [u8], written: &mut usi
     ensures { λ a. ⌜ Closes (now (table .entry)) (now (out .entry)) (now (written .entry))
         a (now (table .exit)) (now (out .exit)) (now (written .exit)) ⌝ }
 {
-    told(server::close(table, out), written)
+    told(closing::close(table, out), written)
 }
 
 // ---- Totals

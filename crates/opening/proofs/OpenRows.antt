@@ -8,7 +8,7 @@ use Rattle.records.specs.Answers.{answered}
 use Rattle.records.specs.declared.Written.{Written}
 use Rattle.records.specs.declared.Written.the-variants as written
 use Rattle.rules.proofs.Computing.{everything}
-use Rattle.server.specs.Calls.{Opens}
+use Rattle.opening.specs.Calls.{Opens}
 
 module _ (r : Written) (T' : List ℕ) where
   -- one server, and the own number past it

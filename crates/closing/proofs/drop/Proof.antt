@@ -1,4 +1,4 @@
--- `server::drop` meets its contract: a sound table gives the reads and the writes their room, and the return that waits
+-- `closing::drop` meets its contract: a sound table gives the reads and the writes their room, and the return that waits
 -- is decided (`drop-done`); else it is refused (`drop-unsound`, `drop-quiet`). Assumes nothing.
 use mathlib.Core.Path.{_≡_, sym, _∙_}
 use mathlib.Core.Bool.{true}
@@ -10,10 +10,10 @@ use Rattle.rules.specs.Columns.{within}
 use Rattle.layout.specs.declared.Table.{Table}
 use Rattle.table.specs.Reading.{Sound}
 use Rattle.table.proofs.Answers.{sound}
-use Rattle.server.proofs.Dropping.{drop-unsound, drop-quiet, drop-done, drop-decides}
+use Rattle.closing.proofs.Dropping.{drop-unsound, drop-quiet, drop-done, drop-decides}
 use borrow.Author.Needs.{needs}
-use Rattle.server.proofs.drop.Statement.{statement}
-use Rattle.server.proofs.drop.Tie as tie
+use Rattle.closing.proofs.drop.Statement.{statement}
+use Rattle.closing.proofs.drop.Tie as tie
 
 abbrev bytes : tie.After-k → List ℕ
 bytes u = u .before .before .before .before .before .args .table .now

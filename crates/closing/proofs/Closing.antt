@@ -28,8 +28,8 @@ use Rattle.layout.specs.declared.Table.{Table}
 use Rattle.table.specs.Reading.{tableOf, foundIn, Sound}
 use Rattle.table.specs.declared.Found.the-variants as answer
 use Rattle.table.proofs.Answers.{unsound}
-use Rattle.server.specs.Calls.{Closes}
-use Rattle.server.proofs.Stages.{idle-at, not-idle}
+use Rattle.closing.specs.Calls.{Closes}
+use Rattle.closing.proofs.Stages.{idle-at, not-idle}
 
 -- ---- the closing message is rules'
 module _ (T : List ℕ) where

@@ -1,4 +1,4 @@
--- `server::close` meets its contract: a sound table gives the message its totals and the buffer's test its room
+-- `closing::close` meets its contract: a sound table gives the message its totals and the buffer's test its room
 -- (`close-done`); else it is refused (`close-unsound`, `close-staged`, `close-narrow`). Assumes nothing.
 use mathlib.Core.Path.{sym, _∙_}
 use mathlib.Core.List.{List}
@@ -8,10 +8,10 @@ use Rattle.algebra.specs.Lists.{All}
 use Rattle.algebra.proofs.Members.{getD-all}
 use Rattle.table.specs.Reading.{Sound}
 use Rattle.table.proofs.Answers.{sound}
-use Rattle.server.proofs.Closing.{close-unsound, close-staged, close-narrow, close-closes, close-done}
+use Rattle.closing.proofs.Closing.{close-unsound, close-staged, close-narrow, close-closes, close-done}
 use borrow.Author.Needs.{needs}
-use Rattle.server.proofs.close.Statement.{statement}
-use Rattle.server.proofs.close.Tie as tie
+use Rattle.closing.proofs.close.Statement.{statement}
+use Rattle.closing.proofs.close.Tie as tie
 
 abbrev given : tie.After-k → tie.Start
 given u = u .before .before .before .before .before .before

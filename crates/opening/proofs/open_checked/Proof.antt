@@ -1,4 +1,4 @@
--- `server::open_checked` meets its contract: each test in its turn gives the refusal that is told there, and where none does
+-- `opening::open_checked` meets its contract: each test in its turn gives the refusal that is told there, and where none does
 -- the counts of the sheet give the length. Assumes nothing.
 use mathlib.Core.Path.{_≡_, sym, _∙_}
 use Prim.Native.Nat.{_≤_}
@@ -7,11 +7,11 @@ use Rattle.rules.specs.Settings.{document01}
 use Rattle.rules.specs.Table.{openLength}
 use Rattle.rules.proofs.Refusals.{sheet-read}
 use Rattle.sheet.proofs.Answers.{reading-refused}
-use Rattle.server.proofs.Opening.{Counted, counted, length-is, returns-most, servers-few, servers-many, own-outside}
-use Rattle.server.proofs.Opening.{sheet-refused, returns-refused, room-short, room-enough}
+use Rattle.opening.proofs.Opening.{Counted, counted, length-is, returns-most, servers-few, servers-many, own-outside}
+use Rattle.opening.proofs.Opening.{sheet-refused, returns-refused, room-short, room-enough}
 use borrow.Author.Needs.{needs}
-use Rattle.server.proofs.open_checked.Statement.{statement}
-use Rattle.server.proofs.open_checked.Tie as tie
+use Rattle.opening.proofs.open_checked.Statement.{statement}
+use Rattle.opening.proofs.open_checked.Tie as tie
 
 -- the counts of the sheet that is read
 seen : (u : tie.After-counts)

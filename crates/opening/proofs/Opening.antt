@@ -29,9 +29,9 @@ use Rattle.sheet.specs.declared.Reading.the-variants as sheet
 use Rattle.sheet.proofs.Answers.{reading-counts}
 use Rattle.layout.specs.Places.{lengthAt, sizeOf}
 use Rattle.layout.proofs.Positions.{table-length}
-use Rattle.server.specs.Calls.{Opens}
-use Rattle.server.specs.Fresh.{freshBytes, Roomy}
-use Rattle.server.proofs.FreshTable.{open-bytes}
+use Rattle.opening.specs.Calls.{Opens}
+use Rattle.opening.specs.Fresh.{freshBytes, Roomy}
+use Rattle.opening.proofs.FreshTable.{open-bytes}
 
 -- ---- what the counts of a sheet that is read keep to
 pub record Counted (s : List ℕ) (k : Counts) : Type 0 where

@@ -15,11 +15,11 @@ use Rattle.layout.specs.Places.{waitAt}
 use Rattle.layout.specs.Writing.{decidedAs, Decidable}
 use Rattle.table.specs.Reading.{tableOf, foundIn, Sound}
 use Rattle.records.specs.Answers.{onlyIf}
-use Rattle.server.specs.Calls.{Drops}
+use Rattle.closing.specs.Calls.{Drops}
 use Rattle.layout.specs.declared.Table.{Table}
 use Rattle.table.specs.declared.Found.the-variants as answer
 use Rattle.table.proofs.Answers.{unsound}
-use Rattle.server.proofs.Stages.{none-waits, one-waits}
+use Rattle.closing.proofs.Stages.{none-waits, one-waits}
 
 module _ (T : List ℕ) where
   refused : dropRefused document01 T ≡ 11 → Drops T 11 T

@@ -1,9 +1,9 @@
--- `server::write_fresh` meets its contract: header, sheet and zeros are put one behind the other (`fresh-written`).
+-- `opening::write_fresh` meets its contract: header, sheet and zeros are put one behind the other (`fresh-written`).
 -- Assumes nothing.
-use Rattle.server.proofs.FreshTable.{fresh-written}
+use Rattle.opening.proofs.FreshTable.{fresh-written}
 use borrow.Author.Needs.{needs}
-use Rattle.server.proofs.write_fresh.Statement.{statement}
-use Rattle.server.proofs.write_fresh.Tie as tie
+use Rattle.opening.proofs.write_fresh.Statement.{statement}
+use Rattle.opening.proofs.write_fresh.Tie as tie
 
 add-end : tie.Need-add-end
 add-end c = search needs

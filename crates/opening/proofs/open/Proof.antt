@@ -1,10 +1,10 @@
--- `server::open` meets its contract: where the check refuses, the buffer stays (`open-refused`), else the table is written
+-- `opening::open` meets its contract: where the check refuses, the buffer stays (`open-refused`), else the table is written
 -- that the check has measured (`open-done`). Assumes nothing.
 use native.Mathlib.Omega.{arith}
-use Rattle.server.proofs.Opening.{servers-fit, open-roomy, open-refused, open-done}
+use Rattle.opening.proofs.Opening.{servers-fit, open-roomy, open-refused, open-done}
 use borrow.Author.Needs.{needs}
-use Rattle.server.proofs.open.Statement.{statement}
-use Rattle.server.proofs.open.Tie as tie
+use Rattle.opening.proofs.open.Statement.{statement}
+use Rattle.opening.proofs.open.Tie as tie
 
 open-checked-requires : tie.Need-open-checked-requires
 open-checked-requires c κs = search needs

@@ -12,7 +12,7 @@ use Rattle.words.proofs.Loops.{grow}
 use Rattle.rules.specs.Settings.{document01}
 use Rattle.rules.specs.Table.{openBytes, openLength}
 use Rattle.layout.specs.Writing.{startBytes}
-use Rattle.server.specs.Fresh.{freshBytes, Roomy}
+use Rattle.opening.specs.Fresh.{freshBytes, Roomy}
 
 length-start : (servers own returns n : ℕ) → length (startBytes servers own returns n) ≡ 12
 unfolding startBytes

@@ -1,0 +1,49 @@
+// Dropping the return that waits in a server's table, and closing the table. The definitions that the contracts cite
+// are those of the crate rules, at document 01's setting, and of specs/. A refusal leaves the table and the buffer as
+// they were.
+ghost use Rattle.closing.specs.Calls.{Drops, Closes};
+use layout::places::wait_place;
+use layout::writing::decide;
+use layout::writing::write_closing;
+use records::Written;
+use table::Found;
+use table::read;
+use table::waits;
+
+// Drops the return that waits. Its id stays used.
+pub fn drop(table: &mut [u8]) -> u32
+    ensures { λ r. ⌜ Drops (now (table .entry)) r (now (table .exit)) ⌝ }
+{
+    match read(table) {
+        Found::Unsound => 11,
+        Found::Table(k) => {
+            if !waits(k.stage) {
+                return 11;
+            }
+            let id = words::read_u32(table, wait_place(k.sheet, k.published, k.returns));
+            decide(table, k, 0, id);
+            0
+        }
+    }
+}
+
+// Closes an idle table: its accepted count and totals go into the closing message, and it takes nothing more.
+pub fn close(table: &mut [u8], out: &mut [u8]) -> Written
+    ensures { λ r. ⌜ Closes (now (table .entry)) (now (out .entry)) r (now (table .exit)) (now (out .exit)) ⌝ }
+{
+    match read(table) {
+        Found::Unsound => Written::Refused(11),
+        Found::Table(k) => {
+            if k.stage != 0 {
+                return Written::Refused(11);
+            }
+            let size = 6 + 4 * k.published;
+            if out.len() < size {
+                return Written::Refused(14);
+            }
+            write_closing(table, k, out);
+            table[1] = 3;
+            Written::Done(size)
+        }
+    }
+}

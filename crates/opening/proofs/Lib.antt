@@ -1,0 +1,4 @@
+-- Laws of opening.
+pub mod FreshTable
+pub mod Opening
+pub mod OpenRows

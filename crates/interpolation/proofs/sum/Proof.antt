@@ -1,7 +1,7 @@
 -- `interpolation::sum` meets its contract: after i terms the fraction is the sum of these; a turn adds two, and one that is
 -- left over comes last. Assumes nothing.
 use borrow.Author.Needs.{needs}
-use mathlib.Core.Path.{_≡_, sym, ap, ap₂, _∙_}
+use mathlib.Core.Path.{_≡_, sym, ap, ap₂, _∙_, subst}
 use mathlib.Core.List.{List}
 use Prim.Native.Nat.{ℕ, suc, _+_, _-_, _≤_}
 use native.Mathlib.Omega.{arith}
@@ -76,8 +76,8 @@ loop-again c =
           c .plus2 .ensures
           ∙ ap₂ plusOf (l .inv .is) (c .before .plus .ensures ∙ ap₂ plusOf (a .0) (b .0))
           ∙ two-more (v .y .now) (v .weights .now) (v .s) (v .r) (l .i) (omega (arith, s .pre .4)) (rw (sym (l .inv .is)) (l .inv .element))
-          (rw (sym (a .0)) (a .1))
-          (rw (sym (b .0)) (b .1));
+          (subst Element (a .0) (a .1))
+          (subst Element (b .0) (b .1));
     }
 
 term-requires-3 : tie.Need-term-requires-3 Inv-loop μ-loop

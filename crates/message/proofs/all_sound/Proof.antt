@@ -1,14 +1,26 @@
 -- `message::all_sound` meets its contract. The loop's invariant: the answer is that of the messages from i on (`every-next`);
 -- the part that is judged is the one at server i's place (`span`). The measure is what is left of S. Assumes nothing.
-use mathlib.Core.Path.{_≡_, sym, _∙_}
-use Prim.Native.Nat.{_*_, _≤_, _-_}
+use mathlib.Core.Path.{_≡_, sym, ap, _∙_}
+use mathlib.Core.Bool.{Bool, true, false}
+use mathlib.Core.List.{List}
+use Prim.Native.Nat.{ℕ, _+_, _*_, _≤_, _-_}
+use lib.ListN.{take, drop}
 use borrow.Author.Needs.{needs}
 use borrow.Author.Tests.{not-true, not-false}
+use Rattle.rules.specs.Settings.{document01}
+use Rattle.rules.specs.Messages.{roundSound}
 use Rattle.message.specs.Rounds.{soundAt, allSound}
 use Rattle.message.proofs.Every.{from, every-start, every-next, every-not, every-end}
 use Rattle.message.proofs.Parts.{span}
 use Rattle.message.proofs.all_sound.Statement.{statement}
 use Rattle.message.proofs.all_sound.Tie as tie
+
+-- the message of server i, as the code takes it from its place
+abbrev judged : ℕ → ℕ → List ℕ → ℕ → Bool
+judged kind id joined i = roundSound document01 kind id i (take (14 * i + 14 - 14 * i) (drop (14 * i) joined))
+
+from-place : (kind id : ℕ) (joined : List ℕ) (i : ℕ) → judged kind id joined i ≡ soundAt kind id joined i
+from-place kind id joined i = ap (roundSound document01 kind id i) (span (14 * i) 14 joined)
 
 abbrev Inv-loop : tie.InvT-loop
 Inv-loop joined servers kind id i₀ i = (i ≤ servers) × (allSound servers kind id joined ≡ from (soundAt kind id joined) servers i)
@@ -48,7 +60,9 @@ returns c =
     let a = c .before .before .before .before .before .before .args in
     let l = c .before .before .before .before .loop in
     let t = soundAt (a .kind) (a .id) (a .joined .now) in
-    let bad = rw (span (14 * l .i) 14 (a .joined .now)) at (sym (c .before .round-sound .ensures) ∙ not-true _ (c .if1 .taken)) in
+    let said : c .before .round-sound .result ≡ judged (a .kind) (a .id) (a .joined .now) (l .i) = c .before .round-sound .ensures in
+    let own : t (l .i) ≡ c .before .round-sound .result = sym (said ∙ from-place (a .kind) (a .id) (a .joined .now) (l .i)) in
+    let bad : t (l .i) ≡ false = own ∙ not-true _ (c .if1 .taken) in
     sym (l .inv .1 ∙ every-not t (a .servers) (l .i) (c .before .before .before .loop-test .taken) bad)
 
 add-i : tie.Need-add-i Inv-loop μ-loop
@@ -62,7 +76,9 @@ loop-again c =
     let a = c .before .before .before .before .before .before .args in
     let l = c .before .before .before .before .loop in
     let t = soundAt (a .kind) (a .id) (a .joined .now) in
-    let good = rw (span (14 * l .i) 14 (a .joined .now)) at (sym (c .before .round-sound .ensures) ∙ not-false _ (c .if1 .left)) in
+    let said : c .before .round-sound .result ≡ judged (a .kind) (a .id) (a .joined .now) (l .i) = c .before .round-sound .ensures in
+    let own : t (l .i) ≡ c .before .round-sound .result = sym (said ∙ from-place (a .kind) (a .id) (a .joined .now) (l .i)) in
+    let good : t (l .i) ≡ true = own ∙ not-false _ (c .if1 .left) in
     (search needs, l .inv .1 ∙ every-next t (a .servers) (l .i) (c .before .before .before .loop-test .taken) good)
 
 returns-2 : tie.Need-returns-2 Inv-loop μ-loop

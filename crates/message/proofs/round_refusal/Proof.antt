@@ -1,8 +1,10 @@
 -- `message::round_refusal` meets its contract. Each test that led to a return is put into the definition (`round-fault`),
 -- which then computes; the part that is compared is the one at the own place (`span`). Assumes nothing.
-use mathlib.Core.Path.{sym, _∙_}
+use mathlib.Core.Path.{_≡_, sym, _∙_}
 use Prim.Native.Nat.{_*_}
 use borrow.Author.Tests.{eq-eqb, ne-eqb, not-true, not-false}
+use Rattle.rules.specs.Settings.{document01}
+use Rattle.rules.specs.Messages.{roundFault}
 use Rattle.message.proofs.Parts.{span}
 use Rattle.message.proofs.Rounds.{round-fault}
 use borrow.Author.Needs.{needs}
@@ -63,12 +65,14 @@ returns-3 c =
 returns-4 : tie.Need-returns-4
 returns-4 c =
     let a = c .before .before .before .before .before .before .before .before .args in
-    rw (
+    let fault : roundFault document01 (a .servers) (a .kind) (a .id) (a .own) (a .mine .now) (a .joined .now) ≡ 12
+    = rw (
       round-fault (a .servers) (a .kind) (a .id) (a .own) (a .mine .now) (a .joined .now),
       eq-eqb _ _ (c .before .before .before .before .before .if1 .left),
       sym (c .before .before .before .before .all-sound .ensures) ∙ not-false _ (c .before .before .before .if2 .left),
       rw (span (14 * a .own) 14 (a .joined .now)) at (sym (c .before .equal .ensures) ∙ c .if3 .left),
-    )
+    ) in
+    sym fault
 
 pub round-refusal-spec : {M : Type 1} → statement M
 round-refusal-spec =

@@ -1,7 +1,10 @@
 -- `message::round_sound` meets its contract. Each test that led to a return is put into the definition, which then
 -- computes. Assumes nothing.
+use mathlib.Core.Path.{_≡_}
+use mathlib.Core.Bool.{false}
+use lib.Dec.{eqb}
 use borrow.Author.Tests.{eq-eqb, ne-eqb, lt-ltb, le-ltb}
-use Rattle.rules.specs.Messages.{roundSound}
+use Rattle.rules.specs.Messages.{idIn, roundSound}
 use borrow.Author.Needs.{needs}
 use Rattle.message.proofs.round_sound.Statement.{statement}
 use Rattle.message.proofs.round_sound.Tie as tie
@@ -19,7 +22,9 @@ id-of-requires c κs = search needs
 returns-2 : tie.Need-returns-2
 unfolding roundSound
 returns-2 c =
-    simp (eq-eqb _ _ (c .before .before .if1 .left), ne-eqb _ _ (rw (c .before .id-of .ensures) at (c .if2 .taken)))
+    let a = c .before .before .before .before .before .args in
+    let other : eqb (idIn (a .m .now)) (a .id) ≡ false = ne-eqb _ _ (rw (c .before .id-of .ensures) at (c .if2 .taken)) in
+    simp (eq-eqb _ _ (c .before .before .if1 .left), other)
 
 shared-slice-read-if3 : tie.Need-shared-slice-read-if3
 shared-slice-read-if3 c = search needs

@@ -1,7 +1,10 @@
 -- `message::totals_sound` meets its contract. Each test that led to a return is put into the definition, which then
 -- computes; the part handed on goes to the end of the message (`to-end`). Assumes nothing.
+use mathlib.Core.Path.{_≡_}
+use mathlib.Core.Bool.{false}
+use lib.Dec.{eqb}
 use borrow.Author.Tests.{eq-eqb, ne-eqb}
-use Rattle.rules.specs.Joining.{totalsSound}
+use Rattle.rules.specs.Joining.{acceptedCount, totalsSound}
 use Rattle.message.proofs.Parts.{to-end}
 use borrow.Author.Needs.{needs}
 use Rattle.message.proofs.totals_sound.Statement.{statement}
@@ -27,11 +30,10 @@ accepted-count-requires c κs = search needs
 returns-3 : tie.Need-returns-3
 unfolding totalsSound
 returns-3 c =
-    simp (
-      eq-eqb _ _ (c .before .before .before .before .if1 .left),
-      eq-eqb _ _ (c .before .before .if2 .left),
-      ne-eqb _ _ (rw (c .before .accepted-count .ensures) at (c .if3 .taken)),
-    )
+    let a = c .before .before .before .before .before .before .before .args in
+    let other : eqb (acceptedCount (a .m .now)) (a .count) ≡ false
+    = ne-eqb _ _ (rw (c .before .accepted-count .ensures) at (c .if3 .taken)) in
+    simp (eq-eqb _ _ (c .before .before .before .before .if1 .left), eq-eqb _ _ (c .before .before .if2 .left), other)
 
 sub-below : tie.Need-sub-below
 sub-below c = search needs

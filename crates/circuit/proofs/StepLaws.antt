@@ -22,7 +22,7 @@ use Rattle.rules.specs.Columns.{within, check}
 use Rattle.rules.specs.Circuit.{Step}
 use Rattle.rules.specs.CircuitReader.{bodyLengths, stepBody, stepOf, stepWires, stepGates, stepTests, stepFault, judgedStep}
 use Rattle.rules.specs.CircuitReader.{judgeStep, stepFormat, circuitLimits, limitedCircuit}
-use Rattle.rules.proofs.Limits.{within-is}
+use Rattle.rules.proofs.Circuits.Limits.{within-is}
 use Rattle.circuit.specs.declared.Reading.{Reading}
 use Rattle.circuit.specs.Reading.{countsOf, readingIn, limitedCounts}
 use Rattle.circuit.specs.declared.Reading.the-variants as answer

@@ -17,7 +17,7 @@ use Rattle.rules.specs.Columns.{Column, entriesIn}
 use Rattle.rules.specs.Circuit.{gatesIn}
 use Rattle.rules.specs.Judging.{shareSize}
 use Rattle.rules.specs.Making.{whole}
-use Rattle.rules.proofs.Whole.{length-whole}
+use Rattle.rules.proofs.Returns.Whole.{length-whole}
 use Rattle.walk.specs.Walks.{members}
 use Rattle.client.specs.Pieces.{hValues}
 

@@ -17,7 +17,7 @@ use Rattle.rules.specs.Settings.{document01}
 use Rattle.rules.specs.Columns.{Column, columnsOf}
 use Rattle.rules.specs.Judging.{shareSize}
 use Rattle.rules.specs.Making.{whole}
-use Rattle.rules.proofs.Whole.{length-whole}
+use Rattle.rules.proofs.Returns.Whole.{length-whole}
 use Rattle.columns.specs.declared.Counts.{Counts}
 use Rattle.walk.specs.Walks.{members}
 use Rattle.client.specs.Pieces.{Random, messageBytes, entriesFrom, wholeOf, Fillable, Makeable}

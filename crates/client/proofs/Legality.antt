@@ -14,8 +14,8 @@ use Rattle.words.proofs.Splice.{splice-all}
 use Rattle.rules.specs.Columns.{entriesIn, columnsOf}
 use Rattle.rules.specs.Values.{legalValues}
 use Rattle.rules.specs.Making.{valuesFault}
-use Rattle.rules.proofs.Limits.{limits}
-use Rattle.rules.proofs.Encoding.{encoding-length, encoding-below}
+use Rattle.rules.proofs.Circuits.Limits.{limits}
+use Rattle.rules.proofs.Circuits.Encoding.{encoding-length, encoding-below}
 use Rattle.columns.specs.declared.Counts.{Counts}
 use Rattle.values.specs.Encode.{Encodable}
 use Rattle.message.proofs.Parts.{check-holds}

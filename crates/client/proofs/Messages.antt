@@ -19,8 +19,8 @@ use Rattle.rules.specs.Settings.{document01}
 use Rattle.rules.specs.Columns.{Column}
 use Rattle.rules.specs.Judging.{shareSize}
 use Rattle.rules.specs.Making.{shareOf, shareMessage, madeShare, madeFrom}
-use Rattle.rules.proofs.Whole.{length-whole}
-use Rattle.rules.proofs.ShareBytes.{length-share}
+use Rattle.rules.proofs.Returns.Whole.{length-whole}
+use Rattle.rules.proofs.Histories.ShareBytes.{length-share}
 use Rattle.message.specs.Shares.{headerBytes}
 use Rattle.message.proofs.Parts.{part-of-part}
 use Rattle.client.specs.Pieces.{Random, restOf, firstShare, messageBytes, otherMessage, otherMessages, wholeOf}

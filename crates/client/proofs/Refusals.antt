@@ -20,8 +20,8 @@ use Rattle.rules.specs.Settings.{document01}
 use Rattle.rules.specs.Columns.{check, within, readSheet, sheetFault, columnsOf, serversFault}
 use Rattle.rules.specs.Judging.{shareSize}
 use Rattle.rules.specs.Making.{shareLength, randomCount, valuesFault, randomFault, makeRefusal, makeBytes}
-use Rattle.rules.proofs.Limits.{within-both}
-use Rattle.rules.proofs.Refusals.{sheet-fault}
+use Rattle.rules.proofs.Circuits.Limits.{within-both}
+use Rattle.rules.proofs.Circuits.Refusals.{sheet-fault}
 use Rattle.columns.specs.declared.Counts.{Counts}
 use Rattle.message.proofs.Parts.{check-holds}
 use Rattle.client.specs.Calls.{Makes}

@@ -37,7 +37,7 @@ fn put_h(sheet: &[u8], x: &[u32], l: usize, m: usize, u: u32, v: u32, w: &mut [u
 {
     let first = l + 2;
     let last = l + 3 + (m + m);
-    proof::fill_h(sheet, x, u, v, &mut w[first..last]);
+    prover::fill_h(sheet, x, u, v, &mut w[first..last]);
 }
 
 // The same of the values, whose entries are encoded in a place of their own.

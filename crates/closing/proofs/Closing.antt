@@ -20,7 +20,7 @@ use Rattle.records.specs.declared.Written.the-variants as written
 use Rattle.message.specs.Totals.{totalsHeader}
 use Rattle.rules.specs.Settings.{document01}
 use Rattle.rules.specs.Server.{closeRefusal, totalsLength, totalsMessage}
-use Rattle.rules.specs.Table.{stageByte, waitingIn, stageIn, known, tableFault, totalsPlace}
+use Rattle.rules.specs.Table.{stageByte, waitingIn, stageIn, tableState, tableFault, totalsPlace}
 use Rattle.rules.specs.Table.{closeRefused, closeTable, closeBytes}
 use Rattle.layout.specs.Places.{totalsAt}
 use Rattle.layout.specs.Writing.{closingBytes, Closable}
@@ -62,12 +62,12 @@ module _ (T out : List ℕ) where
   -- where the table is sound
   module _ (f : tableFault document01 T ≡ 0) where
     staged-at : (tableOf T .stage ≡ 0 → ⊥) → Closes T out (written.Refused 11) T out
-    unfolding closeRefused orElse closeRefusal known stageIn tableOf
+    unfolding closeRefused orElse closeRefusal tableState stageIn tableOf
     staged-at n = refused 11 (rw f (not-idle (stageByte document01 T) (waitingIn document01 T) _ n)) (λ z. omega arith)
 
     module _ (idle : tableOf T .stage ≡ 0) where
       narrow-at : length out < 6 + 4 * tableOf T .published → Closes T out (written.Refused 14) T out
-      unfolding closeRefused orElse closeRefusal known stageIn tableOf totalsLength
+      unfolding closeRefused orElse closeRefusal tableState stageIn tableOf totalsLength
       narrow-at l =
           refused 14
           (rw f (idle-at (stageByte document01 T) (waitingIn document01 T) _ idle
@@ -75,7 +75,7 @@ module _ (T out : List ℕ) where
           (λ z. omega arith)
 
       none-refused : 6 + 4 * tableOf T .published ≤ length out → closeRefused document01 T (length out) ≡ 0
-      unfolding closeRefused orElse closeRefusal known stageIn tableOf totalsLength
+      unfolding closeRefused orElse closeRefusal tableState stageIn tableOf totalsLength
       none-refused l =
           rw f (idle-at (stageByte document01 T) (waitingIn document01 T) _ idle
           ∙ rw (le-leb (6 + 4 * tableOf T .published) (length out) l))

@@ -9,8 +9,8 @@ use Rattle.records.specs.Outcome.{orElse}
 use Rattle.rules.specs.Settings.{document01}
 use Rattle.rules.specs.Columns.{within}
 use Rattle.rules.specs.Server.{dropRefusal}
-use Rattle.rules.specs.Table.{stageByte, waitingIn, stageIn, known, tableFault, decidedTable, dropRefused, dropTable, idsPlace, waitPlace}
-use Rattle.rules.proofs.Limits.{within-both}
+use Rattle.rules.specs.Table.{stageByte, waitingIn, stageIn, tableState, tableFault, decidedTable, dropRefused, dropTable, idsPlace, waitPlace}
+use Rattle.rules.proofs.Circuits.Limits.{within-both}
 use Rattle.layout.specs.Places.{waitAt}
 use Rattle.layout.specs.Writing.{decidedAs, Decidable}
 use Rattle.table.specs.Reading.{tableOf, foundIn, Sound}
@@ -31,12 +31,12 @@ module _ (T : List ℕ) where
   drop-unsound e = refused (rw (unsound T e))
 
   quiet-at : tableFault document01 T ≡ 0 → within 1 2 (tableOf T .stage) ≡ false → Drops T 11 T
-  unfolding dropRefused orElse dropRefusal known stageIn tableOf
+  unfolding dropRefused orElse dropRefusal tableState stageIn tableOf
   quiet-at f w = refused (rw f (none-waits (stageByte document01 T) (waitingIn document01 T) w))
 
   done-at : tableFault document01 T ≡ 0 → within 1 2 (tableOf T .stage) ≡ true
       → Drops T 0 (decidedAs (tableOf T) 0 (valueOf (part (waitAt (tableOf T .sheet) (tableOf T .published) (tableOf T .returns)) 4 T)) T)
-  unfolding dropRefused orElse dropRefusal known stageIn tableOf onlyIf dropTable decidedTable decidedAs idsPlace waitPlace
+  unfolding dropRefused orElse dropRefusal tableState stageIn tableOf onlyIf dropTable decidedTable decidedAs idsPlace waitPlace
   done-at f w =
       let b = stageByte document01 T in
       let r : dropRefused document01 T ≡ 0 = rw f (one-waits b (waitingIn document01 T) (within-both 1 2 b w)) in

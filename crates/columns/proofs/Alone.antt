@@ -9,10 +9,10 @@ use native.Mathlib.Numerals.{add-one}
 use native.Mathlib.Omega.{arith}
 use lib.Dec.{eqb}
 use Rattle.records.specs.Outcome.{Outcome, ok, refused}
-use Rattle.rules.specs.Columns.{Column, yesNo, choice, number, within, counted, columnOf}
+use Rattle.rules.specs.Columns.{Column, yesNo, choice, number, within, limitedColumn, columnOf}
 use Rattle.rules.specs.Columns.{entriesOf, publishedOf, entriesIn, publishedIn, largestOf}
 use Rattle.rules.specs.Circuit.{gatesOf, testsOf, gatesIn, testsIn}
-use Rattle.rules.proofs.Limits.{InLimits, within-both}
+use Rattle.rules.proofs.Circuits.Limits.{InLimits, within-both}
 use Rattle.columns.specs.Counting.{countsOf, alone, Small}
 use Rattle.columns.specs.Kinds.{Bounded}
 use Rattle.columns.proofs.Sums.{entries, published, gates, tests, total-one}
@@ -49,8 +49,8 @@ pub data Judged (r : Outcome Column) : Type 0 where
   taken : (c : Column) → r ≡ ok c → Small 64 (countsOf (c ∷ [])) → 1 ≤ entriesIn (c ∷ []) → Judged r
   outside : r ≡ refused 2 → Judged r
 
-counted-judged : (c : Column) (b : Bool) → (b ≡ true → Small 64 (countsOf (c ∷ [])) × (1 ≤ entriesIn (c ∷ []))) → Judged (counted b c)
-unfolding counted
+counted-judged : (c : Column) (b : Bool) → (b ≡ true → Small 64 (countsOf (c ∷ [])) × (1 ≤ entriesIn (c ∷ []))) → Judged (limitedColumn b c)
+unfolding limitedColumn
 counted-judged c true h = let s = h refl in taken c refl (s .0) (s .1)
 counted-judged c false h = outside refl
 
@@ -59,7 +59,7 @@ unfolding columnOf entriesOf publishedOf gatesOf testsOf entriesIn publishedIn g
 judged k n = by-kind (eqb k 17) (eqb k 18)
   where
     by-kind : (a b : Bool)
-        → Judged (cond a (ok yesNo) (cond b (counted (within 2 64 n) (choice n)) (counted (within 1 24 n) (number n))))
+        → Judged (cond a (ok yesNo) (cond b (limitedColumn (within 2 64 n) (choice n)) (limitedColumn (within 1 24 n) (number n))))
     by-kind true b = taken yesNo refl yes-no-small (omega arith)
     by-kind false true =
         counted-judged (choice n) (within 2 64 n) (λ h. let l = within-both 2 64 n h in (search arith, omega arith))

@@ -13,10 +13,10 @@ use lib.ListN.{length, getD, drop}
 use lib.Seq.{getD-take, getD-drop}
 use Rattle.words.specs.Bytes.{part}
 use Rattle.records.specs.Outcome.{Outcome, ok}
-use Rattle.rules.specs.Columns.{Column, yesNo, choice, number, within, counted, columnBody, columnOf}
-use Rattle.rules.proofs.Limits.{InLimits, within-is}
+use Rattle.rules.specs.Columns.{Column, yesNo, choice, number, within, limitedColumn, columnBody, columnOf}
+use Rattle.rules.proofs.Circuits.Limits.{InLimits, within-is}
 use Rattle.columns.specs.Counting.{countsOf, alone}
-use Rattle.columns.specs.Kinds.{columnBytes, bytesOfKind, columnFrom, seen, back}
+use Rattle.columns.specs.Kinds.{columnBytes, bytesOfKind, columnFrom, toCode, fromCode}
 
 -- ---- a kind and its bytes
 abbrev size : Bool → Bool → Bool → ℕ
@@ -68,7 +68,7 @@ unfolding bytesOfKind columnOf
 judged-last k s i = by-kind (eqb k 17) (eqb k 18) (eqb k 19)
   where
     of : Bool → Bool → ℕ → Outcome Column
-    of a b x = cond a (ok yesNo) (cond b (counted (within 2 64 x) (choice x)) (counted (within 1 24 x) (number x)))
+    of a b x = cond a (ok yesNo) (cond b (limitedColumn (within 2 64 x) (choice x)) (limitedColumn (within 1 24 x) (number x)))
 
     by-kind : (a b d : Bool) → (size a b d ≡ 0 → ⊥)
         → of a b (getD (part (i + 1) (size a b d - 1) s) 0 0)
@@ -79,8 +79,8 @@ judged-last k s i = by-kind (eqb k 17) (eqb k 18) (eqb k 19)
     by-kind false false false h = absurd (h refl)
 
 -- ---- a record that is taken
-counted-is : (b : Bool) (a c : Column) → counted b a ≡ ok c → a ≡ c
-unfolding counted
+counted-is : (b : Bool) (a c : Column) → limitedColumn b a ≡ ok c → a ≡ c
+unfolding limitedColumn
 counted-is true a c h = cc
 counted-is false a c h = let z : _≡_ {A = ℕ} 0 1 = cc in absurd (omega arith)
 
@@ -102,7 +102,7 @@ column-bytes k l c = by-kind (eqb k 17) (eqb k 18) (eqb k 19) (eqb-true k 17) (e
     x = getD l 0 0
 
     by-kind : (a b d : Bool) → (a ≡ true → k ≡ 17) → (b ≡ true → k ≡ 18) → (d ≡ true → k ≡ 19) → body a b d ≡ some (length l)
-        → cond a (ok yesNo) (cond b (counted (within 2 64 x) (choice x)) (counted (within 1 24 x) (number x))) ≡ ok c
+        → cond a (ok yesNo) (cond b (limitedColumn (within 2 64 x) (choice x)) (limitedColumn (within 1 24 x) (number x))) ≡ ok c
         → k ∷ l ≡ columnBytes c
     by-kind true b d p q r e h =
         let z : 0 ≡ length l = cc in
@@ -125,7 +125,7 @@ pub record Told (a : Column) (first : ℕ) (byte : ℕ → ℕ) : Type 0 where
 
 pub told : (a : Column) → InLimits a → (first : ℕ) (byte : ℕ → ℕ) (t : List ℕ) → first ≡ byte 0
     → ((j : ℕ) → byte j ≡ getD (columnBytes a ++ t) j 0) → Told a first byte
-unfolding columnBytes bytesOfKind columnFrom columnOf counted alone
+unfolding columnBytes bytesOfKind columnFrom columnOf limitedColumn alone
 told yesNo w first byte t e q =
     let f : first ≡ 17 = e ∙ q 0 in
     record { size-is = rw f; size-some = omega arith; column-is = rw f; alone-is = rw f }
@@ -149,7 +149,7 @@ told (number n) w first byte t e q =
     }
 
 -- ---- a column in code
-pub back-seen : (c : Column) → back (seen c) ≡ c
-back-seen yesNo = refl
-back-seen (choice n) = refl
-back-seen (number n) = refl
+pub from-to-code : (c : Column) → fromCode (toCode c) ≡ c
+from-to-code yesNo = refl
+from-to-code (choice n) = refl
+from-to-code (number n) = refl

@@ -23,15 +23,15 @@ unfoldable pub columnFrom : ℕ → ℕ → Column
 columnFrom k n = cond (eqb k 17) yesNo (cond (eqb k 18) (choice n) (number n))
 
 -- ---- a column in code, and back
-abbrev pub seen : Column → code.Column
-seen yesNo = kind.YesNo
-seen (choice n) = kind.Choice n
-seen (number n) = kind.Number n
+abbrev pub toCode : Column → code.Column
+toCode yesNo = kind.YesNo
+toCode (choice n) = kind.Choice n
+toCode (number n) = kind.Number n
 
-abbrev pub back : code.Column → Column
-back kind.YesNo = yesNo
-back (kind.Choice n) = choice n
-back (kind.Number n) = number n
+abbrev pub fromCode : code.Column → Column
+fromCode kind.YesNo = yesNo
+fromCode (kind.Choice n) = choice n
+fromCode (kind.Number n) = number n
 
 -- what code asks of a column: a power of 2 and a count that fit
 abbrev pub Bounded : Column → Type 0

@@ -3,9 +3,9 @@
 ghost use mathlib.Core.Path.{_≡_};
 ghost use mathlib.Core.List.{[], _∷_};
 ghost use Prim.Native.Nat.{_^_, _≤_};
-ghost use Rattle.rules.specs.Columns.{yesNo, choice, number, within, counted, columnOf, largestOf};
+ghost use Rattle.rules.specs.Columns.{yesNo, choice, number, within, limitedColumn, columnOf, largestOf};
 ghost use Rattle.columns.specs.Counting.{countsOf, alone};
-ghost use Rattle.columns.specs.Kinds.{bytesOfKind, columnFrom, seen, back, Bounded};
+ghost use Rattle.columns.specs.Kinds.{bytesOfKind, columnFrom, toCode, fromCode, Bounded};
 
 // What columns come to: entries, published entries, multiplications and tests.
 pub struct Counts {
@@ -54,7 +54,7 @@ pub fn bytes_of(kind: u8) -> usize
 
 // A choice of n options by itself; nothing where n is outside its limits.
 fn choice_alone(n: usize) -> Counts
-    ensures { λ r. ⌜ r ≡ alone (counted (within 2 64 n) (choice n)) ⌝ }
+    ensures { λ r. ⌜ r ≡ alone (limitedColumn (within 2 64 n) (choice n)) ⌝ }
 {
     if n < 2 {
         return none();
@@ -73,7 +73,7 @@ fn choice_alone(n: usize) -> Counts
 
 // A number of n bits by itself; nothing where n is outside its limits.
 fn number_alone(n: usize) -> Counts
-    ensures { λ r. ⌜ r ≡ alone (counted (within 1 24 n) (number n)) ⌝ }
+    ensures { λ r. ⌜ r ≡ alone (limitedColumn (within 1 24 n) (number n)) ⌝ }
 {
     if n < 1 {
         return none();
@@ -124,7 +124,7 @@ pub fn column_alone(kind: u8, last: u8) -> Counts
 
 // The column of a kind byte and a last byte.
 pub fn column_of(kind: u8, last: u8) -> Column
-    ensures { λ r. ⌜ r ≡ seen (columnFrom kind last) ⌝ }
+    ensures { λ r. ⌜ r ≡ toCode (columnFrom kind last) ⌝ }
 {
     if kind == 17 {
         return Column::YesNo;
@@ -145,8 +145,8 @@ pub fn power(n: usize) -> u32
 
 // The largest value of an entry that a column publishes.
 pub fn largest_of(column: Column) -> u32
-    requires { ⌜ Bounded (back column) ⌝ }
-    ensures { λ r. ⌜ r ≡ largestOf (back column) ⌝ }
+    requires { ⌜ Bounded (fromCode column) ⌝ }
+    ensures { λ r. ⌜ r ≡ largestOf (fromCode column) ⌝ }
 {
     match column {
         Column::YesNo => 1,

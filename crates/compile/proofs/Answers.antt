@@ -13,7 +13,7 @@ use Rattle.records.proofs.Outcome.{or-none, or-first}
 use Rattle.rules.specs.Settings.{document01}
 use Rattle.rules.specs.Columns.{Column, readSheet, columnsOf, faultIn, listIn}
 use Rattle.rules.specs.CircuitReader.{sheetCircuit, sheetCircuitRefusal}
-use Rattle.rules.proofs.Refusals.{sheet-refusals, sheet-fault}
+use Rattle.rules.proofs.Circuits.Refusals.{sheet-refusals, sheet-fault}
 use Rattle.columns.specs.declared.Counts.{Counts}
 use Rattle.columns.specs.Counting.{countsOf}
 use Rattle.sheet.specs.Reading.{reading, readingOf}

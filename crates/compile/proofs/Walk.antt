@@ -11,9 +11,9 @@ use Rattle.rules.specs.Settings.{document01}
 use Rattle.rules.specs.Columns.{Column, yesNo, entriesIn, columnsOf}
 use Rattle.rules.specs.Circuit.{columnSteps, wiresOf, circuitFrom, wiresIn}
 use Rattle.rules.specs.CircuitReader.{sheetCircuit}
-use Rattle.rules.proofs.Limits.{limits}
-use Rattle.rules.proofs.Size.{circuit-most}
-use Rattle.columns.specs.Kinds.{back}
+use Rattle.rules.proofs.Circuits.Limits.{limits}
+use Rattle.rules.proofs.Circuits.Size.{circuit-most}
+use Rattle.columns.specs.Kinds.{fromCode}
 use Rattle.columns.proofs.Sums.{entries, total-next, total-most}
 use Rattle.sheet.specs.declared.cursor.Cursor.{Cursor}
 use Rattle.sheet.specs.declared.cursor.Step.{Step}
@@ -62,11 +62,11 @@ module _ {s : List ℕ} {c : Cursor} (h : Stands s c) (r : Step) (e : r ≡ step
   unfolding sheetCircuit
   sheet-most = circuit-most document01 s cs (h .is-read) refl
 
-  pub length-room : {total : ℕ} → Length s (c .index) total → total + columnSize (back (r .column)) ≤ 7008
+  pub length-room : {total : ℕ} → Length s (c .index) total → total + columnSize (fromCode (r .column)) ≤ 7008
   length-room l =
       rw (column-seen h r e) (omega (arith, l .so-far, total-most sizes cs (c .index) (h .within), sheet-long s, sheet-most))
 
-  pub length-next : {total size : ℕ} → Length s (c .index) total → size ≡ columnSize (back (r .column))
+  pub length-next : {total size : ℕ} → Length s (c .index) total → size ≡ columnSize (fromCode (r .column))
       → Length s (r .next .index) (total + size)
   length-next {size = size} l q =
       let n : size ≡ columnSize (getD cs (c .index) yesNo) = q ∙ ap columnSize (column-seen h r e) in
@@ -78,9 +78,9 @@ module _ {s : List ℕ} {c : Cursor} (h : Stands s c) (r : Step) (e : r ≡ step
 
   -- there is room for the column, and its numbers are small
   pub record Room (now : List ℕ) (wire at : ℕ) : Type 0 where
-    pub room : at + columnSize (back (r .column)) ≤ length now
+    pub room : at + columnSize (fromCode (r .column)) ≤ length now
     pub entry-most : c .entry ≤ 256
-    pub wire-most : wire + wiresOf (back (r .column)) ≤ 1248
+    pub wire-most : wire + wiresOf (fromCode (r .column)) ≤ 1248
 
   pub wrote-room : {out now : List ℕ} {from wire at : ℕ} → from + length (sheetCircuit document01 s) ≤ length out + 5
       → Wrote s out from (c .index) wire now at → Room now wire at
@@ -95,8 +95,8 @@ module _ {s : List ℕ} {c : Cursor} (h : Stands s c) (r : Step) (e : r ≡ step
       }
 
   pub wrote-next : {out now next : List ℕ} {from wire at end moved : ℕ} → Wrote s out from (c .index) wire now at
-      → moved ≡ wiresOf (back (r .column))
-      → Put now at (columnSize (back (r .column))) (bytes (columnSteps document01 (c .entry) wire (back (r .column)))) next end
+      → moved ≡ wiresOf (fromCode (r .column))
+      → Put now at (columnSize (fromCode (r .column))) (bytes (columnSteps document01 (c .entry) wire (fromCode (r .column)))) next end
       → Wrote s out from (r .next .index) (wire + moved) next end
   wrote-next {moved = moved} w y p =
       let n : moved ≡ wiresOf (getD cs (c .index) yesNo) = y ∙ ap wiresOf (column-seen h r e) in

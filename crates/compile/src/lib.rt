@@ -12,7 +12,7 @@ ghost use Rattle.rules.specs.Columns.{choice, number, readSheet, columnsOf};
 ghost use Rattle.rules.specs.Circuit.{circuitBytes, bitCheck, bitChecks, optionAdds, optionSum, bitAdds, test};
 ghost use Rattle.rules.specs.Circuit.{columnSteps, wiresOf};
 ghost use Rattle.rules.specs.CircuitReader.{sheetCircuit};
-ghost use Rattle.columns.specs.Kinds.{back, Bounded};
+ghost use Rattle.columns.specs.Kinds.{fromCode, Bounded};
 ghost use Rattle.compile.specs.Writing.{Put, columnSize, writtenOf, circuitIn};
 use columns::Column;
 use records::Written;
@@ -142,9 +142,9 @@ fn put_number(out: &mut [u8], at: usize, n: u32, e: u32, w: u32) -> usize
 
 // The steps of a column, whose first entry is `e`.
 fn put_column(out: &mut [u8], at: usize, column: Column, e: u32, w: u32) -> usize
-    requires { ⌜ (at + columnSize (back column) ≤ length (now out)) × Bounded (back column) × (e < 16384) × (w < 16384) ⌝ }
-    ensures { λ r. ⌜ Put (now (out .entry)) at (columnSize (back column))
-        (circuitBytes document01 (columnSteps document01 e w (back column))) (now (out .exit)) r ⌝ }
+    requires { ⌜ (at + columnSize (fromCode column) ≤ length (now out)) × Bounded (fromCode column) × (e < 16384) × (w < 16384) ⌝ }
+    ensures { λ r. ⌜ Put (now (out .entry)) at (columnSize (fromCode column))
+        (circuitBytes document01 (columnSteps document01 e w (fromCode column))) (now (out .exit)) r ⌝ }
 {
     match column {
         Column::YesNo => bit_checks(out, at, 1, e, w),
@@ -155,8 +155,8 @@ fn put_column(out: &mut [u8], at: usize, column: Column, e: u32, w: u32) -> usiz
 
 // The bytes of a column's steps.
 fn size_of(column: Column) -> usize
-    requires { ⌜ Bounded (back column) ⌝ }
-    ensures { λ r. ⌜ r ≡ columnSize (back column) ⌝ }
+    requires { ⌜ Bounded (fromCode column) ⌝ }
+    ensures { λ r. ⌜ r ≡ columnSize (fromCode column) ⌝ }
 {
     match column {
         Column::YesNo => 16,
@@ -167,8 +167,8 @@ fn size_of(column: Column) -> usize
 
 // The wires of a column's steps.
 fn wires_of(column: Column) -> u32
-    requires { ⌜ Bounded (back column) ⌝ }
-    ensures { λ r. ⌜ r ≡ wiresOf (back column) ⌝ }
+    requires { ⌜ Bounded (fromCode column) ⌝ }
+    ensures { λ r. ⌜ r ≡ wiresOf (fromCode column) ⌝ }
 {
     match column {
         Column::YesNo => 3,

@@ -22,7 +22,7 @@ use Rattle.rules.specs.Settings.{document01}
 use Rattle.rules.specs.Columns.{within, publishedIn, columnsOf, sheetFault, serversFault, returnsFault, totalsFault}
 use Rattle.rules.specs.Joining.{joinedFault, joinRefusal}
 use Rattle.rules.specs.Recount.{inputSize, inputServers, inputSheet, inputReturns, inputJoined, refusalText, recountText}
-use Rattle.rules.proofs.Limits.{within-both}
+use Rattle.rules.proofs.Circuits.Limits.{within-both}
 use Rattle.listing.specs.Text.{joinedText, Lists, startMost, ListsAll}
 use Rattle.listing.proofs.Inputs.{text-joined}
 use Rattle.listing.proofs.Texts.{published-few}

@@ -21,15 +21,15 @@ use Rattle.rules.specs.Settings.{document01}
 use Rattle.rules.specs.Columns.{Column, publishedIn, listIn, readSheet, sheetFault, columnsOf, serversFault}
 use Rattle.rules.specs.Joining.{joinRefusal, joinCount, joinTotals, joinBytes}
 use Rattle.rules.specs.Recount.{decimal, acceptedText, refusalText, columnLines}
-use Rattle.rules.proofs.Limits.{limits}
-use Rattle.rules.proofs.Refusals.{sheet-read}
+use Rattle.rules.proofs.Circuits.Limits.{limits}
+use Rattle.rules.proofs.Circuits.Refusals.{sheet-read}
 use Rattle.field.proofs.Below.{sum-below}
 use Rattle.message.specs.Totals.{totalAt}
 use Rattle.message.proofs.Totals.{join-totals}
-use Rattle.totals.specs.Calls.{joinedOf, Joins}
-use Rattle.totals.specs.declared.Joining.{Joining}
-use Rattle.totals.specs.declared.Joined.{Joined}
-use Rattle.totals.specs.declared.Joined.the-variants as answer
+use Rattle.joining.specs.Calls.{joinedOf, Joins}
+use Rattle.joining.specs.declared.Joining.{Joining}
+use Rattle.joining.specs.declared.Joined.{Joined}
+use Rattle.joining.specs.declared.Joined.the-variants as answer
 use Rattle.listing.specs.Text.{joinedText}
 
 -- ---- room for the totals of any sheet

@@ -8,10 +8,10 @@ ghost use lib.ListN.{length, take};
 ghost use Rattle.rules.specs.Recount.{decimal, acceptedText, refusalText, lineText};
 ghost use Rattle.listing.specs.Text.{Put, optionsText, columnsText, joinedText, textMost};
 ghost use Rattle.listing.specs.Text.{Options, Columns, Rooms, Lists, Start, ListsAll};
+use joining::Joined;
+use joining::join;
 use sheet::cursor::next;
 use sheet::cursor::start;
-use totals::Joined;
-use totals::join;
 
 // The decimal digit of a number below 10.
 fn digit(n: u32) -> u8

@@ -7,7 +7,7 @@ use lib.ListN.{replicate}
 use Rattle.records.specs.Answers.{answered}
 use Rattle.records.specs.declared.Written.{Written}
 use Rattle.records.specs.declared.Written.the-variants as written
-use Rattle.rules.proofs.Computing.{everything}
+use Rattle.rules.proofs.Computed.Computing.{everything}
 use Rattle.opening.specs.Calls.{Opens}
 
 module _ (r : Written) (T' : List ℕ) where

@@ -18,10 +18,10 @@ use Rattle.rules.specs.Settings.{document01}
 use Rattle.rules.specs.Columns.{within, check, sheetFault, columnsOf, returnsFault, totalsFault}
 use Rattle.rules.specs.Server.{openFault}
 use Rattle.rules.specs.Table.{tableLength, openRefusal, openLength}
-use Rattle.rules.proofs.Limits.{within-is, within-both}
-use Rattle.rules.proofs.Refusals.{sheet-fault, sheet-limits}
-use Rattle.rules.proofs.TableRun.{passed}
-use Rattle.rules.proofs.TableOpens.{Opening, opening}
+use Rattle.rules.proofs.Circuits.Limits.{within-is, within-both}
+use Rattle.rules.proofs.Circuits.Refusals.{sheet-fault, sheet-limits}
+use Rattle.rules.proofs.Tables.Run.{passed}
+use Rattle.rules.proofs.Tables.Opens.{Opening, opening}
 use Rattle.columns.specs.Counting.{countsOf}
 use Rattle.columns.specs.declared.Counts.{Counts}
 use Rattle.sheet.specs.Reading.{readingOf}

@@ -13,7 +13,7 @@ use layout::writing::clear;
 use layout::writing::write_start;
 use records::Written;
 use sheet::Reading;
-use sheet::totals::returns_refusal;
+use sheet::returns::returns_refusal;
 
 // What opening answers, where the table's buffer holds so many bytes.
 fn open_checked(servers: u32, own: u32, sheet: &[u8], returns: u32, room: usize) -> Written

@@ -9,7 +9,7 @@ use Rattle.rules.specs.Settings.{document01}
 use Rattle.rules.specs.Columns.{faultIn, listIn}
 use Rattle.rules.specs.Circuit.{Step}
 use Rattle.rules.specs.CircuitReader.{readCircuit, circuitFault, countIn}
-use Rattle.rules.proofs.Refusals.{circuit-refusals}
+use Rattle.rules.proofs.Circuits.Refusals.{circuit-refusals}
 use Rattle.circuit.specs.declared.Counts.{Counts}
 use Rattle.circuit.specs.declared.Reading.the-variants as answer
 use Rattle.circuit.specs.Reading.{readingIn, readingOf}

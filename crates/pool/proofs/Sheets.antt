@@ -6,8 +6,8 @@ use Prim.Native.Nat.{ℕ, _≤_}
 use native.Mathlib.Omega.{arith}
 use borrow.Author.Tests.{ne-eqb}
 use Rattle.rules.specs.Columns.{sheetFault, columnsOf}
-use Rattle.rules.proofs.Refusals.{sheet-fault}
-use Rattle.rules.proofs.Limits.{limits}
+use Rattle.rules.proofs.Circuits.Refusals.{sheet-fault}
+use Rattle.rules.proofs.Circuits.Limits.{limits}
 use Rattle.columns.specs.declared.Counts.{Counts}
 use Rattle.sheet.specs.declared.Reading.the-variants as answer
 use Rattle.sheet.specs.Reading.{readingOf}

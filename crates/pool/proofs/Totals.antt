@@ -10,11 +10,11 @@ use lib.ListN.{length}
 use Rattle.rules.specs.Settings.{document01}
 use Rattle.rules.specs.Columns.{columnsOf, publishedIn}
 use Rattle.rules.specs.Joining.{joinRefusal, joinCount}
-use Rattle.totals.specs.declared.Joining.{Joining}
-use Rattle.totals.specs.declared.Joined.{Joined}
-use Rattle.totals.specs.declared.Joined.the-variants as answer
-use Rattle.totals.specs.Calls.{joinedOf}
-use Rattle.totals.specs.Calls as call
+use Rattle.joining.specs.declared.Joining.{Joining}
+use Rattle.joining.specs.declared.Joined.{Joined}
+use Rattle.joining.specs.declared.Joined.the-variants as answer
+use Rattle.joining.specs.Calls.{joinedOf}
+use Rattle.joining.specs.Calls as call
 use Rattle.pool.specs.Outcomes.{Writes, ifDone}
 use Rattle.pool.specs.Tables.{Joins}
 

@@ -5,10 +5,10 @@ ghost use mathlib.Core.Path.{_≡_};
 ghost use Rattle.pool.specs.Outcomes.{numberOf, lengthOf};
 ghost use Rattle.pool.specs.Calls.{ReadsSheet, WritesCircuit, ReadsCircuit};
 ghost use Rattle.pool.specs.Tables.{Makes, Opens, TakesShare, TakesOne, Decides, Drops, Closes, Joins};
+use joining::Joined;
 use records::Written;
 use round_two::Verdict;
 use sheet::Reading;
-use totals::Joined;
 
 // The number that an answer comes to; the length written goes behind the pointer.
 fn told(answer: Written, written: &mut usize) -> u32
@@ -195,7 +195,7 @@ pub extern "C" fn pool_join(
         (now (accepted .entry)) (now (written .entry))
         r (now (out .exit)) (now (accepted .exit)) (now (written .exit)) ⌝ }
 {
-    match totals::join(servers, sheet, returns, joined, out) {
+    match joining::join(servers, sheet, returns, joined, out) {
         Joined::Refused(refusal) => refusal,
         Joined::Done(done) => {
             *accepted = done.accepted;

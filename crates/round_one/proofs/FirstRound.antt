@@ -22,9 +22,9 @@ use Rattle.rules.specs.Messages.{roundFault, roundMessage, firstSum, secondSum}
 use Rattle.rules.specs.Server as rules
 use Rattle.rules.specs.Server.{whileOne, oneRefusal}
 use Rattle.rules.specs.Server.{messageOne, messageTwo, sigmaIn, summed}
-use Rattle.rules.specs.Table.{stageByte, serversIn, ownIn, openedIn, waitingIn, stageIn, known, tableFault, waitPlace}
+use Rattle.rules.specs.Table.{stageByte, serversIn, ownIn, openedIn, waitingIn, stageIn, tableState, tableFault, waitPlace}
 use Rattle.rules.specs.Table.{oneRefused, oneTable, oneBytes}
-use Rattle.rules.proofs.Limits.{within-is}
+use Rattle.rules.proofs.Circuits.Limits.{within-is}
 use Rattle.message.proofs.Parts.{check-holds}
 use Rattle.message.proofs.Rounds.{rounds-summable}
 use Rattle.layout.specs.Places.{waitAt}
@@ -128,11 +128,11 @@ stage-not (suc (suc (suc b))) w f h =
 
 module _ (T joined : List ℕ) (room : ℕ) (fault : tableFault document01 T ≡ 0) where
   other-at : (tableOf T .stage ≡ 1 → ⊥) → oneRefused document01 T joined room ≡ 11
-  unfolding oneRefused oneRefusal known stageIn tableOf
+  unfolding oneRefused oneRefusal tableState stageIn tableOf
   other-at h = rw (fault, or-none) (stage-not (stageByte document01 T) (waitingIn document01 T) _ h)
 
   refusal-at : tableOf T .stage ≡ 1 → oneRefused document01 T joined room ≡ oneFaultAt T joined room
-  unfolding oneRefused oneRefusal known stageIn tableOf oneFaultAt oneJoinedFault whileOne
+  unfolding oneRefused oneRefusal tableState stageIn tableOf oneFaultAt oneJoinedFault whileOne
   refusal-at h = rw (fault, or-none, h)
 
 -- ---- the call

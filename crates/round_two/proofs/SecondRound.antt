@@ -15,9 +15,9 @@ use Rattle.rules.specs.Columns.{within}
 use Rattle.rules.specs.Messages.{roundFault, roundMessage, firstSum, secondSum, bothZero}
 use Rattle.rules.specs.Server as rules
 use Rattle.rules.specs.Server.{whileTwo, twoRefusal, messageTwo, sigmaIn}
-use Rattle.rules.specs.Table.{stageByte, serversIn, ownIn, openedIn, waitingIn, stageIn, known, tableFault, idsPlace}
+use Rattle.rules.specs.Table.{stageByte, serversIn, ownIn, openedIn, waitingIn, stageIn, tableState, tableFault, idsPlace}
 use Rattle.rules.specs.Table.{decidedTable, twoRefused, twoVerdict, twoTable}
-use Rattle.rules.proofs.Limits.{within-is}
+use Rattle.rules.proofs.Circuits.Limits.{within-is}
 use Rattle.message.proofs.Rounds.{rounds-summable}
 use Rattle.layout.specs.Writing.{decidedAs, Decidable}
 use Rattle.layout.specs.declared.Table.{Table}
@@ -112,11 +112,11 @@ stage-not (suc (suc (suc b))) w f h =
 
 module _ (T joined : List ℕ) (fault : tableFault document01 T ≡ 0) where
   other-at : (tableOf T .stage ≡ 2 → ⊥) → twoRefused document01 T joined ≡ 11
-  unfolding twoRefused twoRefusal known stageIn tableOf
+  unfolding twoRefused twoRefusal tableState stageIn tableOf
   other-at h = rw (fault, or-none) (stage-not (stageByte document01 T) (waitingIn document01 T) _ h)
 
   refusal-at : tableOf T .stage ≡ 2 → twoRefused document01 T joined ≡ twoFaultAt T joined
-  unfolding twoRefused twoRefusal known stageIn tableOf twoFaultAt whileTwo
+  unfolding twoRefused twoRefusal tableState stageIn tableOf twoFaultAt whileTwo
   refusal-at h = rw (fault, or-none, h)
 
 ready-at : (T joined : List ℕ) (w : Waiting) → Waits T (tableOf T) → w ≡ waitsIn T → twoFaultAt T joined ≡ 0

@@ -21,8 +21,8 @@ abbrev pub within : ℕ → ℕ → ℕ → Bool
 within low high n = leb low n && leb n high
 
 -- a column, or refusal 2 where its count is outside its limits
-unfoldable pub counted : Bool → Column → Outcome Column
-counted fits c = cond fits (ok c) (refused 2)
+unfoldable pub limitedColumn : Bool → Column → Outcome Column
+limitedColumn fits c = cond fits (ok c) (refused 2)
 
 -- "Each is one kind byte, then a body whose length the kind fixes."
 unfoldable pub columnBody : ℕ → Option ℕ
@@ -31,8 +31,8 @@ columnBody k = cond (eqb k 17) (some 0) (cond (eqb k 18) (some 1) (cond (eqb k 1
 unfoldable pub columnOf : ℕ → List ℕ → Outcome Column
 columnOf k body =
     cond (eqb k 17) (ok yesNo)
-    (cond (eqb k 18) (counted (within 2 64 (getD body 0 0)) (choice (getD body 0 0)))
-    (counted (within 1 24 (getD body 0 0)) (number (getD body 0 0))))
+    (cond (eqb k 18) (limitedColumn (within 2 64 (getD body 0 0)) (choice (getD body 0 0)))
+    (limitedColumn (within 1 24 (getD body 0 0)) (number (getD body 0 0))))
 
 abbrev pub columnFormat : Format Column
 columnFormat = record { bodyOf = columnBody; atFault = 1; judge = λ done k body. columnOf k body }

@@ -29,9 +29,9 @@ module _ (O : Ops) where
   firstOnly (suc i) = 𝟘
 
   -- z at 0, then the members of a list at 1, 2, ..
-  unfoldable pub through : F → List F → ℕ → F
-  through z l zero = z
-  through z l (suc t) = getD l t 𝟘
+  unfoldable pub zeroThen : F → List F → ℕ → F
+  zeroThen z l zero = z
+  zeroThen z l (suc t) = getD l t 𝟘
 
   -- "tau is the sum of s^k times test wire k, k from 0, with s^0 = 1 also for s = 0."
   unfoldable pub folded : List F → F → F
@@ -61,10 +61,10 @@ module _ (O : Ops) where
 
     -- "it finds its shares of f, g and h at r": f and g of degree at most M, h of degree at most 2M
     unfoldable pub fAt : F → (ℕ → F) → F → F
-    fAt k x r = interpolate O (gatesIn cs) (through (x (entriesIn cs)) (shareRun k x .lefts)) r
+    fAt k x r = interpolate O (gatesIn cs) (zeroThen (x (entriesIn cs)) (shareRun k x .lefts)) r
 
     unfoldable pub gAt : F → (ℕ → F) → F → F
-    gAt k x r = interpolate O (gatesIn cs) (through (x (entriesIn cs + 1)) (shareRun k x .rights)) r
+    gAt k x r = interpolate O (gatesIn cs) (zeroThen (x (entriesIn cs + 1)) (shareRun k x .rights)) r
 
     unfoldable pub hAt : (ℕ → F) → F → F
     hAt x r = interpolate O (gatesIn cs + gatesIn cs) (hOf x) r

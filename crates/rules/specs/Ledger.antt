@@ -9,7 +9,7 @@ use Rattle.algebra.specs.Lists.{sumOver}
 use Rattle.rules.specs.Settings.{Setting}
 use Rattle.rules.specs.Columns.{publishedFrom}
 use Rattle.rules.specs.Messages.{idIn, shareElements, firstSum, secondSum, bothZero}
-use Rattle.rules.specs.Server.{Opened, Waiting, Stage, idle, awaitsOne, awaitsTwo, closed, Known, waitingOf}
+use Rattle.rules.specs.Server.{Opened, Waiting, Stage, idle, awaitsOne, awaitsTwo, closed, ServerState, waitingOf}
 use Rattle.rules.specs.Server.{messageOne, messageTwo, summed, totalsMessage}
 use Rattle.rules.specs.Server.{shareRefusal, oneRefusal, twoRefusal, dropRefusal, closeRefusal}
 
@@ -101,16 +101,16 @@ module _ (σ : Setting) (o : Opened) where
   withSums w d e =
       record { id = w .id; r = w .r; s = w .s; d = d; e = e; rh = w .rh; tau = w .tau; elements = w .elements }
 
-  unfoldable pub stageTold : Progress → Stage
-  stageTold isIdle = idle
-  stageTold (waitsOne n) = awaitsOne (noted n)
-  stageTold (waitsTwo n d e) = awaitsTwo (withSums (noted n) d e)
-  stageTold isClosed = closed
+  unfoldable pub ledgerStage : Progress → Stage
+  ledgerStage isIdle = idle
+  ledgerStage (waitsOne n) = awaitsOne (noted n)
+  ledgerStage (waitsTwo n d e) = awaitsTwo (withSums (noted n) d e)
+  ledgerStage isClosed = closed
 
-  unfoldable pub told : Ledger → Known
-  told l = record {
+  unfoldable pub ledgerState : Ledger → ServerState
+  ledgerState l = record {
     opened = o;
-    stage = stageTold (l .progress);
+    stage = ledgerStage (l .progress);
     used = idsOf (notesOf (l .decided));
     accepted = length (notesWith isAccepted (l .decided));
     totals = ledgerTotals (notesWith isAccepted (l .decided));
@@ -118,11 +118,11 @@ module _ (σ : Setting) (o : Opened) where
 
   -- the refusal of a call, told from the ledger
   unfoldable pub refusalOf : Ledger → Call → ℕ
-  refusalOf l (share m r s room) = shareRefusal σ (told l) m r s room
-  refusalOf l (roundOne joined room) = oneRefusal σ (told l) joined room
-  refusalOf l (roundTwo joined) = twoRefusal σ (told l) joined
-  refusalOf l drop = dropRefusal (told l)
-  refusalOf l (close room) = closeRefusal σ (told l) room
+  refusalOf l (share m r s room) = shareRefusal σ (ledgerState l) m r s room
+  refusalOf l (roundOne joined room) = oneRefusal σ (ledgerState l) joined room
+  refusalOf l (roundTwo joined) = twoRefusal σ (ledgerState l) joined
+  refusalOf l drop = dropRefusal (ledgerState l)
+  refusalOf l (close room) = closeRefusal σ (ledgerState l) room
 
   -- the return that waits is decided
   abbrev pub decide : Ledger → Note → Decision → Ledger
@@ -155,15 +155,15 @@ module _ (σ : Setting) (o : Opened) where
   ledgerAfter l (close room) = record { progress = isClosed; decided = l .decided }
 
   -- what it hands back: the messages are those that Judging works out from what is noted
-  unfoldable pub messageTold : Stage → List ℕ
-  messageTold idle = []
-  messageTold (awaitsOne w) = messageOne σ o w
-  messageTold (awaitsTwo w) = messageTwo σ o w
-  messageTold closed = []
+  unfoldable pub ledgerMessage : Stage → List ℕ
+  ledgerMessage idle = []
+  ledgerMessage (awaitsOne w) = messageOne σ o w
+  ledgerMessage (awaitsTwo w) = messageTwo σ o w
+  ledgerMessage closed = []
 
   unfoldable pub answerOf : Ledger → Call → Answer
-  answerOf l (share m r s room) = wrote (messageTold (stageTold (ledgerAfter l (share m r s room) .progress)))
-  answerOf l (roundOne joined room) = wrote (messageTold (stageTold (ledgerAfter l (roundOne joined room) .progress)))
+  answerOf l (share m r s room) = wrote (ledgerMessage (ledgerStage (ledgerAfter l (share m r s room) .progress)))
+  answerOf l (roundOne joined room) = wrote (ledgerMessage (ledgerStage (ledgerAfter l (roundOne joined room) .progress)))
   answerOf l (roundTwo joined) = judged (bothZero σ (o .servers) joined)
   answerOf l drop = done
   answerOf l (close room) = wrote (closingMessage l)

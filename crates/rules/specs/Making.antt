@@ -17,7 +17,7 @@ use Rattle.rules.specs.Columns.{Column, entriesIn, check, sheetFault, co
 use Rattle.rules.specs.Circuit.{gatesIn, circuitOf}
 use Rattle.rules.specs.Run.{Trace, run, onList}
 use Rattle.rules.specs.Values.{legalValues, encoding}
-use Rattle.rules.specs.Judging.{shareSize, through}
+use Rattle.rules.specs.Judging.{shareSize, zeroThen}
 
 module _ (O : Ops) where
   open Ops O using (F, _⊕_, _⊗_, 𝟘, ι)
@@ -28,10 +28,10 @@ module _ (O : Ops) where
     -- "f and g are the polynomials of degree at most M through u_t and v_t at t = 1..M and through free elements u_0 and
     -- v_0 at 0", for the entries x
     unfoldable pub fOf : (ℕ → F) → F → F → F
-    fOf x u₀ r = interpolate O (gatesIn cs) (through O u₀ (run (onList O x) (circuitOf σ cs) .lefts)) r
+    fOf x u₀ r = interpolate O (gatesIn cs) (zeroThen O u₀ (run (onList O x) (circuitOf σ cs) .lefts)) r
 
     unfoldable pub gOf : (ℕ → F) → F → F → F
-    gOf x v₀ r = interpolate O (gatesIn cs) (through O v₀ (run (onList O x) (circuitOf σ cs) .rights)) r
+    gOf x v₀ r = interpolate O (gatesIn cs) (zeroThen O v₀ (run (onList O x) (circuitOf σ cs) .rights)) r
 
     -- what the shares add up to: "the entries, f(0), g(0), h(0)..h(2M), a, b, c, where c = a × b", and "h = f × g"
     unfoldable pub whole : (ℕ → F) → F → F → F → F → List F

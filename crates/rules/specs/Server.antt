@@ -43,7 +43,7 @@ pub data Stage : Type 0 where
   closed : Stage
 
 -- What a server knows: what it was opened with, its stage, the ids decided, the number accepted and the totals
-pub record Known : Type 0 where
+pub record ServerState : Type 0 where
   pub opened : Opened
   pub stage : Stage
   pub used : List ℕ
@@ -51,9 +51,9 @@ pub record Known : Type 0 where
   pub totals : List ℕ
 
 -- whether x is among the members
-unfoldable pub has : ℕ → List ℕ → Bool
-has x [] = false
-has x (y ∷ ys) = eqb y x || has x ys
+unfoldable pub isMember : ℕ → List ℕ → Bool
+isMember x [] = false
+isMember x (y ∷ ys) = eqb y x || isMember x ys
 
 -- Opening: "S and own number, sheet, N, 4, 14"; `size` is the length of the table
 unfoldable pub openFault : Setting → ℕ → ℕ → List ℕ → ℕ → ℕ
@@ -147,32 +147,32 @@ whileWaiting closed = 11
 
 -- The refusals of each call, 0 for none, in the order told. A share with its pair and the room of the output buffer:
 -- "11, 13, 7, 8, 10, 9, 14"
-unfoldable pub shareRefusal : Setting → Known → List ℕ → ℕ → ℕ → ℕ → ℕ
+unfoldable pub shareRefusal : Setting → ServerState → List ℕ → ℕ → ℕ → ℕ → ℕ
 shareRefusal σ k m r s room =
     whileIdle (k .stage)
     (orElse (check (ltb (length (k .used)) (k .opened .returns)) 13)
     (orElse (headerFault σ (k .opened .columns) (k .opened .own) m)
     (orElse (elementsFault σ m)
-    (orElse (check (not (has (idIn m) (k .used))) 10)
+    (orElse (check (not (isMember (idIn m) (k .used))) 10)
     (orElse (check (allowedPair σ (k .opened .columns) r s) 9) (check (leb (roundLength σ) room) 14))))))
 
 -- "Round one: 11, 12, 14."
-unfoldable pub oneRefusal : Setting → Known → List ℕ → ℕ → ℕ
+unfoldable pub oneRefusal : Setting → ServerState → List ℕ → ℕ → ℕ
 oneRefusal σ k joined room =
     let o = k .opened in
     whileOne (k .stage)
     (λ w. orElse (roundFault σ (o .servers) 34 (w .id) (o .own) (messageOne σ o w) joined) (check (leb (roundLength σ) room) 14))
 
 -- "Round two, which writes no message: 11, 12."
-unfoldable pub twoRefusal : Setting → Known → List ℕ → ℕ
+unfoldable pub twoRefusal : Setting → ServerState → List ℕ → ℕ
 twoRefusal σ k joined =
     let o = k .opened in
     whileTwo (k .stage) (λ w. roundFault σ (o .servers) 35 (w .id) (o .own) (messageTwo σ o w) joined)
 
 -- "Drop: 11." "Dropping is allowed while a return waits."
-unfoldable pub dropRefusal : Known → ℕ
+unfoldable pub dropRefusal : ServerState → ℕ
 dropRefusal k = whileWaiting (k .stage)
 
 -- "Close: 11, 14."
-unfoldable pub closeRefusal : Setting → Known → ℕ → ℕ
+unfoldable pub closeRefusal : Setting → ServerState → ℕ → ℕ
 closeRefusal σ k room = whileIdle (k .stage) (check (leb (totalsLength σ (k .opened)) room) 14)

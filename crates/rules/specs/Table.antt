@@ -35,7 +35,7 @@ use Rattle.rules.specs.Settings.{Setting}
 use Rattle.rules.specs.Columns.{Column, check, within, publishedIn, sheetFault, columnsOf, totalsFit}
 use Rattle.rules.specs.Judging.{shareSize, allowedPair}
 use Rattle.rules.specs.Messages.{idIn, shareElements, bothZero}
-use Rattle.rules.specs.Server.{Opened, Waiting, Stage, idle, awaitsOne, awaitsTwo, closed, Known, openFault, waitingOf}
+use Rattle.rules.specs.Server.{Opened, Waiting, Stage, idle, awaitsOne, awaitsTwo, closed, ServerState, openFault, waitingOf}
 use Rattle.rules.specs.Server.{messageOne, messageTwo, summed, publishedShares, totalsMessage}
 use Rattle.rules.specs.Server.{shareRefusal, oneRefusal, twoRefusal, dropRefusal, closeRefusal}
 
@@ -115,8 +115,8 @@ module _ (σ : Setting) (T : List ℕ) where
   abbrev pub openedIn : Opened
   openedIn = record { servers = serversIn; own = ownIn; columns = columnsIn; returns = returnsIn }
 
-  unfoldable pub known : Known
-  known = record { opened = openedIn; stage = stageIn; used = idsIn; accepted = acceptedIn; totals = totalsIn }
+  unfoldable pub tableState : ServerState
+  tableState = record { opened = openedIn; stage = stageIn; used = idsIn; accepted = acceptedIn; totals = totalsIn }
 
   -- a return waits
   abbrev pub waits : Bool
@@ -178,7 +178,7 @@ module _ (σ : Setting) (T : List ℕ) where
   staged b t = splice t 1 (b ∷ [])
 
   unfoldable pub shareRefused : List ℕ → ℕ → ℕ → ℕ → ℕ
-  shareRefused m r s room = orElse (tableFault σ T) (shareRefusal σ (known σ T) m r s room)
+  shareRefused m r s room = orElse (tableFault σ T) (shareRefusal σ (tableState σ T) m r s room)
 
   abbrev pub shareTaken : List ℕ → ℕ → ℕ → Waiting
   shareTaken m r s = waitingOf σ (openedIn σ T) (idIn m) (shareElements σ m) r s
@@ -196,7 +196,7 @@ module _ (σ : Setting) (T : List ℕ) where
   shareBytes m r s = messageOne σ (openedIn σ T) (shareTaken m r s)
 
   unfoldable pub oneRefused : List ℕ → ℕ → ℕ
-  oneRefused joined room = orElse (tableFault σ T) (oneRefusal σ (known σ T) joined room)
+  oneRefused joined room = orElse (tableFault σ T) (oneRefusal σ (tableState σ T) joined room)
 
   abbrev pub oneTaken : List ℕ → Waiting
   oneTaken joined = summed σ (openedIn σ T) (waitingIn σ T) joined
@@ -227,7 +227,7 @@ module _ (σ : Setting) (T : List ℕ) where
       (publishedIn (columnsIn σ T))
 
   unfoldable pub twoRefused : List ℕ → ℕ
-  twoRefused joined = orElse (tableFault σ T) (twoRefusal σ (known σ T) joined)
+  twoRefused joined = orElse (tableFault σ T) (twoRefusal σ (tableState σ T) joined)
 
   unfoldable pub twoVerdict : List ℕ → Bool
   twoVerdict joined = bothZero σ (serversIn σ T) joined
@@ -240,13 +240,13 @@ module _ (σ : Setting) (T : List ℕ) where
       (decidedTable 0 T)
 
   unfoldable pub dropRefused : ℕ
-  dropRefused = orElse (tableFault σ T) (dropRefusal (known σ T))
+  dropRefused = orElse (tableFault σ T) (dropRefusal (tableState σ T))
 
   unfoldable pub dropTable : List ℕ
   dropTable = decidedTable 0 T
 
   unfoldable pub closeRefused : ℕ → ℕ
-  closeRefused room = orElse (tableFault σ T) (closeRefusal σ (known σ T) room)
+  closeRefused room = orElse (tableFault σ T) (closeRefusal σ (tableState σ T) room)
 
   unfoldable pub closeTable : List ℕ
   closeTable = staged 3 T

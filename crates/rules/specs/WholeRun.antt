@@ -51,7 +51,7 @@ pub record Pool (σ : Setting) : Type 0 where
   pub sheet-bytes : Bytes sheet
   pub buffer-bytes : (i : ℕ) → i < servers → Bytes (buffers i)
   pub call-bytes : (i : ℕ) → i < servers → All BytesIn (calls i)
-  pub some : 0 < servers
+  pub some-server : 0 < servers
   pub opens : (i : ℕ) → i < servers → openRefusal σ servers i sheet returns (length (buffers i)) ≡ 0
 
 module _ (σ : Setting) (𝓟 : Pool σ) where
@@ -89,9 +89,9 @@ unfoldable pub notesIn : Ledger → List Note
 notesIn l = notesOf (l .decided) ++ waitingNote (l .progress)
 
 -- the share noted under an id; one without elements where there is none
-unfoldable pub under : ℕ → List Note → Note
-under id [] = record { id = id; elements = []; r = 0; s = 0 }
-under id (n ∷ ns) = cond (eqb (n .id) id) n (under id ns)
+unfoldable pub noteUnder : ℕ → List Note → Note
+noteUnder id [] = record { id = id; elements = []; r = 0; s = 0 }
+noteUnder id (n ∷ ns) = cond (eqb (n .id) id) n (noteUnder id ns)
 
 -- the joined messages of the round calls of a list that are not refused
 module _ (σ : Setting) (o : Opened) where
@@ -113,7 +113,7 @@ module _ (σ : Setting) (𝓟 : Pool σ) where
 
   -- "A return is the S shares noted under one id."
   abbrev pub returnOf : ℕ → ℕ → ℕ → ℕ
-  returnOf id i e = getD (under id (notesAt i) .elements) e 0
+  returnOf id i e = getD (noteUnder id (notesAt i) .elements) e 0
 
   -- "Its added-up entries are their sums modulo p; it keeps its form when they are a valid list."
   abbrev pub addedEntry : ℕ → ℕ → ℕ
@@ -144,7 +144,7 @@ module _ (σ : Setting) (𝓟 : Pool σ) where
     pub enough : length random ≡ randomCount (𝓟 .servers) (columns σ 𝓟)
     pub below : allBelow (σ .modulus) random ≡ true
     pub noted : (i : ℕ) → i < 𝓟 .servers
-        → under id (notesAt i) .elements ≡ madeShare σ (columns σ 𝓟) (𝓟 .servers) values random i
+        → noteUnder id (notesAt i) .elements ≡ madeShare σ (columns σ 𝓟) (𝓟 .servers) values random i
 
   abbrev pub AllClosed : Type 0
   AllClosed = (i : ℕ) → i < 𝓟 .servers → ledgerAt σ 𝓟 i .progress ≡ isClosed

@@ -10,7 +10,7 @@ use Rattle.rules.specs.CircuitReader.{sheetCircuit}
 use Rattle.rules.specs.Making.{makeBytes, makeRefusal}
 use Rattle.rules.specs.Table.{openBytes, shareTable, shareBytes, oneTable, oneBytes, twoTable, twoVerdict, closeBytes}
 use Rattle.rules.specs.Joining.{joinBytes}
-use Rattle.rules.proofs.Computing.{everything}
+use Rattle.rules.proofs.Computed.Computing.{everything}
 
 abbrev sheet : List ℕ
 sheet =

@@ -15,14 +15,14 @@ use Rattle.words.proofs.Below.{all-of-below}
 use Rattle.words.proofs.Same.{same-equal}
 use Rattle.rules.specs.Settings.{Setting}
 use Rattle.rules.specs.Messages.{placeIn}
-use Rattle.rules.specs.Server.{has}
+use Rattle.rules.specs.Server.{isMember}
 use Rattle.rules.specs.Table.{openRefusal}
 use Rattle.rules.specs.Ledger.{Call, share, roundOne, roundTwo, drop, close, Answer, refused, wrote, judged, done, Note}
 use Rattle.rules.specs.Ledger.{Progress, isIdle, waitsOne, waitsTwo, isClosed, empty}
 use Rattle.rules.specs.WholeRun.{BytesIn, Pool, openedAt, ledgerAt, answersAt, acceptedAt, droppedAt, handedIn, notesAt}
 use Rattle.rules.specs.WholeRun.{OnePair, Conditions, AllClosed}
-use Rattle.rules.proofs.Checks.{every-at}
-use Rattle.rules.proofs.Moves.{has-not}
+use Rattle.rules.proofs.Histories.Checks.{every-at}
+use Rattle.rules.proofs.Histories.Moves.{has-not}
 
 or-split : (a b : Bool) → (a || b) ≡ true → (a ≡ true) ⊎ (b ≡ true)
 or-split true b e = inl refl
@@ -92,7 +92,7 @@ module _ (σ : Setting) (servers : ℕ) (sheet : List ℕ) (returns : ℕ) (buff
       sheet-bytes = all-of-below 256 sheet sheet-is;
       buffer-bytes = λ i l. all-of-below 256 (buffers i) (buffer-is i l);
       call-bytes = λ i l. all-map bytes-call (every-all bytesCall (calls i) (calls-are i l));
-      some = ltb-true 0 servers some-servers;
+      some-server = ltb-true 0 servers some-servers;
       opens = λ i l. eqb-true _ 0 (opens-is i l);
     }
 
@@ -126,7 +126,7 @@ module _ (σ : Setting) (𝓟 : Pool σ) where
       every (λ joined. hasWritten (placeIn σ joined j) (answersAt σ 𝓟 j)) (handedIn σ (openedAt σ 𝓟 i) empty (𝓟 .calls i))
 
   abbrev dropsAt : ℕ → ℕ → Bool
-  dropsAt i j = every (λ id. not (has id (acceptedAt σ 𝓟 j))) (droppedAt σ 𝓟 i)
+  dropsAt i j = every (λ id. not (isMember id (acceptedAt σ 𝓟 j))) (droppedAt σ 𝓟 i)
 
   unfoldable pub meets : Bool
   meets = each unalteredAt && each dropsAt

@@ -13,12 +13,12 @@ use Rattle.rules.specs.Columns.{columnsOf}
 use Rattle.rules.specs.Making.{madeShare}
 use Rattle.rules.specs.Ledger.{Call, roundOne, roundTwo, drop, close}
 use Rattle.rules.specs.WholeRun.{Pool, answersAt, acceptedAt, Conditions, AllClosed, closings, Closed}
-use Rattle.rules.proofs.Computing.{everything}
-use Rattle.rules.proofs.Facts.{document01-facts}
-use Rattle.rules.proofs.MessageBytes.{oneByOne}
+use Rattle.rules.proofs.Computed.Computing.{everything}
+use Rattle.rules.proofs.Computed.Facts.{document01-facts}
+use Rattle.rules.proofs.Histories.MessageBytes.{oneByOne}
 use Rattle.runs.proofs.Tests.{bytesCall, opensAt, isPool, poolOf, hasWritten, meets, meets-conditions}
 use Rattle.runs.proofs.Tests.{isEnded, allEnded, all-closed}
-use Rattle.rules.proofs.WholeTotals.{closed-together}
+use Rattle.rules.proofs.Runs.WholeTotals.{closed-together}
 use Rattle.runs.proofs.TwoServers.{ones, twos, give, short, joinResult}
 
 abbrev sheet : List ℕ

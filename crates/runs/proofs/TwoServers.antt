@@ -15,12 +15,12 @@ use Rattle.rules.specs.Server.{Opened, Waiting, waitingOf, messageOne, messageT
 use Rattle.rules.specs.Joining.{joinRefusal, joinCount, joinTotals}
 use Rattle.rules.specs.Ledger.{Call, share, roundOne, roundTwo, drop, close, Answer, refused, wrote, judged, done}
 use Rattle.rules.specs.WholeRun.{Pool, answersAt, acceptedAt, droppedAt, Conditions, OnePair, AllClosed, closings, Closed}
-use Rattle.rules.proofs.Computing.{everything}
-use Rattle.rules.proofs.Facts.{document01-facts}
-use Rattle.rules.proofs.MessageBytes.{oneByOne}
+use Rattle.rules.proofs.Computed.Computing.{everything}
+use Rattle.rules.proofs.Computed.Facts.{document01-facts}
+use Rattle.rules.proofs.Histories.MessageBytes.{oneByOne}
 use Rattle.runs.proofs.Tests.{bytesCall, opensAt, isPool, poolOf, hasWritten, meets, meets-conditions, onePair, one-pair}
 use Rattle.runs.proofs.Tests.{isEnded, allEnded, all-closed}
-use Rattle.rules.proofs.WholeTotals.{closed-together}
+use Rattle.rules.proofs.Runs.WholeTotals.{closed-together}
 
 -- ---- the messages of a return, for servers opened alike
 module _ (servers : ℕ) (sheet : List ℕ) (returns : ℕ) where

@@ -9,7 +9,7 @@ use Rattle.words.specs.Bytes.{part, elementsOf, allBelow}
 use Rattle.records.specs.Outcome.{orElse}
 use Rattle.records.proofs.Outcome.{or-none, or-first}
 use Rattle.rules.specs.Messages.{idIn, elementsFault}
-use Rattle.rules.specs.Server.{has}
+use Rattle.rules.specs.Server.{isMember}
 use Rattle.message.specs.Shares.{headerFaultAt, sharePart}
 use Rattle.message.proofs.Shares.{part-sound}
 use Rattle.message.proofs.Parts.{span}
@@ -52,8 +52,8 @@ module _ (size own : ℕ) (m : List ℕ) where
 -- ---- the id, the pair and the room, as the code finds them
 module _ (T : List ℕ) (k : Table) (m : List ℕ) (r s room : ℕ) where
   module _ (a id : ℕ) (ea : a ≡ idsAt (k .sheet) (k .published)) (ei : id ≡ idIn m) (b : Bool)
-      (eb : b ≡ has id (elementsOf 4 (take (a + 4 * k .decided - a) (drop a T)))) where
-    used-is : has (idIn m) (elementsOf 4 (part (idsAt (k .sheet) (k .published)) (4 * k .decided) T)) ≡ b
+      (eb : b ≡ isMember id (elementsOf 4 (take (a + 4 * k .decided - a) (drop a T)))) where
+    used-is : isMember (idIn m) (elementsOf 4 (part (idsAt (k .sheet) (k .published)) (4 * k .decided) T)) ≡ b
     used-is = rw (← ea, ← ei) (sym (rw (span a (4 * k .decided) T) at eb))
 
     pub last-used : b ≡ true → 10 ≡ lastFault T k m r s room

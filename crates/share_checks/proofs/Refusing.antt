@@ -17,7 +17,7 @@ use Rattle.records.proofs.Outcome.{or-none, or-first, or-assoc, or-zero}
 use Rattle.rules.specs.Settings.{document01}
 use Rattle.rules.specs.Judging.{shareSize, allowedPair}
 use Rattle.rules.specs.Server.{Waiting, Stage, idle, awaitsOne, awaitsTwo, closed, whileIdle, shareRefusal}
-use Rattle.rules.specs.Table.{stageByte, waitingIn, idsIn, decidedIn, stageIn, known, columnsIn, ownIn, idsPlace}
+use Rattle.rules.specs.Table.{stageByte, waitingIn, idsIn, decidedIn, stageIn, tableState, columnsIn, ownIn, idsPlace}
 use Rattle.rules.specs.Messages.{elementsFault}
 use Rattle.message.specs.Shares.{headerFaultAt}
 use Rattle.message.proofs.Shares.{header-fault, header-long}
@@ -52,8 +52,8 @@ module _ (T m : List ℕ) (r s room : ℕ) where
   inOrder k =
       orElse (startFault k) (orElse (messageFault (sizeOf (k .entries) (k .gates)) (k .own) m) (lastFault T k m r s room))
 
-  refusal-at : Sound T (tableOf T) → shareRefusal document01 (known document01 T) m r s room ≡ inOrder (tableOf T)
-  unfolding shareRefusal known stageIn tableOf startFault messageFault lastFault idsPlace allowedPair pairSound shareSize
+  refusal-at : Sound T (tableOf T) → shareRefusal document01 (tableState document01 T) m r s room ≡ inOrder (tableOf T)
+  unfolding shareRefusal tableState stageIn tableOf startFault messageFault lastFault idsPlace allowedPair pairSound shareSize
   refusal-at h =
       let a = idsAt (tableOf T .sheet) (tableOf T .published) in
       let l : a + 4 * decidedIn document01 T ≤ length T = omega (arith, h .long, h .decided-few) in
@@ -65,20 +65,20 @@ module _ (T m : List ℕ) (r s room : ℕ) where
         or-assoc,
       )
 
-  pub refusal-in-order : (k : Table) → Sound T k → shareRefusal document01 (known document01 T) m r s room ≡ inOrder k
+  pub refusal-in-order : (k : Table) → Sound T k → shareRefusal document01 (tableState document01 T) m r s room ≡ inOrder k
   refusal-in-order k h = rw (h .says) (refusal-at (rw (h .says) at h))
 
   -- the table and the message, then the rest
   module _ (k : Table) (h : Sound T k) (x z y n : ℕ) (ex : x ≡ startFault k) (ez : z ≡ sizeOf (k .entries) (k .gates))
       (ey : y ≡ messageFault z (k .own) m) (en : n ≡ orElse x y) where
-    in-two : shareRefusal document01 (known document01 T) m r s room ≡ orElse n (lastFault T k m r s room)
+    in-two : shareRefusal document01 (tableState document01 T) m r s room ≡ orElse n (lastFault T k m r s room)
     in-two = refusal-in-order k h ∙ rw (en, or-assoc, ex, ey, ez)
 
-    pub refused-first : (n ≡ 0 → ⊥) → n ≡ shareRefusal document01 (known document01 T) m r s room
+    pub refused-first : (n ≡ 0 → ⊥) → n ≡ shareRefusal document01 (tableState document01 T) m r s room
     refused-first f = rw in-two (sym (or-first n _ f))
 
     module _ (none : n ≡ 0) where
-      pub refused-last : lastFault T k m r s room ≡ shareRefusal document01 (known document01 T) m r s room
+      pub refused-last : lastFault T k m r s room ≡ shareRefusal document01 (tableState document01 T) m r s room
       refused-last = rw (in-two, none, or-none)
 
       pub fitting : Fitting T k m

@@ -11,7 +11,7 @@ use Rattle.records.specs.Outcome.{orElse}
 use Rattle.rules.specs.Settings.{document01}
 use Rattle.rules.specs.Columns.{check}
 use Rattle.rules.specs.Messages.{idIn, elementsFault}
-use Rattle.rules.specs.Server.{has}
+use Rattle.rules.specs.Server.{isMember}
 use Rattle.message.specs.Shares.{headerFaultAt}
 use Rattle.layout.specs.Places.{idsAt, sizeOf}
 use Rattle.layout.specs.declared.Table.{Table}
@@ -28,7 +28,7 @@ messageFault size own m = orElse (headerFaultAt size own m) (elementsFault docum
 -- "10, 9, 14": the id against those decided, the pair, the room of the buffer
 unfoldable pub lastFault : List ℕ → Table → List ℕ → ℕ → ℕ → ℕ → ℕ
 lastFault T k m r s room =
-    orElse (check (not (has (idIn m) (elementsOf 4 (part (idsAt (k .sheet) (k .published)) (4 * k .decided) T)))) 10)
+    orElse (check (not (isMember (idIn m) (elementsOf 4 (part (idsAt (k .sheet) (k .published)) (4 * k .decided) T)))) 10)
     (orElse (check (pairSound (k .gates) r s) 9) (check (leb 14 room) 14))
 
 -- a message that has the length of a share for the table

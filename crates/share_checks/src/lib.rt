@@ -4,7 +4,7 @@ ghost use mathlib.Core.Path.{_≡_};
 ghost use Prim.Native.Nat.{_≤_};
 ghost use Rattle.rules.specs.Settings.{document01};
 ghost use Rattle.rules.specs.Server.{shareRefusal};
-ghost use Rattle.rules.specs.Table.{known};
+ghost use Rattle.rules.specs.Table.{tableState};
 ghost use Rattle.table.specs.Reading.{Sound};
 ghost use Rattle.share_checks.specs.Checks.{startFault, messageFault, lastFault, Fitting};
 use layout::Table;
@@ -65,7 +65,7 @@ fn last_refusal(t: &[u8], k: Table, m: &[u8], r: u64, s: u64, room: usize) -> u3
 // The refusal of a share by a sound table, 0 for none: 11, 13, 7, 8, 10, 9, 14.
 pub fn share_refusal(t: &[u8], k: Table, m: &[u8], r: u64, s: u64, room: usize) -> u32
     requires { ⌜ Sound (now t) k ⌝ }
-    ensures { λ n. ⌜ n ≡ shareRefusal document01 (known document01 (now (t .entry))) (now (m .entry)) r s room ⌝ }
+    ensures { λ n. ⌜ n ≡ shareRefusal document01 (tableState document01 (now (t .entry))) (now (m .entry)) r s room ⌝ }
 {
     let first = start_refusal(k);
     let second = message_refusal(m, share_size(k.entries, k.gates), k.own);

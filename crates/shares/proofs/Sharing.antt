@@ -17,8 +17,8 @@ use Rattle.records.proofs.Outcome.{or-none, or-zero}
 use Rattle.rules.specs.Settings.{document01}
 use Rattle.rules.specs.Columns.{check}
 use Rattle.rules.specs.Messages.{idIn, shareElements, elementsFault}
-use Rattle.rules.specs.Server.{has, shareRefusal}
-use Rattle.rules.specs.Table.{known, tableFault, shareRefused, shareTable, shareBytes}
+use Rattle.rules.specs.Server.{isMember, shareRefusal}
+use Rattle.rules.specs.Table.{tableState, tableFault, shareRefused, shareTable, shareBytes}
 use Rattle.message.specs.Shares.{headerFaultAt}
 use Rattle.message.proofs.Shares.{header-long}
 use Rattle.message.proofs.Parts.{check-holds}
@@ -46,7 +46,7 @@ module _ (T m : List ℕ) (r s : ℕ) (out : List ℕ) where
   unfolding shareRefused orElse
   share-unsound e = refused-as 11 (rw (unsound T e)) (λ z. omega arith)
 
-  module _ (k : Table) (h : Sound T k) (x : ℕ) (e : x ≡ shareRefusal document01 (known document01 T) m r s (length out)) where
+  module _ (k : Table) (h : Sound T k) (x : ℕ) (e : x ≡ shareRefusal document01 (tableState document01 T) m r s (length out)) where
     refusal-is : shareRefused document01 T m r s (length out) ≡ x
     unfolding shareRefused tableFault
     refusal-is = rw (h .is-sound, or-none, e)
@@ -66,7 +66,7 @@ module _ (T m : List ℕ) (r s : ℕ) (out : List ℕ) where
       pair-holds : lastFault T k m r s (length out) ≡ 0 → (pairSound (k .gates) r s ≡ true) × (14 ≤ length out)
       unfolding lastFault
       pair-holds z =
-          let used = check (not (has (idIn m) (elementsOf 4 (part (idsAt (k .sheet) (k .published)) (4 * k .decided) T)))) 10 in
+          let used = check (not (isMember (idIn m) (elementsOf 4 (part (idsAt (k .sheet) (k .published)) (4 * k .decided) T)))) 10 in
           let b = or-zero used _ z in
           let d = or-zero (check (pairSound (k .gates) r s) 9) (check (leb 14 (length out)) 14) (b .1) in
           (check-holds (pairSound (k .gates) r s) 8 (d .0), leb-true 14 (length out) (check-holds (leb 14 (length out)) 13 (d .1)))

@@ -6,7 +6,7 @@ use Prim.Native.Nat.{ℕ}
 use native.Mathlib.Omega.{arith}
 use Rattle.records.specs.Outcome.{Outcome, ok, refused}
 use Rattle.rules.specs.Columns.{Column, readSheet, faultIn, sheetFault, columnsOf}
-use Rattle.rules.proofs.Refusals.{sheet-refusals, sheet-read, sheet-fault}
+use Rattle.rules.proofs.Circuits.Refusals.{sheet-refusals, sheet-read, sheet-fault}
 use Rattle.columns.specs.declared.Counts.{Counts}
 use Rattle.columns.specs.Counting.{countsOf}
 use Rattle.sheet.specs.declared.Reading.the-variants as answer

@@ -13,7 +13,7 @@ use Rattle.records.specs.Outcome.{ok}
 use Rattle.rules.specs.Columns.{Column, yesNo, columnOf, entriesOf, publishedOf, entriesIn, publishedIn}
 use Rattle.rules.specs.Columns.{readSheet, columnsOf}
 use Rattle.rules.specs.Circuit.{gatesOf, gatesIn}
-use Rattle.rules.proofs.Limits.{InLimits, limits}
+use Rattle.rules.proofs.Circuits.Limits.{InLimits, limits}
 use Rattle.columns.specs.Counting.{countsOf, alone}
 use Rattle.columns.specs.Kinds.{bytesOfKind, columnBytes, columnFrom}
 use Rattle.columns.proofs.Sums.{entries, published, gates, total-next, total-most}

@@ -14,8 +14,8 @@ use Rattle.algebra.specs.Lists.{every}
 use Rattle.records.specs.Outcome.{ok}
 use Rattle.rules.specs.Columns.{yesNo, entriesIn, publishedIn, readSheet, columnsOf}
 use Rattle.rules.specs.Circuit.{gatesIn}
-use Rattle.columns.specs.Kinds.{back, Bounded}
-use Rattle.columns.proofs.ColumnBytes.{back-seen}
+use Rattle.columns.specs.Kinds.{fromCode, Bounded}
+use Rattle.columns.proofs.ColumnBytes.{from-to-code}
 use Rattle.columns.proofs.Alone.{bounded}
 use Rattle.sheet.specs.declared.cursor.Cursor.{Cursor}
 use Rattle.sheet.specs.declared.cursor.Step.{Step}
@@ -69,10 +69,10 @@ module _ {s : List ℕ} {c : Cursor} (h : Stands s c) (r : Step) (e : r ≡ step
   pub next-index : r .next .index ≡ c .index + 1
   next-index = ap (λ (x : Step). x .next .index) e
 
-  pub column-seen : back (r .column) ≡ getD (columnsOf s) (c .index) yesNo
-  column-seen = ap (λ (x : Step). back (x .column)) e ∙ back-seen (getD (columnsOf s) (c .index) yesNo)
+  pub column-seen : fromCode (r .column) ≡ getD (columnsOf s) (c .index) yesNo
+  column-seen = ap (λ (x : Step). fromCode (x .column)) e ∙ from-to-code (getD (columnsOf s) (c .index) yesNo)
 
-  pub column-bounded : Bounded (back (r .column))
+  pub column-bounded : Bounded (fromCode (r .column))
   column-bounded = rw column-seen (bounded (getD (columnsOf s) (c .index) yesNo) (place h .in-limits))
 
 -- a test over the members from place k on

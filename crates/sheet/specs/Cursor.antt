@@ -7,7 +7,7 @@ use lib.ListN.{length, getD, take}
 use Rattle.records.specs.Outcome.{ok}
 use Rattle.rules.specs.Columns.{Column, yesNo, entriesIn, publishedIn, readSheet, columnsOf}
 use Rattle.rules.specs.Circuit.{gatesIn}
-use Rattle.columns.specs.Kinds.{columnBytes, seen}
+use Rattle.columns.specs.Kinds.{columnBytes, toCode}
 use Rattle.sheet.specs.declared.cursor.Cursor.{Cursor}
 use Rattle.sheet.specs.declared.cursor.Step.{Step}
 
@@ -41,4 +41,4 @@ pub record Stands (s : List ℕ) (c : Cursor) : Type 0 where
 
 -- column k and the cursor behind it
 abbrev pub stepAt : List ℕ → ℕ → Step
-stepAt s k = record { column = seen (getD (columnsOf s) k yesNo); next = cursorAt s (k + 1) }
+stepAt s k = record { column = toCode (getD (columnsOf s) k yesNo); next = cursorAt s (k + 1) }

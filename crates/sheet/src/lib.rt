@@ -5,7 +5,7 @@ ghost use Rattle.columns.specs.Counting.{Small};
 ghost use Rattle.sheet.specs.Reading.{more, limited, readingOf};
 
 pub mod cursor;
-pub mod totals;
+pub mod returns;
 
 use columns::Counts;
 use columns::bytes_of;

@@ -20,7 +20,7 @@ use Rattle.interpolation.specs.declared.Fraction.{Fraction}
 use Rattle.interpolation.specs.Fractions.{sumOf}
 use Rattle.interpolation.proofs.Identities.{lift, times, add, less, same}
 use Rattle.interpolation.proofs.Through.{interpolate-numerator, first-apart, basis-first}
-use Rattle.rules.specs.Judging.{through}
+use Rattle.rules.specs.Judging.{zeroThen}
 use Rattle.snip.specs.declared.judging.Inputs.{Inputs}
 use Rattle.snip.specs.Judged.{inputsFrom}
 
@@ -36,18 +36,18 @@ module _ (𝓖 : Field) where
   id-shifted b f r g c = simp ring
 
 -- values with the first one apart are elements
-through-below : (z : ℕ) (ls : List ℕ) (j : ℕ) → z < prime → Elements ls → through residues z ls j < prime
-unfolding through
-through-below z ls zero h e = h
-through-below z ls (suc j) h e = member-below ls j e
+zeroThen-below : (z : ℕ) (ls : List ℕ) (j : ℕ) → z < prime → Elements ls → zeroThen residues z ls j < prime
+unfolding zeroThen
+zeroThen-below z ls zero h e = h
+zeroThen-below z ls (suc j) h e = member-below ls j e
 
-through-first : (z : ℕ) (ls : List ℕ) → through residues z ls 0 ≡ z
-unfolding through
-through-first z ls = refl
+zeroThen-first : (z : ℕ) (ls : List ℕ) → zeroThen residues z ls 0 ≡ z
+unfolding zeroThen
+zeroThen-first z ls = refl
 
-through-next : (z : ℕ) (ls : List ℕ) (j : ℕ) → through residues z ls (suc j) ≡ getD ls j 0
-unfolding through
-through-next z ls j = refl
+zeroThen-next : (z : ℕ) (ls : List ℕ) (j : ℕ) → zeroThen residues z ls (suc j) ≡ getD ls j 0
+unfolding zeroThen
+zeroThen-next z ls j = refl
 
 pub inputs : {f f' g g' : ℕ} → f ≡ f' → g ≡ g'
     → _≡_ {A = Inputs} (record { f = f; g = g }) (record { f = f'; g = g' })
@@ -73,20 +73,20 @@ module _ (m r f0 g0 c w : ℕ) (ls rs ws : List ℕ) (few : m < prime) (r-below 
   w-below : w < prime
   w-below = rw w-is (weight-below m 0)
 
-  f-at : interpolate residues m (through residues f0 ls) r ≡ residues ._⊕_ (residues ._⊗_ first f0) rest
+  f-at : interpolate residues m (zeroThen residues f0 ls) r ≡ residues ._⊕_ (residues ._⊗_ first f0) rest
   f-at =
       let y = lift f0-below in
       let v = lift w-below in
       let p = lift (product-below m _) in
       let s = lift (element r (q .over)) in
-      interpolate-numerator m r r-below (through residues f0 ls) (λ j l. through-below f0 ls j f0-below elements)
+      interpolate-numerator m r r-below (zeroThen residues f0 ls) (λ j l. zeroThen-below f0 ls j f0-below elements)
       ∙ first-apart m r r-below _ (λ j l. element _ _)
       ∙ ap₂ (λ t n. residues ._⊕_ (residues ._⊗_ t (ascending residues 1 m r)) (residues ._⊗_ r n))
-      (ap₂ (residues ._⊗_) (through-first f0 ls) (sym w-is))
-      (numerator-ext residues 1 m r _ _ (λ i l. ap₂ (residues ._⊗_) (through-next f0 ls i) (sym (ws-are i l))))
+      (ap₂ (residues ._⊗_) (zeroThen-first f0 ls) (sym w-is))
+      (numerator-ext residues 1 m r _ _ (λ i l. ap₂ (residues ._⊗_) (zeroThen-next f0 ls i) (sym (ws-are i l))))
       ∙ same (add (times (times y v) p) s) (id-first 𝓕 _ _ _ _) (add (times (times v p) y) s)
 
-  g-at : interpolate residues m (through residues g0 rs) r
+  g-at : interpolate residues m (zeroThen residues g0 rs) r
       ≡ residues ._⊕_ (residues ._⊗_ first (minus residues g0 c)) (residues ._⊕_ rest c)
   g-at =
       let b = lift (element w (q .under)) in
@@ -94,18 +94,18 @@ module _ (m r f0 g0 c w : ℕ) (ls rs ws : List ℕ) (few : m < prime) (r-below 
       let g = lift g0-below in
       let k = lift c-below in
       let s = lift (element r (q .over)) in
-      number-shifted prime prime-2147483647 m few (through residues f0 ls) (through residues g0 rs) c r
-      (λ j l. through-below f0 ls j f0-below elements)
-      (rw (through-first g0 rs) g0-below)
+      number-shifted prime prime-2147483647 m few (zeroThen residues f0 ls) (zeroThen residues g0 rs) c r
+      (λ j l. zeroThen-below f0 ls j f0-below elements)
+      (rw (zeroThen-first g0 rs) g0-below)
       c-below r-below
-      (λ j l. through-next g0 rs j ∙ shifted j l ∙ ap (λ t. residues ._⊕_ t c) (sym (through-next f0 ls j)))
+      (λ j l. zeroThen-next g0 rs j ∙ shifted j l ∙ ap (λ t. residues ._⊕_ t c) (sym (zeroThen-next f0 ls j)))
       ∙ ap₂ (residues ._⊕_) f-at
       (ap₂ (λ d b. residues ._⊕_ c (residues ._⊗_ (minus residues d c) b))
-      (ap₂ (minus residues) (through-first g0 rs) (through-first f0 ls))
+      (ap₂ (minus residues) (zeroThen-first g0 rs) (zeroThen-first f0 ls))
       (basis-first m r r-below ∙ ap (λ t. residues ._⊗_ t (ascending residues 1 m r)) (sym w-is)))
       ∙ same (add (add (times b f) s) (add k (times (less (less g f) k) b))) (id-shifted 𝓕 _ _ _ _ _)
       (add (times b (less g k)) (add s k))
 
   pub inputs-are : inputsFrom f0 g0 first rest c
-      ≡ record { f = interpolate residues m (through residues f0 ls) r; g = interpolate residues m (through residues g0 rs) r }
+      ≡ record { f = interpolate residues m (zeroThen residues f0 ls) r; g = interpolate residues m (zeroThen residues g0 rs) r }
   inputs-are = inputs (sym f-at) (sym g-at)

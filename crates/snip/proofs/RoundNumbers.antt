@@ -14,9 +14,9 @@ use Rattle.rules.specs.Settings.{document01}
 use Rattle.rules.specs.Columns.{Column, entriesIn}
 use Rattle.rules.specs.Circuit.{gatesIn}
 use Rattle.rules.specs.Run.{atServer}
-use Rattle.rules.specs.Judging.{through, folded, hOf, aOf, bOf, shareRun, fAt, gAt, hAt, dOf, eOf, tauOf}
+use Rattle.rules.specs.Judging.{zeroThen, folded, hOf, aOf, bOf, shareRun, fAt, gAt, hAt, dOf, eOf, tauOf}
 use Rattle.rules.specs.Walk.{walkLefts, walkRights, walkTests}
-use Rattle.rules.proofs.Walk.{walk-is-run}
+use Rattle.rules.proofs.Circuits.Walk.{walk-is-run}
 use Rattle.walk.specs.Walks.{held, plain, members, outputs}
 use Rattle.walk.proofs.Meanings.{server-lefts, server-rights, server-tests}
 
@@ -28,22 +28,22 @@ module _ (cs : List Column) (k : ℕ) (xs : List ℕ) where
   constant = residues ._⊗_ k 2147483646
 
   pub f-is : (r : ℕ)
-      → interpolate residues (gatesIn cs) (through residues (x (entriesIn cs)) (walkLefts document01 (plain 0 x) 0 cs)) r
+      → interpolate residues (gatesIn cs) (zeroThen residues (x (entriesIn cs)) (walkLefts document01 (plain 0 x) 0 cs)) r
       ≡ fAt residues document01 cs k x r
   unfolding fAt shareRun
   f-is r =
-      ap (λ (l : List ℕ). interpolate residues (gatesIn cs) (through residues (x (entriesIn cs)) l) r)
+      ap (λ (l : List ℕ). interpolate residues (gatesIn cs) (zeroThen residues (x (entriesIn cs)) l) r)
       (sym
       (walk-is-run document01 (atServer residues k x (hOf residues document01 cs x)) cs .lefts-are
       ∙ server-lefts k x (hOf residues document01 cs x) cs))
 
   pub g-is : (r : ℕ)
       → interpolate residues (gatesIn cs)
-      (through residues (x (entriesIn cs + 1)) (walkRights document01 (plain constant x) 0 cs)) r
+      (zeroThen residues (x (entriesIn cs + 1)) (walkRights document01 (plain constant x) 0 cs)) r
       ≡ gAt residues document01 cs k x r
   unfolding gAt shareRun
   g-is r =
-      ap (λ (l : List ℕ). interpolate residues (gatesIn cs) (through residues (x (entriesIn cs + 1)) l) r)
+      ap (λ (l : List ℕ). interpolate residues (gatesIn cs) (zeroThen residues (x (entriesIn cs + 1)) l) r)
       (sym
       (walk-is-run document01 (atServer residues k x (hOf residues document01 cs x)) cs .rights-are
       ∙ server-rights k x (hOf residues document01 cs x) cs))
@@ -76,19 +76,19 @@ module _ (cs : List Column) (k : ℕ) (xs : List ℕ) where
   -- as code has them: l and m are the counts, c is the constant
   module _ (l m c : ℕ) (el : l ≡ entriesIn cs) (em : m ≡ gatesIn cs) (ec : c ≡ residues ._⊗_ k 2147483646) where
     pub d-from : (r f v : ℕ)
-        → f ≡ interpolate residues (gatesIn cs) (through residues (x l) (walkLefts document01 (plain 0 x) 0 cs)) r
+        → f ≡ interpolate residues (gatesIn cs) (zeroThen residues (x l) (walkLefts document01 (plain 0 x) 0 cs)) r
         → v ≡ minus residues f (x (l + 3 + (m + m))) → v ≡ dOf residues document01 cs k x r
     unfolding dOf aOf
     d-from r f v p q =
         q
         ∙ ap₂ (minus residues)
         (p
-        ∙ ap (λ i. interpolate residues (gatesIn cs) (through residues (x i) (walkLefts document01 (plain 0 x) 0 cs)) r) el
+        ∙ ap (λ i. interpolate residues (gatesIn cs) (zeroThen residues (x i) (walkLefts document01 (plain 0 x) 0 cs)) r) el
         ∙ f-is r)
         (ap₂ (λ i j. x (i + 3 + (j + j))) el em)
 
     pub e-from : (r g w v : ℕ)
-        → g ≡ interpolate residues (gatesIn cs) (through residues (x (l + 1)) (walkRights document01 (plain c x) 0 cs)) r
+        → g ≡ interpolate residues (gatesIn cs) (zeroThen residues (x (l + 1)) (walkRights document01 (plain c x) 0 cs)) r
         → w ≡ residues ._⊗_ r g → v ≡ minus residues w (x (l + 3 + (m + m) + 1)) → v ≡ eOf residues document01 cs k x r
     unfolding eOf bOf
     e-from r g w v p q u =
@@ -98,7 +98,7 @@ module _ (cs : List Column) (k : ℕ) (xs : List ℕ) where
         ∙ ap (residues ._⊗_ r)
         (p
         ∙ ap₂
-        (λ i n. interpolate residues (gatesIn cs) (through residues (x (i + 1)) (walkRights document01 (plain n x) 0 cs)) r)
+        (λ i n. interpolate residues (gatesIn cs) (zeroThen residues (x (i + 1)) (walkRights document01 (plain n x) 0 cs)) r)
         el ec
         ∙ g-is r))
         (ap x (let a : l + 3 + (m + m) + 1 ≡ entriesIn cs + 4 + (gatesIn cs + gatesIn cs) = omega arith in a))

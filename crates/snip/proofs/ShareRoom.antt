@@ -7,7 +7,7 @@ use lib.ListN.{length}
 use Rattle.rules.specs.Columns.{columnsOf, entriesIn}
 use Rattle.rules.specs.Circuit.{gatesIn, testsIn}
 use Rattle.rules.specs.Judging.{shareSize}
-use Rattle.rules.proofs.Limits.{limits}
+use Rattle.rules.proofs.Circuits.Limits.{limits}
 use Rattle.columns.specs.declared.Counts.{Counts}
 use Rattle.snip.specs.Judged.{Share}
 use Rattle.walk.specs.Walks.{Entries, Outputs}

@@ -11,7 +11,7 @@ use Rattle.field.specs.Residues.{prime, residues, Elements}
 use Rattle.rules.specs.Settings.{document01}
 use Rattle.rules.specs.Columns.{Column, readSheet, columnsOf}
 use Rattle.rules.specs.Circuit.{gatesIn}
-use Rattle.rules.specs.Judging.{shareSize, firstOnly, through, hAt, dOf, eOf, tauOf}
+use Rattle.rules.specs.Judging.{shareSize, firstOnly, zeroThen, hAt, dOf, eOf, tauOf}
 use Rattle.rules.specs.Walk.{walkLefts, walkRights}
 use Rattle.columns.specs.declared.Counts.{Counts}
 use Rattle.columns.specs.Counting.{countsOf}
@@ -33,10 +33,10 @@ abbrev pub inputsOf : List Column → ℕ → ℕ → List ℕ → ℕ → Input
 inputsOf cs l m xs r = record {
   f =
       interpolate residues (gatesIn cs)
-      (through residues (members xs l) (walkLefts document01 (plain 0 (members xs)) 0 cs)) r;
+      (zeroThen residues (members xs l) (walkLefts document01 (plain 0 (members xs)) 0 cs)) r;
   g =
       interpolate residues (gatesIn cs)
-      (through residues (members xs (l + 1)) (walkRights document01 (plain m (members xs)) 0 cs)) r;
+      (zeroThen residues (members xs (l + 1)) (walkRights document01 (plain m (members xs)) 0 cs)) r;
 }
 
 -- f and g at r from their values at 0, the basis of the point 0 and the part of f of the other points, where each right

@@ -23,7 +23,7 @@ use Rattle.rules.specs.Judging.{shareSize, allowedPair}
 use Rattle.rules.specs.Table.{sheetSize, sheetIn, columnsIn, totalsIn, waits, tableLength}
 use Rattle.rules.specs.Table.{totalsPlace, waitPlace, sharePlace}
 use Rattle.rules.specs.Table.{headerSound, countsSound, waitingSound, tableSound, tableFault}
-use Rattle.rules.proofs.Refusals.{sheet-limits}
+use Rattle.rules.proofs.Circuits.Refusals.{sheet-limits}
 use Rattle.layout.specs.Places.{waitAt}
 use Rattle.layout.specs.Numbers.{lengthOf, Whole}
 use Rattle.layout.specs.declared.Table.{Table}

@@ -13,8 +13,8 @@ use Rattle.words.specs.Bytes.{valueOf, part}
 use Rattle.rules.specs.Settings.{document01}
 use Rattle.rules.specs.Columns.{within, sheetFault}
 use Rattle.rules.specs.Table.{sheetIn, columnsIn, headerSound}
-use Rattle.rules.proofs.Limits.{within-both, within-is}
-use Rattle.rules.proofs.Refusals.{sheet-fault}
+use Rattle.rules.proofs.Circuits.Limits.{within-both, within-is}
+use Rattle.rules.proofs.Circuits.Refusals.{sheet-fault}
 use Rattle.columns.specs.declared.Counts.{Counts}
 use Rattle.sheet.specs.Reading.{readingOf}
 use Rattle.sheet.specs.declared.Reading.the-variants as sheet

@@ -13,8 +13,8 @@ use Rattle.records.proofs.Outcome.{or-none}
 use Rattle.rules.specs.Settings.{document01}
 use Rattle.rules.specs.Columns.{within, check, readSheet, columnsOf, returnsFault, totalsFault, totalsFit}
 use Rattle.rules.specs.Table.{sheetIn, columnsIn}
-use Rattle.rules.proofs.Limits.{within-is}
-use Rattle.rules.proofs.Refusals.{sheet-read}
+use Rattle.rules.proofs.Circuits.Limits.{within-is}
+use Rattle.rules.proofs.Circuits.Refusals.{sheet-read}
 use Rattle.message.proofs.Parts.{span}
 use Rattle.layout.specs.Places.{totalsAt, idsAt, waitAt, sizeOf}
 use Rattle.layout.specs.Numbers.{lengthOf}

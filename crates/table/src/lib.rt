@@ -4,7 +4,7 @@ ghost use mathlib.Core.Path.{_≡_};
 ghost use mathlib.Core.Bool.{cond};
 ghost use Rattle.words.specs.Bytes.{elementsOf};
 ghost use Rattle.rules.specs.Columns.{within};
-ghost use Rattle.rules.specs.Server.{has};
+ghost use Rattle.rules.specs.Server.{isMember};
 ghost use Rattle.layout.specs.Numbers.{Whole};
 ghost use Rattle.table.specs.Reading.{startSound, headIn, foundIn};
 ghost use Rattle.table.specs.Reading.{countsSoundAt, totalsSoundAt, pairSound, waitingSoundAt, Headed};
@@ -30,7 +30,7 @@ fn wide(x: u8) -> u32
 
 // Whether an id is in a run of ids. The loop looks at all of them: so it takes several in a turn.
 pub fn has_id(ids: &[u8], id: u32) -> bool
-    ensures { λ r. ⌜ r ≡ has id (elementsOf 4 (now (ids .entry))) ⌝ }
+    ensures { λ r. ⌜ r ≡ isMember id (elementsOf 4 (now (ids .entry))) ⌝ }
 {
     let mut at: usize = 0;
     let mut found = false;
@@ -129,7 +129,7 @@ fn counts_sound(t: &[u8], k: Table) -> bool
     ensures { λ r. ⌜ r ≡ countsSoundAt k (now (t .entry)) ⌝ }
 {
     let end = 12 + k.sheet;
-    if sheet::totals::returns_refusal(&t[12..end], k.returns) != 0 {
+    if sheet::returns::returns_refusal(&t[12..end], k.returns) != 0 {
         return false;
     }
     if t.len()

@@ -13,7 +13,7 @@ use Rattle.records.proofs.Outcome.{or-none, or-first, or-zero}
 use Rattle.rules.specs.Columns.{entriesIn, readSheet, sheetFault, columnsOf, check}
 use Rattle.rules.specs.Values.{legalValues}
 use Rattle.rules.specs.Making.{valuesFault}
-use Rattle.rules.proofs.Refusals.{sheet-read, sheet-fault}
+use Rattle.rules.proofs.Circuits.Refusals.{sheet-read, sheet-fault}
 use Rattle.values.specs.Encode.{encodeRefusal, encodedInto, encodeOut, Encodable}
 
 check-zero : (b : Bool) (n : ℕ) → check b n ≡ 0 → (n ≡ 0 → ⊥) → b ≡ true

@@ -9,7 +9,7 @@ ghost use Rattle.words.specs.Bytes.{splice};
 ghost use Rattle.rules.specs.Columns.{choice, entriesOf, valuesOf, columnsOf};
 ghost use Rattle.rules.specs.Values.{encoded};
 ghost use Rattle.rules.specs.Making.{valuesFault};
-ghost use Rattle.columns.specs.Kinds.{back, Bounded};
+ghost use Rattle.columns.specs.Kinds.{fromCode, Bounded};
 ghost use Rattle.values.specs.Encode.{encodeRefusal, encodedInto, Encoded, HasColumns, Encodable};
 use columns::Column;
 use columns::power;
@@ -20,8 +20,8 @@ use sheet::read;
 
 // How many values a column has.
 fn values_of(column: Column) -> u32
-    requires { ⌜ Bounded (back column) ⌝ }
-    ensures { λ r. ⌜ r ≡ valuesOf (back column) ⌝ }
+    requires { ⌜ Bounded (fromCode column) ⌝ }
+    ensures { λ r. ⌜ r ≡ valuesOf (fromCode column) ⌝ }
 {
     match column {
         Column::YesNo => 2,
@@ -87,8 +87,8 @@ fn write_bits(out: &mut [u32], at: usize, n: usize, v: u32)
 
 // The entries of one column from `at`.
 fn encode_column(column: Column, v: u32, out: &mut [u32], at: usize)
-    requires { ⌜ at + entriesOf (back column) ≤ length (now out) ⌝ }
-    ensures { λ _. ⌜ now (out .exit) ≡ splice (now (out .entry)) at (tabulate (encoded (back column) v) (entriesOf (back column))) ⌝ }
+    requires { ⌜ at + entriesOf (fromCode column) ≤ length (now out) ⌝ }
+    ensures { λ _. ⌜ now (out .exit) ≡ splice (now (out .entry)) at (tabulate (encoded (fromCode column) v) (entriesOf (fromCode column))) ⌝ }
 {
     match column {
         Column::YesNo => {

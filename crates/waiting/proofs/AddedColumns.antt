@@ -17,8 +17,8 @@ use Rattle.rules.specs.Settings.{document01}
 use Rattle.rules.specs.Columns.{Column, yesNo, entriesOf, publishedOf, entriesIn, publishedIn, publishedFrom}
 use Rattle.rules.specs.Server.{publishedShares}
 use Rattle.rules.specs.Table.{sheetIn, columnsIn, openedIn, totalsIn, waitingIn, totalsPlace, addedTotals}
-use Rattle.rules.proofs.Limits.{limits}
-use Rattle.rules.proofs.ClosingBytes.{getD-map}
+use Rattle.rules.proofs.Circuits.Limits.{limits}
+use Rattle.rules.proofs.Histories.ClosingBytes.{getD-map}
 use Rattle.columns.specs.Kinds.{bytesOfKind}
 use Rattle.columns.proofs.Sums.{entries, published, total-most}
 use Rattle.sheet.specs.declared.cursor.Cursor.{Cursor}

@@ -13,8 +13,8 @@ use Rattle.rules.specs.Settings.{document01}
 use Rattle.rules.specs.Columns.{Column, entriesOf}
 use Rattle.rules.specs.Circuit.{gatesOf, gatesIn}
 use Rattle.rules.specs.Walk.{lessOne, bitsAt, columnLefts, columnRights, walkLefts, walkRights}
-use Rattle.rules.proofs.ClosingBytes.{getD-map}
-use Rattle.rules.proofs.Walk.{length-lefts}
+use Rattle.rules.proofs.Histories.ClosingBytes.{getD-map}
+use Rattle.rules.proofs.Circuits.Walk.{length-lefts}
 use Rattle.walk.specs.Walks.{plain, members}
 use Rattle.walk.proofs.Meanings.{bits-same}
 

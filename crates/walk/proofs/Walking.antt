@@ -13,8 +13,8 @@ use lib.Seq.{take-all, take-at, drop-append-add, drop-drop}
 use Rattle.records.specs.Outcome.{ok}
 use Rattle.rules.specs.Columns.{Column, yesNo, entriesOf, entriesIn, readSheet, columnsOf}
 use Rattle.rules.specs.Circuit.{gatesOf, gatesIn}
-use Rattle.columns.specs.Kinds.{back}
-use Rattle.columns.proofs.ColumnBytes.{back-seen}
+use Rattle.columns.specs.Kinds.{fromCode}
+use Rattle.columns.proofs.ColumnBytes.{from-to-code}
 use Rattle.columns.proofs.Sums.{Total, total-next}
 use Rattle.sheet.specs.declared.cursor.Cursor.{Cursor}
 use Rattle.sheet.specs.declared.cursor.Step.{Step}
@@ -66,11 +66,11 @@ behind s c is-read here h = go (decLt (c .index) (length (columnsOf s)))
 -- what a turn knows of the column that it takes
 pub record Turned (s : List ℕ) (c : Cursor) (step : Step) : Type 0 where
   pub within : c .index < length (columnsOf s)
-  pub column-is : back (step .column) ≡ getD (columnsOf s) (c .index) yesNo
+  pub column-is : fromCode (step .column) ≡ getD (columnsOf s) (c .index) yesNo
   pub next-is : step .next ≡ cursorAt s (c .index + 1)
-  pub entries-fit : c .entry + entriesOf (back (step .column)) ≤ entriesIn (columnsOf s)
+  pub entries-fit : c .entry + entriesOf (fromCode (step .column)) ≤ entriesIn (columnsOf s)
   pub entries-few : entriesIn (columnsOf s) ≤ 256
-  pub gates-next : step .next .gates ≡ c .gates + gatesOf (back (step .column))
+  pub gates-next : step .next .gates ≡ c .gates + gatesOf (fromCode (step .column))
   pub gates-fit : step .next .gates ≤ gatesIn (columnsOf s)
   pub gates-few : gatesIn (columnsOf s) ≤ 256
   pub less : length s - step .next .at < length s - c .at
@@ -80,8 +80,8 @@ pub turned : {s : List ℕ} {c : Cursor} (step : Step) → readSheet s ≡ ok (c
 turned {s} {c} step is-read here before e =
     let t = stands is-read here before in
     let p = place t in
-    let q : back (step .column) ≡ getD (columnsOf s) (c .index) yesNo
-    = ap (λ (u : Step). back (u .column)) e ∙ back-seen _ in
+    let q : fromCode (step .column) ≡ getD (columnsOf s) (c .index) yesNo
+    = ap (λ (u : Step). fromCode (u .column)) e ∙ from-to-code _ in
     let n : step .next ≡ cursorAt s (c .index + 1) = ap (λ (u : Step). u .next) e in
     let g : step .next .gates ≡ c .gates + gatesOf (getD (columnsOf s) (c .index) yesNo)
     = ap (λ (u : Cursor). u .gates) (n ∙ p .next-is) in
@@ -196,8 +196,8 @@ module _ {g : ℕ → ℕ → Column → List ℕ} {of : Column → ℕ} {In : L
 
     -- the same, as a part of the buffer that is lent and comes back
     pub walk-put : {d l : List ℕ} {c : Cursor} {done : ℕ} (step : Step) (part : List ℕ) (to : ℕ) → Walking g In s d l c done
-        → Turned s c step → part ≡ g (c .entry) (c .gates) (back (step .column))
-        → to ≡ done + of (back (step .column)) → to ≤ length d
+        → Turned s c step → part ≡ g (c .entry) (c .gates) (fromCode (step .column))
+        → to ≡ done + of (fromCode (step .column)) → to ≤ length d
         → Walking g In s d (putMid done (to - done) l part) (step .next) to
     walk-put {d} {l} {c} {done} step part to w t q u m =
         let col = t .column-is in

@@ -10,7 +10,7 @@ ghost use Rattle.rules.specs.Settings.{document01};
 ghost use Rattle.rules.specs.Columns.{columnsOf, entriesOf};
 ghost use Rattle.rules.specs.Circuit.{gatesOf, testsOf, gatesIn, testsIn};
 ghost use Rattle.rules.specs.Walk.{sumFrom, columnLefts, columnTests, walkLefts, walkTests};
-ghost use Rattle.columns.specs.Kinds.{back};
+ghost use Rattle.columns.specs.Kinds.{fromCode};
 ghost use Rattle.walk.specs.Walks.{held, plain, members, outputs, Entries, Outputs, Asked};
 use columns::Column;
 use sheet::cursor;
@@ -69,7 +69,7 @@ fn weighted_from(x: &[u32], first: usize, n: usize, start: u32) -> u32
 }
 
 fn gates_of(column: Column) -> usize
-    ensures { λ r. ⌜ r ≡ gatesOf (back column) ⌝ }
+    ensures { λ r. ⌜ r ≡ gatesOf (fromCode column) ⌝ }
 {
     match column {
         Column::YesNo => 1,
@@ -79,8 +79,8 @@ fn gates_of(column: Column) -> usize
 }
 
 fn tests_of(column: Column) -> usize
-    requires { ⌜ testsOf (back column) ≤ 1024 ⌝ }
-    ensures { λ r. ⌜ r ≡ testsOf (back column) ⌝ }
+    requires { ⌜ testsOf (fromCode column) ≤ 1024 ⌝ }
+    ensures { λ r. ⌜ r ≡ testsOf (fromCode column) ⌝ }
 {
     match column {
         Column::YesNo => 1,
@@ -91,8 +91,8 @@ fn tests_of(column: Column) -> usize
 
 // The left inputs of one column, whose first entry is e: its bits.
 fn column_lefts(x: &[u32], e: usize, column: Column, out: &mut [u32])
-    requires { ⌜ (e + entriesOf (back column) ≤ length (now x)) × (length (now out) ≡ gatesOf (back column)) ⌝ }
-    ensures { λ _. ⌜ now (out .exit) ≡ columnLefts document01 (plain 0 (members (now (x .entry)))) e (back column) ⌝ }
+    requires { ⌜ (e + entriesOf (fromCode column) ≤ length (now x)) × (length (now out) ≡ gatesOf (fromCode column)) ⌝ }
+    ensures { λ _. ⌜ now (out .exit) ≡ columnLefts document01 (plain 0 (members (now (x .entry)))) e (fromCode column) ⌝ }
 {
     match column {
         Column::YesNo => out[0] = x[e],
@@ -130,9 +130,9 @@ fn column_tests(
     column: Column,
     out: &mut [u32],
 )
-    requires { ⌜ Asked (now x) l e t constant (back column) × (length (now out) ≡ testsOf (back column)) ⌝ }
+    requires { ⌜ Asked (now x) l e t constant (fromCode column) × (length (now out) ≡ testsOf (fromCode column)) ⌝ }
     ensures { λ _. ⌜ now (out .exit)
-        ≡ columnTests document01 (held constant (members (now (x .entry))) (outputs l (now (x .entry)))) e t (back column) ⌝ }
+        ≡ columnTests document01 (held constant (members (now (x .entry))) (outputs l (now (x .entry)))) e t (fromCode column) ⌝ }
 {
     let first = l + 3 + t;
     match column {

@@ -5,7 +5,7 @@ use Prim.Native.Nat.{_≤_}
 use native.Mathlib.Omega.{arith}
 use Rattle.rules.specs.Settings.{document01}
 use Rattle.rules.specs.Table.{openLength}
-use Rattle.rules.proofs.Refusals.{sheet-read}
+use Rattle.rules.proofs.Circuits.Refusals.{sheet-read}
 use Rattle.sheet.proofs.Answers.{reading-refused}
 use Rattle.opening.proofs.Opening.{Counted, counted, length-is, returns-most, servers-few, servers-many, own-outside}
 use Rattle.opening.proofs.Opening.{sheet-refused, returns-refused, room-short, room-enough}

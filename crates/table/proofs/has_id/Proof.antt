@@ -7,14 +7,14 @@ use Prim.Native.Nat.{_≤_, _-_}
 use borrow.Author.Needs.{needs}
 use lib.ListN.{length, drop}
 use Rattle.words.specs.Bytes.{elementsOf}
-use Rattle.rules.specs.Server.{has}
+use Rattle.rules.specs.Server.{isMember}
 use Rattle.table.proofs.Ids.{id-next, id-found, id-end}
 use Rattle.table.proofs.has_id.Statement.{statement}
 use Rattle.table.proofs.has_id.Tie as tie
 
 abbrev Inv-loop : tie.InvT-loop
 Inv-loop ids id at₀ found₀ at found =
-    (at ≤ length ids) × (has id (elementsOf 4 ids) ≡ (found || has id (elementsOf 4 (drop at ids))))
+    (at ≤ length ids) × (isMember id (elementsOf 4 ids) ≡ (found || isMember id (elementsOf 4 (drop at ids))))
 
 abbrev μ-loop : tie.MeasureT-loop
 μ-loop ids id at₀ found₀ at found = length ids - at

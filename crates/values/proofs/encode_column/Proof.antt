@@ -14,13 +14,13 @@ use Rattle.rules.specs.Columns.{Column, yesNo, choice, number, entriesOf}
 use Rattle.rules.specs.Values.{encoded}
 use Rattle.columns.specs.declared.Column as code
 use Rattle.columns.specs.declared.Column.the-variants as kind
-use Rattle.columns.specs.Kinds.{back}
+use Rattle.columns.specs.Kinds.{fromCode}
 use Rattle.values.proofs.encode_column.Statement.{statement}
 use Rattle.values.proofs.encode_column.Tie as tie
 
 -- the entries of a column in code, with the value v, put into d from place a
 abbrev put : code.Column → ℕ → List ℕ → ℕ → List ℕ
-put x v d a = splice d a (tabulate (encoded (back x) v) (entriesOf (back x)))
+put x v d a = splice d a (tabulate (encoded (fromCode x) v) (entriesOf (fromCode x)))
 
 module _ (v : ℕ) (d : List ℕ) (a : ℕ) where
   put-yes-no : (x : code.Column) → x ≡ kind.YesNo → a < length d → set d a v ≡ put x v d a
@@ -40,7 +40,7 @@ module _ (v : ℕ) (d : List ℕ) (a : ℕ) where
       (q ∙ ap (λ (l : List ℕ). splice l (a + 1) (tabulate (λ j. v / 2 ^ j % 2) n)) (sets-splice d a (v ∷ []) (omega arith))
       ∙ grow d a (v ∷ []) (tabulate (λ j. v / 2 ^ j % 2) n) 1 refl (omega arith))
 
-room : (x : code.Column) (c : Column) (a : ℕ) (d : List ℕ) → back x ≡ c → a + entriesOf (back x) ≤ length d
+room : (x : code.Column) (c : Column) (a : ℕ) (d : List ℕ) → fromCode x ≡ c → a + entriesOf (fromCode x) ≤ length d
     → a + entriesOf c ≤ length d
 room x c a d e h = rw e at h
 
@@ -54,7 +54,7 @@ slice-write-out : tie.Need-slice-write-out
 unfolding entriesOf
 slice-write-out c =
     let z = c .before .before .before in
-    omega (arith, room (z .args .column) yesNo (z .args .at) (z .args .out .now) (ap back (c .enum-told .given .1)) (z .pre))
+    omega (arith, room (z .args .column) yesNo (z .args .at) (z .args .out .now) (ap fromCode (c .enum-told .given .1)) (z .pre))
 
 enum-known-column : tie.Need-enum-known-column
 enum-known-column c = search needs
@@ -63,7 +63,7 @@ write-choice-requires : tie.Need-write-choice-requires
 unfolding entriesOf
 write-choice-requires c κs =
     let z = c .before .before .before .before .before in
-    room (z .args .column) _ (z .args .at) (z .args .out .now) (ap back (c .before .before .column .given .1)) (z .pre)
+    room (z .args .column) _ (z .args .at) (z .args .out .now) (ap fromCode (c .before .before .column .given .1)) (z .pre)
 
 enum-known-column-2 : tie.Need-enum-known-column-2
 enum-known-column-2 c = search needs
@@ -75,7 +75,7 @@ slice-write-out-2 : tie.Need-slice-write-out-2
 unfolding entriesOf
 slice-write-out-2 c =
     let z = c .before .before .before .before in
-    omega (arith, room (z .args .column) _ (z .args .at) (z .args .out .now) (ap back (c .before .column2 .given .1)) (z .pre))
+    omega (arith, room (z .args .column) _ (z .args .at) (z .args .out .now) (ap fromCode (c .before .column2 .given .1)) (z .pre))
 
 add-write-bits : tie.Need-add-write-bits
 add-write-bits c = search needs
@@ -84,7 +84,7 @@ write-bits-requires : tie.Need-write-bits-requires
 unfolding entriesOf
 write-bits-requires c κs =
     let z = c .before .before .before .before .before in
-    let r = room (z .args .column) _ (z .args .at) (z .args .out .now) (ap back (c .before .before .column2 .given .1)) (z .pre) in
+    let r = room (z .args .column) _ (z .args .at) (z .args .out .now) (ap fromCode (c .before .before .column2 .given .1)) (z .pre) in
     simp length-set (omega (arith, r))
 
 same-length : tie.Need-same-length
@@ -94,7 +94,7 @@ returns : tie.Need-returns
 unfolding entriesOf
 returns c =
     let z = c .before .before .before in
-    let r = room (z .args .column) yesNo (z .args .at) (z .args .out .now) (ap back (c .enum-told .given .1)) (z .pre) in
+    let r = room (z .args .column) yesNo (z .args .at) (z .args .out .now) (ap fromCode (c .enum-told .given .1)) (z .pre) in
     put-yes-no (z .args .v) (z .args .out .now) (z .args .at) (z .args .column) (c .enum-told .given .1) (omega (arith, r))
 
 same-length-2 : tie.Need-same-length-2
@@ -117,7 +117,7 @@ unfolding entriesOf
 returns-3 c =
     let k = c .before .before .before .before .before in
     let z = k .before .before .before in
-    let r = room (z .args .column) _ (z .args .at) (z .args .out .now) (ap back (k .column2 .given .1)) (z .pre) in
+    let r = room (z .args .column) _ (z .args .at) (z .args .out .now) (ap fromCode (k .column2 .given .1)) (z .pre) in
     put-number (z .args .v) (z .args .out .now) (z .args .at) (z .args .column) _ _ (k .column2 .given .1) (omega (arith, r))
     (c .before .before .write-bits .ensures)
 

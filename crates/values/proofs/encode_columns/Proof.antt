@@ -15,7 +15,7 @@ use Rattle.words.proofs.Splice.{splice-none}
 use Rattle.words.proofs.Loops.{grow}
 use Rattle.rules.specs.Columns.{Column, yesNo, entriesOf, columnsOf}
 use Rattle.rules.specs.Values.{encoded, encoding}
-use Rattle.columns.specs.Kinds.{back}
+use Rattle.columns.specs.Kinds.{fromCode}
 use Rattle.sheet.specs.declared.cursor.Cursor.{Cursor}
 use Rattle.sheet.specs.declared.cursor.Step.{Step}
 use Rattle.sheet.specs.Cursor.{Stands, stepAt}
@@ -39,12 +39,12 @@ module _
     (e : r ≡ stepAt s (c .index))
   where
     -- the column's entries lie within the buffer
-    within : c .entry + entriesOf (back (r .column)) ≤ length d
+    within : c .entry + entriesOf (fromCode (r .column)) ≤ length d
     within = rw (column-seen h r e) (omega (arith, place h .entries-fit, p .room))
 
     -- one column more
     one-more : (out l : List ℕ) (v : ℕ) → out ≡ upTo s values d (c .index) → v ≡ getD (elementsOf 4 values) (c .index) 0
-        → l ≡ splice out (c .entry) (tabulate (encoded (back (r .column)) v) (entriesOf (back (r .column))))
+        → l ≡ splice out (c .entry) (tabulate (encoded (fromCode (r .column)) v) (entriesOf (fromCode (r .column))))
         → l ≡ upTo s values d (r .next .index)
     one-more out l v inv q f =
         let cs = columnsOf s in

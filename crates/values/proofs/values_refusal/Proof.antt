@@ -12,8 +12,8 @@ use lib.ListN.{length, getD, drop}
 use Rattle.words.specs.Bytes.{elementsOf}
 use Rattle.rules.specs.Columns.{yesNo, valuesOf, columnsOf}
 use Rattle.rules.specs.Values.{legalValues}
-use Rattle.rules.proofs.Limits.{limits}
-use Rattle.columns.specs.Kinds.{back}
+use Rattle.rules.proofs.Circuits.Limits.{limits}
+use Rattle.columns.specs.Kinds.{fromCode}
 use Rattle.sheet.specs.declared.cursor.Cursor.{Cursor}
 use Rattle.sheet.specs.declared.cursor.Step.{Step}
 use Rattle.sheet.specs.Cursor.{Stands, stepAt}
@@ -25,7 +25,7 @@ use Rattle.values.proofs.values_refusal.Tie as tie
 -- the column under the cursor, with so many values, and the value v for it
 module _
     {s : List ℕ} {c : Cursor} (values : List ℕ) (each : length values ≡ 4 * length (columnsOf s))
-    (h : Stands s c) (r : Step) (e : r ≡ stepAt s (c .index)) (many : ℕ) (many-is : many ≡ valuesOf (back (r .column)))
+    (h : Stands s c) (r : Step) (e : r ≡ stepAt s (c .index)) (many : ℕ) (many-is : many ≡ valuesOf (fromCode (r .column)))
     (v : ℕ) (v-is : v ≡ getD (elementsOf 4 values) (c .index) 0)
   where
     many-here : many ≡ valuesOf (getD (columnsOf s) (c .index) yesNo)

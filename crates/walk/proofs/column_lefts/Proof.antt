@@ -13,7 +13,7 @@ use Rattle.rules.specs.Columns.{entriesOf}
 use Rattle.rules.specs.Circuit.{gatesOf}
 use Rattle.rules.specs.Walk.{bitsAt, columnLefts}
 use Rattle.columns.specs.declared.Column as code
-use Rattle.columns.specs.Kinds.{back}
+use Rattle.columns.specs.Kinds.{fromCode}
 use Rattle.walk.specs.Walks.{plain, members}
 use Rattle.walk.proofs.Filling.{one-place}
 use Rattle.walk.proofs.Meanings.{bits-fit}
@@ -22,19 +22,19 @@ use Rattle.walk.proofs.column_lefts.Tie as tie
 
 -- the first bit, the multiplications and the entries of a column that is told
 bits : {a b : code.Column} (xs : List ℕ) (e : ℕ) → a ≡ b
-    → bitsAt document01 (plain 0 (members xs)) e (back a) ≡ bitsAt document01 (plain 0 (members xs)) e (back b)
-bits xs e q = ap (λ (k : code.Column). bitsAt document01 (plain 0 (members xs)) e (back k)) q
+    → bitsAt document01 (plain 0 (members xs)) e (fromCode a) ≡ bitsAt document01 (plain 0 (members xs)) e (fromCode b)
+bits xs e q = ap (λ (k : code.Column). bitsAt document01 (plain 0 (members xs)) e (fromCode k)) q
 
-gates : {a b : code.Column} → a ≡ b → gatesOf (back a) ≡ gatesOf (back b)
-gates q = ap (λ (k : code.Column). gatesOf (back k)) q
+gates : {a b : code.Column} → a ≡ b → gatesOf (fromCode a) ≡ gatesOf (fromCode b)
+gates q = ap (λ (k : code.Column). gatesOf (fromCode k)) q
 
-entries : {a b : code.Column} → a ≡ b → entriesOf (back a) ≡ entriesOf (back b)
-entries q = ap (λ (k : code.Column). entriesOf (back k)) q
+entries : {a b : code.Column} → a ≡ b → entriesOf (fromCode a) ≡ entriesOf (fromCode b)
+entries q = ap (λ (k : code.Column). entriesOf (fromCode k)) q
 
 -- n members from b on, once b is the first bit
-from-bits : (a : code.Column) (xs : List ℕ) (e b n : ℕ) → bitsAt document01 (plain 0 (members xs)) e (back a) ≡ b
-    → n ≡ gatesOf (back a)
-    → tabulate (λ i. members xs (b + i)) n ≡ columnLefts document01 (plain 0 (members xs)) e (back a)
+from-bits : (a : code.Column) (xs : List ℕ) (e b n : ℕ) → bitsAt document01 (plain 0 (members xs)) e (fromCode a) ≡ b
+    → n ≡ gatesOf (fromCode a)
+    → tabulate (λ i. members xs (b + i)) n ≡ columnLefts document01 (plain 0 (members xs)) e (fromCode a)
 unfolding columnLefts
 from-bits a xs e b n p q = ap₂ (λ (b n : ℕ). tabulate (λ i. members xs (b + i)) n) (sym p) q
 
@@ -62,7 +62,7 @@ unfolding bitsAt
 copy-requires c κs =
     let z = c .before .before .before .before .before in
     let first = bits (z .args .x .now) (z .args .e) (c .before .enum-told2 .given .1) in
-    let last = bits-fit (plain 0 (members (z .args .x .now))) (z .args .e) (back (z .args .column)) in
+    let last = bits-fit (plain 0 (members (z .args .x .now))) (z .args .e) (fromCode (z .args .column)) in
     omega (arith, z .pre .0, z .pre .1, first, last)
 
 enum-told-3 : tie.Need-enum-told-3
@@ -76,7 +76,7 @@ unfolding bitsAt
 copy-requires-2 c κs =
     let z = c .before .before .before .before .before in
     let first = bits (z .args .x .now) (z .args .e) (c .before .enum-told3 .given .1) in
-    let last = bits-fit (plain 0 (members (z .args .x .now))) (z .args .e) (back (z .args .column)) in
+    let last = bits-fit (plain 0 (members (z .args .x .now))) (z .args .e) (fromCode (z .args .column)) in
     omega (arith, z .pre .0, z .pre .1, first, last)
 
 same-length : tie.Need-same-length

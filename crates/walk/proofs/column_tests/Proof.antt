@@ -14,7 +14,7 @@ use Rattle.rules.specs.Circuit.{gatesOf, testsOf}
 use Rattle.rules.specs.Run.{Meaning}
 use Rattle.rules.specs.Walk.{columnTests}
 use Rattle.columns.specs.declared.Column as code
-use Rattle.columns.specs.Kinds.{back}
+use Rattle.columns.specs.Kinds.{fromCode}
 use Rattle.walk.specs.Walks.{held, members, outputs}
 use Rattle.walk.proofs.ColumnTests.{yes-no-tests, choice-tests, number-tests}
 use Rattle.walk.proofs.column_tests.Statement.{statement}
@@ -22,21 +22,21 @@ use Rattle.walk.proofs.column_tests.Tie as tie
 
 -- ---- what is given, once the column is told to be k
 module _ (z : tie.Start) {k : code.Column} (told : z .args .column ≡ k) where
-  room : length (z .args .out .now) ≡ testsOf (back k)
-  room = z .pre .1 ∙ ap (λ (k : code.Column). testsOf (back k)) told
+  room : length (z .args .out .now) ≡ testsOf (fromCode k)
+  room = z .pre .1 ∙ ap (λ (k : code.Column). testsOf (fromCode k)) told
 
-  entries-fit : z .args .e + entriesOf (back k) ≤ length (z .args .x .now)
-  entries-fit = omega (arith, z .pre .0 .entries, ap (λ (k : code.Column). entriesOf (back k)) told)
+  entries-fit : z .args .e + entriesOf (fromCode k) ≤ length (z .args .x .now)
+  entries-fit = omega (arith, z .pre .0 .entries, ap (λ (k : code.Column). entriesOf (fromCode k)) told)
 
-  outputs-fit : z .args .l + 3 + z .args .t + gatesOf (back k) ≤ length (z .args .x .now)
-  outputs-fit = omega (arith, z .pre .0 .outputs-fit, ap (λ (k : code.Column). gatesOf (back k)) told)
+  outputs-fit : z .args .l + 3 + z .args .t + gatesOf (fromCode k) ≤ length (z .args .x .now)
+  outputs-fit = omega (arith, z .pre .0 .outputs-fit, ap (λ (k : code.Column). gatesOf (fromCode k)) told)
 
   abbrev meaning : Meaning ℕ
   meaning = held (z .args .constant) (members (z .args .x .now)) (outputs (z .args .l) (z .args .x .now))
 
-  its-tests : columnTests document01 meaning (z .args .e) (z .args .t) (back k)
-      ≡ columnTests document01 meaning (z .args .e) (z .args .t) (back (z .args .column))
-  its-tests = sym (ap (λ (k : code.Column). columnTests document01 meaning (z .args .e) (z .args .t) (back k)) told)
+  its-tests : columnTests document01 meaning (z .args .e) (z .args .t) (fromCode k)
+      ≡ columnTests document01 meaning (z .args .e) (z .args .t) (fromCode (z .args .column))
+  its-tests = sym (ap (λ (k : code.Column). columnTests document01 meaning (z .args .e) (z .args .t) (fromCode k)) told)
 
 -- ---- the steps
 add-first : tie.Need-add-first

@@ -8,7 +8,7 @@ use lib.ListN.{length}
 use Rattle.rules.specs.Columns.{columnsOf}
 use Rattle.rules.specs.Circuit.{gatesIn, gatesOf}
 use Rattle.rules.specs.Run.{Meaning}
-use Rattle.columns.specs.Kinds.{back}
+use Rattle.columns.specs.Kinds.{fromCode}
 use Rattle.columns.proofs.Sums.{gates}
 use Rattle.sheet.specs.declared.cursor.Cursor.{Cursor}
 use Rattle.walk.specs.Walks.{plain, members}
@@ -42,7 +42,7 @@ turn n =
 
 -- the inputs of the column, with those before it, are no more than the buffer has places for
 fits : (n : tie.After-next Inv-loop μ-loop)
-    → round n .loop .c .gates + gatesOf (back (n .next .result .column)) ≤ length (given (round n) .args .out .now)
+    → round n .loop .c .gates + gatesOf (fromCode (n .next .result .column)) ≤ length (given (round n) .args .out .now)
 fits n = omega (arith, turn n .gates-next, turn n .gates-fit, given (round n) .pre .1)
 
 -- ---- the steps

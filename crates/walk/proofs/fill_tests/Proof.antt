@@ -8,7 +8,7 @@ use lib.ListN.{length}
 use Rattle.rules.specs.Columns.{columnsOf}
 use Rattle.rules.specs.Circuit.{testsOf, testsIn}
 use Rattle.rules.specs.Run.{Meaning}
-use Rattle.columns.specs.Kinds.{back}
+use Rattle.columns.specs.Kinds.{fromCode}
 use Rattle.columns.proofs.Sums.{tests as test-count, total-most}
 use Rattle.walk.specs.Walks.{held, members, outputs}
 use Rattle.walk.proofs.Walking.{Walking, Turned, turned, walk-start, stands, walk-put, walk-finish}
@@ -42,17 +42,17 @@ turn n =
 
 -- the tests of the column, with those before it, are no more than the buffer has places for
 fits : (n : tie.After-next Inv-loop μ-loop)
-    → round n .loop .done + testsOf (back (n .next .result .column)) ≤ length (given (round n) .args .out .now)
+    → round n .loop .done + testsOf (fromCode (n .next .result .column)) ≤ length (given (round n) .args .out .now)
 fits n =
     let z = given (round n) in
     let most = total-most test-count (columnsOf (z .args .s .now)) (round n .loop .c .index) (turn n .within) in
     let column = ap testsOf (turn n .column-is) in
     omega (arith, most, column, round n .loop .inv .count, z .pre .1 .0)
 
-few : (n : tie.After-next Inv-loop μ-loop) → testsOf (back (n .next .result .column)) ≤ 257
+few : (n : tie.After-next Inv-loop μ-loop) → testsOf (fromCode (n .next .result .column)) ≤ 257
 few n =
     let t = turn n in
-    omega (arith, one-more (back (n .next .result .column)), t .gates-next, t .gates-fit, t .gates-few)
+    omega (arith, one-more (fromCode (n .next .result .column)), t .gates-next, t .gates-fit, t .gates-few)
 
 -- ---- the steps
 start-requires : tie.Need-start-requires Inv-loop μ-loop

@@ -10,7 +10,7 @@ use Rattle.rules.specs.Columns.{yesNo, columnOf, columnsOf}
 use Rattle.columns.specs.declared.Counts.{Counts}
 use Rattle.columns.specs.declared.Column as code
 use Rattle.columns.specs.Counting.{countsOf, alone}
-use Rattle.columns.specs.Kinds.{bytesOfKind, seen, columnFrom}
+use Rattle.columns.specs.Kinds.{bytesOfKind, toCode, columnFrom}
 use Rattle.columns.proofs.Sums.{entries, published, gates, total-one}
 use Rattle.sheet.specs.declared.cursor.Cursor.{Cursor}
 use Rattle.sheet.specs.declared.cursor.Step.{Step}
@@ -43,7 +43,7 @@ module _
           gates-sum = omega (arith, total-one gates a);
         })
 
-    finish : (column : code.Column) → column ≡ seen (columnFrom (getD s (c .at) 0) (getD s (c .at + (size - 1)) 0))
+    finish : (column : code.Column) → column ≡ toCode (columnFrom (getD s (c .at) 0) (getD s (c .at + (size - 1)) 0))
         → _≡_ {A = Step}
         (record {
           column = column;
@@ -60,7 +60,7 @@ module _
     finish column e =
         let a = getD (columnsOf s) (c .index) yesNo in
         ap₂ (λ (x : code.Column) (y : Cursor). record { column = x; next = y })
-        (e ∙ rw size-is (ap seen (p .column-is)))
+        (e ∙ rw size-is (ap toCode (p .column-is)))
         (rw (size-is, counted, total-one entries a, total-one published a, total-one gates a) (sym (p .next-is)))
 
 shared-slice-read-kind : tie.Need-shared-slice-read-kind

@@ -1,0 +1,179 @@
+-- What a sheet that is read keeps to. Each column that reading takes is within its limits and has no more bytes than
+-- entries; the limit on all entries then bounds every count. Assumes nothing.
+use mathlib.Core.Path.{_≡_, refl, ap, ap₂, _∙_, subst}
+use mathlib.Core.Bool.{Bool, true, false, cond}
+use mathlib.Core.List.{List, [], _∷_, _++_}
+use mathlib.Core.Option.{some, none}
+use Prim.Native.Nat.{ℕ, zero, suc, _+_, _*_, _≤_, _<_}
+use native.Mathlib.Omega.{arith}
+use borrow.Author.Tests.{leb-true, le-leb}
+use lib.Dec.{leb, eqb}
+use lib.ListN.{length, getD, length-append}
+use Rattle.algebra.specs.Lists.{All, all[], all∷, countFrom}
+use Rattle.algebra.proofs.Members.{all-map, all-append, in-all, in-count, and-true, and-left, and-right}
+use Rattle.records.specs.Outcome.{Outcome, ok, refused}
+use Rattle.records.specs.Records.{readFrom, Says, nothing, more}
+use Rattle.records.proofs.Runs.{says-of-read}
+use Rattle.rules.specs.Columns.{Column, yesNo, choice, number, within, limitedColumn, columnBody, columnOf, columnFormat}
+use Rattle.rules.specs.Columns.{entriesOf, publishedOf, entriesIn, publishedIn, publishedFrom, sheetLimits, limitedSheet}
+use Rattle.rules.specs.Columns.{readSheet}
+use Rattle.rules.specs.Circuit.{wiresOf, gatesOf, testsOf, wiresIn, gatesIn, testsIn}
+use Rattle.rules.specs.Judging.{shareSize}
+
+-- a column within its limits
+abbrev pub InLimits : Column → Type 0
+InLimits yesNo = Unit {0}
+InLimits (choice n) = (2 ≤ n) × (n ≤ 64)
+InLimits (number n) = (1 ≤ n) × (n ≤ 24)
+
+-- what holds where the sheet s is read as the columns cs
+pub record Limits (s : List ℕ) (cs : List Column) : Type 0 where
+  pub in-limits : All InLimits cs
+  pub some-entries : 1 ≤ entriesIn cs
+  pub entries-most : entriesIn cs ≤ 256
+  pub bytes-most : length s ≤ entriesIn cs
+  pub columns-most : length cs ≤ entriesIn cs
+  pub some-gates : 1 ≤ gatesIn cs
+  pub gates-most : gatesIn cs ≤ entriesIn cs
+  pub some-tests : 1 ≤ testsIn cs
+  pub tests-most : testsIn cs ≤ 384
+  pub wires-most : suc (wiresIn cs) ≤ 1248
+  pub share-most : shareSize cs ≤ 774
+  pub some-published : 1 ≤ publishedIn cs
+  pub published-most : publishedIn cs ≤ entriesIn cs
+  pub published-count : length (publishedFrom 0 cs) ≡ publishedIn cs
+  pub published-below : All (λ e. e < entriesIn cs) (publishedFrom 0 cs)
+
+-- ---- counts of columns within their limits
+-- how many columns are of kind 19
+unfoldable pub numbersIn : List Column → ℕ
+numbersIn [] = 0
+numbersIn (yesNo ∷ cs) = numbersIn cs
+numbersIn (choice n ∷ cs) = numbersIn cs
+numbersIn (number n ∷ cs) = suc (numbersIn cs)
+
+pub record Bounds (cs : List Column) : Type 0 where
+  pub columns-few : length cs ≤ entriesIn cs
+  pub gates-few : gatesIn cs ≤ entriesIn cs
+  pub gates-many : entriesIn cs ≤ 2 * gatesIn cs
+  pub tests-few : 2 * testsIn cs ≤ 3 * entriesIn cs
+  pub tests-many : gatesIn cs ≤ testsIn cs
+  pub published-few : publishedIn cs ≤ entriesIn cs
+  pub published-many : entriesIn cs ≤ 25 * publishedIn cs
+  -- with 11 numbers or more the first bounds the wires, with 10 or fewer the second
+  pub wires-few : wiresIn cs + 3 * numbersIn cs ≤ 5 * entriesIn cs
+  pub wires-few' : wiresIn cs ≤ 4 * entriesIn cs + 22 * numbersIn cs
+
+pub bounds : (cs : List Column) → All InLimits cs → Bounds cs
+unfolding entriesOf publishedOf gatesOf testsOf wiresOf entriesIn publishedIn gatesIn testsIn wiresIn numbersIn
+bounds [] all[] = search arith
+bounds (yesNo ∷ cs) (all∷ h hs) = let r = bounds cs hs in search arith
+bounds (choice n ∷ cs) (all∷ h hs) = let r = bounds cs hs in search arith
+bounds (number n ∷ cs) (all∷ h hs) = let r = bounds cs hs in search arith
+
+-- ---- published entries
+published-length : (cs : List Column) (e : ℕ) → length (publishedFrom e cs) ≡ publishedIn cs
+unfolding publishedFrom publishedIn countFrom
+published-length [] e = refl
+published-length (c ∷ cs) e =
+    length-append (countFrom e (publishedOf c)) _
+    ∙ ap₂ _+_ (count-length e (publishedOf c)) (published-length cs (e + entriesOf c))
+  where
+    count-length : (a n : ℕ) → length (countFrom a n) ≡ n
+    count-length a zero = refl
+    count-length a (suc n) = ap suc (count-length (suc a) n)
+
+published-few-of : (c : Column) → publishedOf c ≤ entriesOf c
+unfolding publishedOf entriesOf
+published-few-of yesNo = omega arith
+published-few-of (choice n) = omega arith
+published-few-of (number n) = omega arith
+
+published-low : (cs : List Column) (e : ℕ) → All (λ j. j < e + entriesIn cs) (publishedFrom e cs)
+unfolding publishedFrom entriesIn
+published-low [] e = all[]
+published-low (c ∷ cs) e =
+    all-append
+    (in-all (countFrom e (publishedOf c))
+    (λ j h. let l = in-count e (publishedOf c) j h in omega (arith, published-few-of c)))
+    (all-map (λ j h. omega arith) (published-low cs (e + entriesOf c)))
+
+-- ---- what reading takes
+pub within-both : (low high n : ℕ) → within low high n ≡ true → (low ≤ n) × (n ≤ high)
+within-both low high n h =
+    (leb-true low n (and-left (leb low n) (leb n high) h), leb-true n high (and-right (leb low n) (leb n high) h))
+
+pub within-is : (low high n : ℕ) → low ≤ n → n ≤ high → within low high n ≡ true
+within-is low high n h h' = and-true (leb low n) (leb n high) (le-leb low n h) (le-leb n high h')
+
+counted-ok : (fits : Bool) (a c : Column) → limitedColumn fits a ≡ ok c → (fits ≡ true) × (a ≡ c)
+unfolding limitedColumn
+counted-ok true a c h = (refl, cc)
+counted-ok false a c h = let z : _≡_ {A = ℕ} 0 1 = cc in absurd (omega arith)
+
+-- a column is within its limits, and has no more bytes than entries
+abbrev Taken : ℕ → Column → Type 0
+Taken n c = InLimits c × (suc n ≤ entriesOf c)
+
+column-taken : (k : ℕ) (body : List ℕ) (c : Column) → columnBody k ≡ some (length body) → columnOf k body ≡ ok c
+    → Taken (length body) c
+unfolding columnBody columnOf entriesOf
+column-taken k body c = by-kind (eqb k 17) (eqb k 18) (eqb k 19)
+  where
+    x : ℕ
+    x = getD body 0 0
+
+    by-kind : (a b d : Bool)
+        → cond a (some 0) (cond b (some 1) (cond d (some 1) none)) ≡ some (length body)
+        → cond a (ok yesNo)
+        (cond b (limitedColumn (within 2 64 x) (choice x)) (limitedColumn (within 1 24 x) (number x))) ≡ ok c
+        → Taken (length body) c
+    by-kind true b d e h =
+        let z : 0 ≡ length body = cc in
+        let q : yesNo ≡ c = cc in
+        subst (Taken (length body)) q (tt, omega arith)
+    by-kind false true d e h =
+        let z : 1 ≡ length body = cc in
+        let w = counted-ok (within 2 64 x) (choice x) c h in
+        let l = within-both 2 64 x (w .0) in
+        subst (Taken (length body)) (w .1) (l, omega arith)
+    by-kind false false true e h =
+        let z : 1 ≡ length body = cc in
+        let w = counted-ok (within 1 24 x) (number x) c h in
+        let l = within-both 1 24 x (w .0) in
+        subst (Taken (length body)) (w .1) (l, omega arith)
+    by-kind false false false e h = let z : _≡_ {A = ℕ} 0 1 = cc in absurd (omega arith)
+
+entries-append : (a b : List Column) → entriesIn (a ++ b) ≡ entriesIn a + entriesIn b
+unfolding entriesIn
+entries-append [] b = omega arith
+entries-append (c ∷ a) b = omega (arith, entries-append a b)
+
+columns-taken : {s : List ℕ} {cs : List Column} → Says columnFormat s cs → All InLimits cs × (length s ≤ entriesIn cs)
+unfolding entriesIn
+columns-taken nothing = (all[], omega arith)
+columns-taken (more {s} {done} k body c w e j) =
+    let before = columns-taken w in
+    let t = column-taken k body c e j in
+    (all-append (before .0) (all∷ (t .0) all[]), rw (length-append, entries-append) (omega arith))
+
+sheet-ok : (r : Outcome (List Column)) (cs : List Column) → limitedSheet r ≡ ok cs
+    → (r ≡ ok cs) × (within 1 256 (entriesIn cs) ≡ true)
+unfolding limitedSheet sheetLimits
+sheet-ok (ok ds) cs h = fits (within 1 256 (entriesIn ds)) refl h
+  where
+    fits : (b : Bool) → within 1 256 (entriesIn ds) ≡ b → cond b (ok ds) (refused 2) ≡ ok cs
+        → (ok ds ≡ ok cs) × (within 1 256 (entriesIn cs) ≡ true)
+    fits true q g = let e : ds ≡ cs = cc in (ap ok e, rw e at q)
+    fits false q g = let z : _≡_ {A = ℕ} 0 1 = cc in absurd (omega arith)
+sheet-ok (refused n) cs h = let z : _≡_ {A = ℕ} 0 1 = cc in absurd (omega arith)
+
+pub limits : (s : List ℕ) (cs : List Column) → readSheet s ≡ ok cs → Limits s cs
+unfolding readSheet shareSize
+limits s cs h =
+    let is-read = sheet-ok (readFrom columnFormat s 0 []) cs h in
+    let taken = columns-taken (says-of-read columnFormat s cs (is-read .0)) in
+    let few = within-both 1 256 (entriesIn cs) (is-read .1) in
+    let r = bounds cs (taken .0) in
+    let below : All (λ e. e < entriesIn cs) (publishedFrom 0 cs) = all-map (λ j l. omega arith) (published-low cs 0) in
+    search (arith, published-length cs 0)

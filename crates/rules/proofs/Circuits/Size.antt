@@ -1,0 +1,128 @@
+-- How many bytes a sheet's circuit has. Each column's steps have at most 24 + w bytes for each of its entries, where an
+-- element has w bytes; with w = 4 a bound for many numbers and one for few give at most 7,008 for every sheet.
+-- Assumes nothing.
+use mathlib.Core.Path.{_≡_, refl, _∙_, ap}
+use mathlib.Core.List.{List, [], _∷_, _++_}
+use Prim.Native.Nat.{ℕ, zero, suc, _+_, _*_, _≤_}
+use native.Mathlib.Nat.{mul-le-mul-right}
+use native.Mathlib.Omega.{arith}
+use lib.ListN.{length, length-append}
+use Rattle.algebra.specs.Lists.{All, all[], all∷}
+use Rattle.words.proofs.Numbers.{length-bytes}
+use Rattle.records.specs.Outcome.{ok}
+use Rattle.rules.specs.Settings.{Setting, Facts}
+use Rattle.rules.specs.Columns.{Column, yesNo, choice, number, entriesOf, entriesIn, readSheet}
+use Rattle.rules.specs.Circuit.{Step, constant, entry, add, scale, multiply, test, stepBytes, circuitBytes, bitCheck}
+use Rattle.rules.specs.Circuit.{bitChecks, optionAdds, bitAdds, columnSteps, wiresOf, circuitFrom, circuitOf}
+use Rattle.rules.proofs.Circuits.Limits.{InLimits, limits, numbersIn}
+
+module _ (σ : Setting) where
+  abbrev pub size : List Step → ℕ
+  size ks = length (circuitBytes σ ks)
+
+  -- the bytes of one step in front
+  unfoldable stepSize : Step → ℕ
+  stepSize (constant c) = 1 + σ .width
+  stepSize (entry e) = 3
+  stepSize (add a b) = 5
+  stepSize (scale a c) = 3 + σ .width
+  stepSize (multiply a b) = 5
+  stepSize (test a) = 3
+
+  step-size : (k : Step) → length (stepBytes σ k) ≡ stepSize k
+  unfolding stepBytes stepSize
+  step-size (constant c) = rw length-bytes (omega arith)
+  step-size (entry e) = rw length-bytes (omega arith)
+  step-size (add a b) = simp (length-append, length-bytes) (omega arith)
+  step-size (scale a c) = simp (length-append, length-bytes) (omega arith)
+  step-size (multiply a b) = simp (length-append, length-bytes) (omega arith)
+  step-size (test a) = rw length-bytes (omega arith)
+
+  size-next : (k : Step) (ks : List Step) → size (k ∷ ks) ≡ stepSize k + size ks
+  unfolding circuitBytes
+  size-next k ks = length-append (stepBytes σ k) (circuitBytes σ ks) ∙ ap (_+ size ks) (step-size k)
+
+  size-none : size [] ≡ 0
+  unfolding circuitBytes
+  size-none = refl
+
+  size-append : (a b : List Step) → size (a ++ b) ≡ size a + size b
+  size-append [] b = omega (arith, size-none)
+  size-append (k ∷ a) b = omega (arith, size-next k (a ++ b), size-next k a, size-append a b)
+
+  bits-size : (n e w : ℕ) → size (bitChecks n e w) ≡ 16 * n
+  unfolding bitChecks bitCheck stepSize
+  bits-size zero e w = size-none
+  bits-size (suc n) e w = simp (size-append, size-next, size-none, bits-size n e w) (omega arith)
+
+  options-size : (n w q : ℕ) → size (optionAdds n w q) ≡ 5 * n
+  unfolding optionAdds stepSize
+  options-size zero w q = size-none
+  options-size (suc n) w q = simp (size-append, size-next, size-none, options-size n w q) (omega arith)
+
+  weights-size : (n w q : ℕ) → size (bitAdds n w q) ≡ (8 + σ .width) * n
+  unfolding bitAdds stepSize
+  weights-size zero w q = size-none ∙ omega arith
+  weights-size (suc n) w q = simp (size-append, size-next, size-none, weights-size n w q) (omega arith)
+
+  columnSize : Column → ℕ
+  columnSize yesNo = 16
+  columnSize (choice n) = 21 * n + 3
+  columnSize (number n) = (24 + σ .width) * n + 9 + σ .width
+
+  column-size : (c : Column) (e w : ℕ) → size (columnSteps σ e w c) ≡ columnSize c
+  unfolding columnSteps stepSize columnSize
+  column-size yesNo e w = bits-size 1 e w
+  column-size (choice n) e w = simp (size-append, size-next, size-none, bits-size, options-size) (omega arith)
+  column-size (number n) e w = simp (size-append, size-next, size-none, bits-size, weights-size) (omega arith)
+
+  -- the two bounds, of which the second is for elements of 4 bytes
+  sheet-size : (cs : List Column) → All InLimits cs → (e w : ℕ)
+      → size (circuitFrom σ e w cs) + 15 * numbersIn cs ≤ entriesIn cs * (24 + σ .width)
+  unfolding circuitFrom columnSize entriesIn entriesOf numbersIn
+  sheet-size [] all[] e w = rw size-none (omega arith)
+  sheet-size (yesNo ∷ cs) (all∷ h hs) e w =
+      let r = sheet-size cs hs (e + 1) (w + wiresOf yesNo) in
+      rw (size-append, column-size) (omega arith)
+  sheet-size (choice n ∷ cs) (all∷ h hs) e w =
+      let r = sheet-size cs hs (e + n) (w + wiresOf (choice n)) in
+      rw (size-append, column-size) (omega arith)
+  sheet-size (number n ∷ cs) (all∷ h hs) e w =
+      let r = sheet-size cs hs (e + suc n) (w + wiresOf (number n)) in
+      rw (size-append, column-size) (omega arith)
+
+  sheet-size' : σ .width ≡ 4 → (cs : List Column) → All InLimits cs → (e w : ℕ)
+      → 2 * size (circuitFrom σ e w cs) ≤ 45 * entriesIn cs + 245 * numbersIn cs
+  unfolding circuitFrom columnSize entriesIn entriesOf numbersIn
+  sheet-size' four [] all[] e w = rw size-none (omega arith)
+  sheet-size' four (yesNo ∷ cs) (all∷ h hs) e w =
+      let r = sheet-size' four cs hs (e + 1) (w + wiresOf yesNo) in
+      rw (size-append, column-size) (omega arith)
+  sheet-size' four (choice n ∷ cs) (all∷ h hs) e w =
+      let r = sheet-size' four cs hs (e + n) (w + wiresOf (choice n)) in
+      rw (size-append, column-size) (omega arith)
+  sheet-size' four (number n ∷ cs) (all∷ h hs) e w =
+      let r = sheet-size' four cs hs (e + suc n) (w + wiresOf (number n)) in
+      let f : (24 + σ .width) * n ≡ 28 * n = ap (λ k. (24 + k) * n) four in
+      rw (size-append, column-size) (omega arith)
+
+  module _ (s : List ℕ) (cs : List Column) (is-read : readSheet s ≡ ok cs) where
+    pub circuit-size : length (circuitBytes σ (circuitOf σ cs)) ≤ 1 + σ .width + entriesIn cs * (24 + σ .width)
+    unfolding circuitOf stepSize
+    circuit-size =
+        let r = sheet-size cs (limits s cs is-read .in-limits) 0 1 in
+        rw size-next (omega arith)
+
+    pub circuit-fits : Facts σ → length (circuitBytes σ (circuitOf σ cs)) ≤ σ .circuitLimit
+    circuit-fits facts =
+        let l = limits s cs is-read in
+        omega (arith, circuit-size, mul-le-mul-right (24 + σ .width) (l .entries-most))
+
+    pub circuit-most : σ .width ≡ 4 → length (circuitBytes σ (circuitOf σ cs)) ≤ 7008
+    unfolding circuitOf stepSize
+    circuit-most four =
+        let l = limits s cs is-read in
+        let r = sheet-size cs (l .in-limits) 0 1 in
+        let r' = sheet-size' four cs (l .in-limits) 0 1 in
+        let f : entriesIn cs * (24 + σ .width) ≡ entriesIn cs * 28 = ap (λ k. entriesIn cs * (24 + k)) four in
+        rw size-next (omega arith)

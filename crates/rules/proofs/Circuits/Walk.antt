@@ -1,0 +1,211 @@
+-- Walking the columns is the run of the sheet's circuit: each column's steps add the column's own inputs and tests, and
+-- leave wire 0 as it was. So the numbers of inputs, tests and wires are the sheet's counts. Assumes nothing.
+use mathlib.Core.Path.{_≡_, refl, sym, _∙_, ap, ap₂}
+use mathlib.Core.List.{List, [], _∷_, _++_, append-nil}
+use Prim.Native.Nat.{ℕ, suc, _+_, _-_, _*_, _^_}
+use native.Mathlib.Omega.{arith}
+use lib.ListN.{length, length-append}
+use Rattle.algebra.specs.Lists.{tabulate}
+use Rattle.algebra.proofs.Tables.{length-tabulate}
+use Rattle.rules.specs.Settings.{Setting}
+use Rattle.rules.specs.Columns.{Column, yesNo, choice, number, entriesOf}
+use Rattle.rules.specs.Circuit.{scale, test, bitChecks, optionSum, optionAdds, bitAdds, columnSteps}
+use Rattle.rules.specs.Circuit.{wiresOf, gatesOf, testsOf, circuitFrom, circuitOf, wiresIn, gatesIn, testsIn}
+use Rattle.rules.specs.Run.{Meaning, Trace, nothing, makeWire, wireAt, stepRun, runFrom, run}
+use Rattle.rules.specs.Walk.{sumFrom, lessOne, bitOut, bitsAt, columnLefts, columnRights, bitTests, sumTests, columnTests}
+use Rattle.rules.specs.Walk.{walkLefts, walkRights, walkTests}
+use Rattle.rules.proofs.Circuits.Growth.{run-append, last-wire, old-wire, more-wires, Grown, stay, one-wire, one-test}
+use Rattle.rules.proofs.Circuits.Growth.{then, grown-is, grown-to, scale-run, test-run}
+use Rattle.rules.proofs.Circuits.Stretches.{Before, after, before-is, Bits, after-bits, bits-run, Summed, options-run, weighted-run}
+
+module _ {X : Type 0} (σ : Setting) (μ : Meaning X) where
+  pub record Walked (cs : List Column) : Type 0 where
+    pub lefts-are : run μ (circuitOf σ cs) .lefts ≡ walkLefts σ μ 0 cs
+    pub rights-are : run μ (circuitOf σ cs) .rights ≡ walkRights σ μ 0 cs
+    pub tests-are : run μ (circuitOf σ cs) .tests ≡ walkTests σ μ 0 0 cs
+    pub lefts-count : length (run μ (circuitOf σ cs) .lefts) ≡ gatesIn cs
+    pub rights-count : length (run μ (circuitOf σ cs) .rights) ≡ gatesIn cs
+    pub tests-count : length (run μ (circuitOf σ cs) .tests) ≡ testsIn cs
+    pub wires-count : length (run μ (circuitOf σ cs) .wires) ≡ suc (wiresIn cs)
+
+  -- ---- one column
+  choice-run : (n : ℕ) (s : Trace X) (e w t : ℕ) → Before σ μ s w t
+      → Grown μ s (runFrom μ s (columnSteps σ e w (choice n))) (3 * n + n)
+      (tabulate (λ i. μ .entryAt (e + i)) n)
+      (tabulate (λ i. lessOne σ μ (e + i)) n)
+      (tabulate (λ i. bitOut σ μ (e + i) (t + i)) n ++ sumTests σ μ e (choice n))
+  unfolding columnSteps sumTests runFrom
+  choice-run n s e w t b =
+      rw (run-append μ (bitChecks n e w) (optionAdds n w q ++ (test (optionSum q n) ∷ [])) s)
+      (rw (run-append μ (optionAdds n w q) (test (optionSum q n) ∷ []) s1)
+      (grown-to μ (test-run μ s2 (optionSum q n) (sums .sum-wire))
+      (grown-is μ (then μ (bits .bits-grown) (then μ (sums .sum-grown) (one-test μ s2 v)))
+      (omega arith) (append-nil _) (append-nil _) refl)))
+    where
+      q : ℕ
+      q = w + 3 * n
+
+      v : X
+      v = sumFrom σ μ (μ .constantOf (σ .modulus - 1)) (λ i. μ .entryAt (e + i)) n
+
+      s1 : Trace X
+      s1 = runFrom μ s (bitChecks n e w)
+
+      s2 : Trace X
+      s2 = runFrom μ s1 (optionAdds n w q)
+
+      bits : Bits σ μ s s1 n e w t
+      bits = bits-run σ μ n s e w t b
+
+      now : Before σ μ s1 q (t + n)
+      now = after-bits σ μ b bits
+
+      sums : Summed σ μ s1 s2 n (optionSum q n) v
+      sums =
+          options-run σ μ (λ i. μ .entryAt (e + i)) n s1 w q (now .minus-one) (now .wires-are) (omega arith)
+          (bits .bits-wires)
+
+  number-run : (n : ℕ) (s : Trace X) (e w t : ℕ) → Before σ μ s w t
+      → Grown μ s (runFrom μ s (columnSteps σ e w (number n))) (suc (3 * n) + suc (2 * n))
+      (tabulate (λ i. μ .entryAt (suc e + i)) n)
+      (tabulate (λ i. lessOne σ μ (suc e + i)) n)
+      (tabulate (λ i. bitOut σ μ (suc e + i) (t + i)) n ++ sumTests σ μ e (number n))
+  unfolding columnSteps sumTests runFrom stepRun
+  number-run n s e w t b =
+      grown-to μ
+      (run-append μ (bitChecks n (suc e) (suc w)) (scale w m ∷ (bitAdds n (suc w) q ++ (test (q + 2 * n) ∷ []))) s1
+      ∙ ap (λ z. runFrom μ z (bitAdds n (suc w) q ++ (test (q + 2 * n) ∷ []))) (scale-run μ s2 w v-wire m)
+      ∙ run-append μ (bitAdds n (suc w) q) (test (q + 2 * n) ∷ []) s3
+      ∙ test-run μ s4 (q + 2 * n) (sums .sum-wire))
+      (grown-is μ
+      (then μ (one-wire μ s x)
+      (then μ (bits .bits-grown) (then μ (one-wire μ s2 y) (then μ (sums .sum-grown) (one-test μ s4 v)))))
+      (omega arith) (append-nil _) (append-nil _) refl)
+    where
+      m : ℕ
+      m = σ .modulus - 1
+
+      q : ℕ
+      q = suc w + 3 * n
+
+      x : X
+      x = μ .entryAt e
+
+      y : X
+      y = μ .times x m
+
+      v : X
+      v = sumFrom σ μ y (λ i. μ .times (μ .entryAt (suc e + i)) (2 ^ i)) n
+
+      s1 : Trace X
+      s1 = makeWire x s
+
+      s2 : Trace X
+      s2 = runFrom μ s1 (bitChecks n (suc e) (suc w))
+
+      s3 : Trace X
+      s3 = makeWire y s2
+
+      s4 : Trace X
+      s4 = runFrom μ s3 (bitAdds n (suc w) q)
+
+      first : Before σ μ s1 (suc w) t
+      first = before-is σ μ (after σ μ b (one-wire μ s x) 0 refl) (omega arith) (omega arith)
+
+      bits : Bits σ μ s1 s2 n (suc e) (suc w) t
+      bits = bits-run σ μ n s1 (suc e) (suc w) t first
+
+      now : Before σ μ s2 q (t + n)
+      now = after-bits σ μ first bits
+
+      v-wire : wireAt μ s2 w ≡ x
+      v-wire = bits .bits-grown .kept w (omega (arith, first .wires-are)) ∙ last-wire μ s x w (b .wires-are)
+
+      sums : Summed σ μ s3 s4 (2 * n) (q + 2 * n) v
+      sums =
+          weighted-run σ μ (λ i. μ .entryAt (suc e + i)) y n s3 (suc w) q
+          (last-wire μ s2 y q (now .wires-are))
+          (more-wires μ s2 y ∙ omega (arith, now .wires-are))
+          (omega arith)
+          (λ j l. old-wire μ s2 y (suc w + 3 * j) (omega (arith, now .wires-are)) ∙ bits .bits-wires j l)
+
+  column-run : (c : Column) (s : Trace X) (e w t : ℕ) → Before σ μ s w t
+      → Grown μ s (runFrom μ s (columnSteps σ e w c)) (wiresOf c)
+      (columnLefts σ μ e c) (columnRights σ μ e c) (columnTests σ μ e t c)
+  unfolding columnSteps wiresOf gatesOf bitsAt columnLefts columnRights bitTests sumTests columnTests
+  column-run yesNo s e w t b =
+      grown-is μ (bits-run σ μ 1 s e w t b .bits-grown) refl refl refl (sym (append-nil _))
+  column-run (choice n) s e w t b = choice-run n s e w t b
+  column-run (number n) s e w t b = number-run n s e w t b
+
+  -- ---- a sheet
+  column-lefts : (c : Column) (e : ℕ) → length (columnLefts σ μ e c) ≡ gatesOf c
+  unfolding columnLefts
+  column-lefts c e = length-tabulate _ (gatesOf c)
+
+  sheet-run : (cs : List Column) (s : Trace X) (e w t : ℕ) → Before σ μ s w t
+      → Grown μ s (runFrom μ s (circuitFrom σ e w cs)) (wiresIn cs)
+      (walkLefts σ μ e cs) (walkRights σ μ e cs) (walkTests σ μ e t cs)
+  unfolding circuitFrom wiresIn walkLefts walkRights walkTests runFrom
+  sheet-run [] s e w t b = stay μ s
+  sheet-run (c ∷ cs) s e w t b =
+      rw (run-append μ (columnSteps σ e w c) (circuitFrom σ (e + entriesOf c) (w + wiresOf c) cs) s)
+      (then μ one
+      (sheet-run cs (runFrom μ s (columnSteps σ e w c)) (e + entriesOf c) (w + wiresOf c) (t + gatesOf c)
+      (after σ μ b one (gatesOf c) (column-lefts c e))))
+    where
+      one : Grown μ s (runFrom μ s (columnSteps σ e w c)) (wiresOf c)
+          (columnLefts σ μ e c) (columnRights σ μ e c) (columnTests σ μ e t c)
+      one = column-run c s e w t b
+
+  -- ---- counts
+  pub length-lefts : (cs : List Column) (e : ℕ) → length (walkLefts σ μ e cs) ≡ gatesIn cs
+  unfolding walkLefts gatesIn
+  length-lefts [] e = refl
+  length-lefts (c ∷ cs) e =
+      length-append (columnLefts σ μ e c) _ ∙ ap₂ _+_ (column-lefts c e) (length-lefts cs (e + entriesOf c))
+
+  pub length-rights : (cs : List Column) (e : ℕ) → length (walkRights σ μ e cs) ≡ gatesIn cs
+  unfolding walkRights columnRights gatesIn
+  length-rights [] e = refl
+  length-rights (c ∷ cs) e =
+      length-append (columnRights σ μ e c) _
+      ∙ ap₂ _+_ (length-tabulate _ (gatesOf c)) (length-rights cs (e + entriesOf c))
+
+  column-tests : (c : Column) (e t : ℕ) → length (columnTests σ μ e t c) ≡ testsOf c
+  unfolding columnTests bitTests gatesOf testsOf sumTests
+  column-tests c e t =
+      length-append (bitTests σ μ e t c) _ ∙ ap (_+ length (sumTests σ μ e c)) (length-tabulate _ (gatesOf c)) ∙ last c
+    where
+      last : (c : Column) → gatesOf c + length (sumTests σ μ e c) ≡ testsOf c
+      last yesNo = refl
+      last (choice n) = refl
+      last (number n) = refl
+
+  pub length-tests : (cs : List Column) (e t : ℕ) → length (walkTests σ μ e t cs) ≡ testsIn cs
+  unfolding walkTests testsIn
+  length-tests [] e t = refl
+  length-tests (c ∷ cs) e t =
+      length-append (columnTests σ μ e t c) _
+      ∙ ap₂ _+_ (column-tests c e t) (length-tests cs (e + entriesOf c) (t + gatesOf c))
+
+  pub walk-is-run : (cs : List Column) → Walked cs
+  unfolding circuitOf run runFrom stepRun
+  walk-is-run cs = record {
+    lefts-are = g .lefts-are;
+    rights-are = g .rights-are;
+    tests-are = g .tests-are;
+    lefts-count = ap length (g .lefts-are) ∙ length-lefts cs 0;
+    rights-count = ap length (g .rights-are) ∙ length-rights cs 0;
+    tests-count = ap length (g .tests-are) ∙ length-tests cs 0 0;
+    wires-count = omega (arith, g .made);
+  }
+    where
+      start : Trace X
+      start = makeWire (μ .constantOf (σ .modulus - 1)) nothing
+
+      g : Grown μ start (runFrom μ start (circuitFrom σ 0 1 cs)) (wiresIn cs)
+          (walkLefts σ μ 0 cs) (walkRights σ μ 0 cs) (walkTests σ μ 0 0 cs)
+      g =
+          sheet-run cs start 0 1 0
+          (record { some-wires = omega arith; wires-are = refl; gates-are = refl; minus-one = refl })

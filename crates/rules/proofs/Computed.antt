@@ -1,0 +1,4 @@
+-- What antt computes: the examples, and the facts of document 01's setting.
+pub mod Computing
+pub mod Examples
+pub mod Facts

@@ -1,0 +1,18 @@
+-- The examples of document 01 come out: antt computes each row. Assumes nothing.
+use mathlib.Core.Bool.{true}
+use mathlib.Core.Path.{_≡_, refl}
+use Rattle.algebra.specs.Lists.{every}
+use Rattle.rules.specs.Examples.{marked, unmarked, onTables}
+use Rattle.rules.proofs.Computed.Computing.{everything}
+
+pub marked-hold : every (λ row. row .holds) marked ≡ true
+unfolding everything marked
+marked-hold = refl
+
+pub unmarked-hold : every (λ row. row .holds) unmarked ≡ true
+unfolding everything unmarked
+unmarked-hold = refl
+
+pub on-tables-hold : every (λ row. row .holds) onTables ≡ true
+unfolding everything onTables
+on-tables-hold = refl

@@ -1,0 +1,10 @@
+-- Demand 3: the bytes of messages; what a call does to a ledger, and what a history of calls comes to.
+pub mod MessageBytes
+pub mod ShareBytes
+pub mod ClosingBytes
+pub mod Checks
+pub mod PoolOpened
+pub mod Moves
+pub mod NotesGrow
+pub mod Origins
+pub mod OwnMessages

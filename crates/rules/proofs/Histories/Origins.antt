@@ -1,0 +1,153 @@
+-- Where the answers and the decisions of a history come from: a message written is that of a share, that of joined
+-- messages of round one that were handed in, or a closing message; a return judged to the end was judged on joined
+-- messages of round two that were handed in; a closed ledger wrote its closing message. By the history. Assumes nothing.
+use mathlib.Core.Path.{_≡_, refl, sym, ap, _∙_, subst}
+use mathlib.Core.Logic.{_⊎_, ⊎-elim, inl, inr}
+use mathlib.Core.Bool.{Bool, true, false, cond, true≢false}
+use mathlib.Core.List.{List, [], _∷_, _++_}
+use Prim.Native.Nat.{ℕ}
+use native.Mathlib.Omega.{arith}
+use Rattle.algebra.specs.Lists.{In}
+use Rattle.algebra.proofs.Members.{in-append, append-in}
+use Rattle.rules.specs.Settings.{Setting}
+use Rattle.rules.specs.Messages.{bothZero}
+use Rattle.rules.specs.Server.{Opened, messageOne}
+use Rattle.rules.specs.Ledger.{Answer, wrote, Note, Progress, isIdle, waitsOne, waitsTwo, isClosed}
+use Rattle.rules.specs.Ledger.{accepted, rejected, Decided, Ledger, isAccepted, isDropped, notesOf, closingMessage, noted}
+use Rattle.rules.specs.WholeRun.{waitingNote, notesIn}
+use Rattle.rules.proofs.Histories.Moves.{at, Moves, stays, notes, sums, judges, drops, closes, History, over, next, Joined}
+use Rattle.rules.proofs.Histories.Moves.{answerTo, verdictOn, dropOf}
+use Rattle.rules.proofs.Histories.NotesGrow.{keeps-notes}
+
+module _ (σ : Setting) (o : Opened) where
+  -- ---- messages
+  pub data Origin (ns : List Note) (hs : List (List ℕ)) (m : List ℕ) : Type 0 where
+    of-share : (n : Note) → In n ns → m ≡ messageOne σ o (noted σ o n) → Origin ns hs m
+    of-one : (n : Note) → In n ns → (joined : List ℕ) → In joined hs → Joined σ o 34 (n .id) joined
+        → m ≡ answerTo σ o n joined → Origin ns hs m
+    of-close : (l : Ledger) → m ≡ closingMessage σ o l → Origin ns hs m
+
+  origin-more : {ns ms : List Note} {hs gs : List (List ℕ)} {m : List ℕ} → ((n : Note) → In n ns → In n ms)
+      → ((j : List ℕ) → In j hs → In j gs) → Origin ns hs m → Origin ms gs m
+  origin-more f g (of-share n h e) = of-share n (f n h) e
+  origin-more f g (of-one n h j k s e) = of-one n (f n h) j (g j k) s e
+  origin-more f g (of-close l e) = of-close l e
+
+  -- the note that waits is noted
+  waits-in : (n : Note) (ds : List Decided) → In n (notesOf ds ++ (n ∷ []))
+  waits-in n ds = append-in n (notesOf ds) (n ∷ []) (inr (inl refl))
+
+  first-origin : {l l′ : Ledger} {a : Answer} {h : List (List ℕ)} → Moves σ o l a h l′ → (m : List ℕ) → a ≡ wrote m
+      → Origin (notesIn l′) h m
+  unfolding notesIn waitingNote
+  first-origin (stays l n) m e = absurd (let z : _≡_ {A = ℕ} 0 1 = cc in omega arith)
+  first-origin (notes ds n t) m e = of-share n (waits-in n ds) (cc)
+  first-origin (sums ds n joined s) m e = of-one n (waits-in n ds) joined (inl refl) s (cc)
+  first-origin (judges ds n d e joined s) m q = absurd (let z : _≡_ {A = ℕ} 0 1 = cc in omega arith)
+  first-origin (drops ds p n w) m e = absurd (let z : _≡_ {A = ℕ} 0 1 = cc in omega arith)
+  first-origin (closes ds) m e = of-close (at isIdle ds) (cc)
+
+  pub origin : {l l′ : Ledger} {xs : List Answer} {hs : List (List ℕ)} → History σ o l xs hs l′
+      → (m : List ℕ) → In (wrote m) xs → Origin (notesIn l′) hs m
+  origin (over l) m k = absurd k
+  origin (next {h = h} {hs = hs} mv r) m (inl e) =
+      origin-more (keeps-notes σ o r) (λ j k. append-in j h hs (inl k)) (first-origin mv m e)
+  origin (next {h = h} {hs = hs} mv r) m (inr k) = origin-more (λ n q. q) (λ j q. append-in j h hs (inr q)) (origin r m k)
+
+  -- ---- decisions
+  pub record JudgedOn (hs : List (List ℕ)) (k : Decided) : Type 0 where
+    pub joined : List ℕ
+    pub handed : In joined hs
+    pub sound : Joined σ o 35 (k .note .id) joined
+    pub says : isAccepted (k .decision) ≡ bothZero σ (o .servers) joined
+
+  judged-more : {hs gs : List (List ℕ)} {k : Decided} → ((j : List ℕ) → In j hs → In j gs) → JudgedOn hs k → JudgedOn gs k
+  judged-more g q = record { joined = q .joined; handed = g (q .joined) (q .handed); sound = q .sound; says = q .says }
+
+  verdict-is : (b : Bool) → isAccepted (cond b accepted rejected) ≡ b
+  verdict-is true = refl
+  verdict-is false = refl
+
+  -- the last of a list, or one before it
+  last-or : (ds : List Decided) (d k : Decided) → In k (ds ++ (d ∷ [])) → (In k ds) ⊎ (d ≡ k)
+  last-or ds d k h = ⊎-elim (λ q. inl q) (λ q. inr (only q)) (in-append k ds (d ∷ []) h)
+    where
+      only : In k (d ∷ []) → d ≡ k
+      only (inl e) = e
+      only (inr q) = absurd q
+
+  first-judged : {l l′ : Ledger} {a : Answer} {h : List (List ℕ)} → Moves σ o l a h l′ → (k : Decided) → In k (l′ .decided)
+      → isDropped (k .decision) ≡ false → In k (l .decided) ⊎ JudgedOn h k
+  first-judged (stays l n) k h f = inl h
+  first-judged (notes ds n t) k h f = inl h
+  first-judged (sums ds n joined s) k h f = inl h
+  first-judged (judges ds n d e joined s) k h f =
+      ⊎-elim (λ q. inl q) (λ (q : verdictOn σ o n joined ≡ k). inr (subst (JudgedOn (joined ∷ [])) q (record {
+        joined = joined;
+        handed = inl refl;
+        sound = s;
+        says = verdict-is (bothZero σ (o .servers) joined);
+      }))) (last-or ds (verdictOn σ o n joined) k h)
+  first-judged (drops ds p n w) k h f =
+      ⊎-elim (λ q. inl q)
+      (λ (q : dropOf σ o n ≡ k). absurd (true≢false (ap (λ (v : Decided). isDropped (v .decision)) q ∙ f)))
+      (last-or ds (dropOf σ o n) k h)
+  first-judged (closes ds) k h f = inl h
+
+  pub judged-on : {l l′ : Ledger} {xs : List Answer} {hs : List (List ℕ)} → History σ o l xs hs l′
+      → (k : Decided) → In k (l′ .decided) → isDropped (k .decision) ≡ false → In k (l .decided) ⊎ JudgedOn hs k
+  judged-on (over l) k q f = inl q
+  judged-on (next {h = h} {hs = hs} mv r) k q f =
+      ⊎-elim
+      (λ old. ⊎-elim (λ v. inl v) (λ v. inr (judged-more (λ j w. append-in j h hs (inl w)) v)) (first-judged mv k old f))
+      (λ new. inr (judged-more (λ j w. append-in j h hs (inr w)) new)) (judged-on r k q f)
+
+  -- ---- closing
+  abbrev pub ended : Progress → Bool
+  ended isIdle = false
+  ended (waitsOne n) = false
+  ended (waitsTwo n d e) = false
+  ended isClosed = true
+
+  waiting-open : (p : Progress) (n : Note) → waitingNote p ≡ n ∷ [] → ended p ≡ false
+  unfolding waitingNote
+  waiting-open isIdle n e = refl
+  waiting-open (waitsOne m) n e = refl
+  waiting-open (waitsTwo m x y) n e = refl
+  waiting-open isClosed n e = absurd (let z : _≡_ {A = ℕ} 0 1 = cc in omega arith)
+
+  -- a closed ledger takes nothing
+  move-closed : {l l′ : Ledger} {a : Answer} {h : List (List ℕ)} → Moves σ o l a h l′ → ended (l .progress) ≡ true → l′ ≡ l
+  move-closed (stays l n) e = refl
+  move-closed (notes ds n t) e = absurd (true≢false (sym e))
+  move-closed (sums ds n joined s) e = absurd (true≢false (sym e))
+  move-closed (judges ds n d x joined s) e = absurd (true≢false (sym e))
+  move-closed (drops ds p n w) e = absurd (true≢false (sym e ∙ waiting-open p n w))
+  move-closed (closes ds) e = absurd (true≢false (sym e))
+
+  stays-closed : {l l′ : Ledger} {xs : List Answer} {hs : List (List ℕ)} → History σ o l xs hs l′
+      → ended (l .progress) ≡ true → l′ ≡ l
+  stays-closed (over l) e = refl
+  stays-closed (next mv r) e =
+      let q = move-closed mv e in
+      stays-closed r (ap (λ (v : Ledger). ended (v .progress)) q ∙ e) ∙ q
+
+  first-closing : {l l′ : Ledger} {a : Answer} {h : List (List ℕ)} → Moves σ o l a h l′ → ended (l′ .progress) ≡ true
+      → (ended (l .progress) ≡ true) ⊎ (a ≡ wrote (closingMessage σ o l′))
+  unfolding closingMessage
+  first-closing (stays l n) e = inl e
+  first-closing (notes ds n t) e = absurd (true≢false (sym e))
+  first-closing (sums ds n joined s) e = absurd (true≢false (sym e))
+  first-closing (judges ds n d x joined s) e = absurd (true≢false (sym e))
+  first-closing (drops ds p n w) e = absurd (true≢false (sym e))
+  first-closing (closes ds) e = inr refl
+
+  pub closing-written : {l l′ : Ledger} {xs : List Answer} {hs : List (List ℕ)} → History σ o l xs hs l′
+      → ended (l′ .progress) ≡ true → (ended (l .progress) ≡ true) ⊎ In (wrote (closingMessage σ o l′)) xs
+  closing-written (over l) e = inl e
+  closing-written (next mv r) e =
+      ⊎-elim
+      (λ old. ⊎-elim (λ q. inl q)
+      (λ q. inr (inl (q ∙ ap (λ (v : Ledger). wrote (closingMessage σ o v)) (sym (stays-closed r old)))))
+      (first-closing mv old))
+      (λ new. inr (inr new)) (closing-written r e)

@@ -1,0 +1,25 @@
+-- What it says of a pool that its servers were opened: the sheet is read, and S, N and the totals are within their limits.
+-- Assumes nothing.
+use mathlib.Core.Path.{_≡_}
+use Prim.Native.Nat.{_≤_}
+use lib.ListN.{length}
+use Rattle.records.specs.Outcome.{ok}
+use Rattle.rules.specs.Settings.{Setting}
+use Rattle.rules.specs.Columns.{readSheet}
+use Rattle.rules.specs.WholeRun.{Pool, columns}
+use Rattle.rules.proofs.Circuits.Limits.{Limits, within-both}
+use Rattle.rules.proofs.Circuits.Refusals.{sheet-read, sheet-limits}
+use Rattle.rules.proofs.Tables.Opens.{Opening, opening}
+
+module _ (σ : Setting) (𝓟 : Pool σ) where
+  pub opened : Opening σ (𝓟 .servers) 0 (𝓟 .sheet) (𝓟 .returns) (length (𝓟 .buffers 0))
+  opened = opening σ (𝓟 .servers) 0 (𝓟 .sheet) (𝓟 .returns) (length (𝓟 .buffers 0)) (𝓟 .opens 0 (𝓟 .some-server))
+
+  pub is-read : readSheet (𝓟 .sheet) ≡ ok (columns σ 𝓟)
+  is-read = sheet-read (𝓟 .sheet) (opened .no-fault)
+
+  pub limited : Limits (𝓟 .sheet) (columns σ 𝓟)
+  limited = sheet-limits (𝓟 .sheet) (opened .no-fault)
+
+  pub returns-limits : (1 ≤ 𝓟 .returns) × (𝓟 .returns ≤ 1024)
+  returns-limits = within-both 1 1024 (𝓟 .returns) (opened .returns-fit)

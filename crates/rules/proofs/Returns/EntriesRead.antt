@@ -1,0 +1,109 @@
+-- A sheet's circuit reads no entry past the sheet's: where two lists agree on the sheet's entries, the inputs of the
+-- multiplications and the tests are the same. By the walk over the columns. Assumes nothing.
+use mathlib.Core.Path.{_≡_, refl, sym, _∙_, ap, ap₂}
+use mathlib.Core.List.{List, [], _∷_, _++_}
+use Prim.Native.Nat.{ℕ, zero, suc, _+_, _-_, _^_, _≤_, _<_}
+use native.Mathlib.Omega.{arith}
+use Rattle.algebra.specs.Ops.{Ops}
+use Rattle.algebra.proofs.Tables.{tabulate-cong}
+use Rattle.rules.specs.Settings.{Setting}
+use Rattle.rules.specs.Columns.{Column, yesNo, choice, number, entriesOf, entriesIn}
+use Rattle.rules.specs.Circuit.{gatesOf, circuitOf}
+use Rattle.rules.specs.Run.{Meaning, run, onList}
+use Rattle.rules.specs.Walk.{sumFrom, lessOne, bitOut, bitsAt, columnLefts, columnRights, bitTests, sumTests}
+use Rattle.rules.specs.Walk.{columnTests, walkLefts, walkRights, walkTests}
+use Rattle.rules.proofs.Circuits.Walk.{walk-is-run}
+
+-- f and g are the same from the number low to below high
+abbrev pub SameFrom : {X : Type 0} → ℕ → ℕ → (ℕ → X) → (ℕ → X) → Type 0
+SameFrom low high f g = (k : ℕ) → low ≤ k → k < high → f k ≡ g k
+
+module _ {X : Type 0} (σ : Setting) (μ ν : Meaning X) where
+  -- at the bit entries of a column
+  bits-same : {Y : Type 0} (c : Column) (e : ℕ) (f g : ℕ → Y) → SameFrom e (e + entriesOf c) f g → (i : ℕ) → i < gatesOf c
+      → f (bitsAt σ μ e c + i) ≡ g (bitsAt σ ν e c + i)
+  unfolding bitsAt entriesOf gatesOf
+  bits-same yesNo e f g h i l = h (e + i) (omega arith) (omega arith)
+  bits-same (choice n) e f g h i l = h (e + i) (omega arith) (omega arith)
+  bits-same (number n) e f g h i l = h (suc e + i) (omega arith) (omega arith)
+
+  lefts-same : (cs : List Column) (e : ℕ) → SameFrom e (e + entriesIn cs) (μ .entryAt) (ν .entryAt)
+      → walkLefts σ μ e cs ≡ walkLefts σ ν e cs
+  unfolding walkLefts columnLefts entriesIn
+  lefts-same [] e h = refl
+  lefts-same (c ∷ cs) e h =
+      ap₂ _++_
+      (tabulate-cong _ _ (gatesOf c) (bits-same c e (μ .entryAt) (ν .entryAt) (λ k l u. h k l (omega arith))))
+      (lefts-same cs (e + entriesOf c) (λ k l u. h k (omega arith) (omega arith)))
+
+  rights-same : (cs : List Column) (e : ℕ) → SameFrom e (e + entriesIn cs) (lessOne σ μ) (lessOne σ ν)
+      → walkRights σ μ e cs ≡ walkRights σ ν e cs
+  unfolding walkRights columnRights entriesIn
+  rights-same [] e h = refl
+  rights-same (c ∷ cs) e h =
+      ap₂ _++_
+      (tabulate-cong _ _ (gatesOf c) (bits-same c e (lessOne σ μ) (lessOne σ ν) (λ k l u. h k l (omega arith))))
+      (rights-same cs (e + entriesOf c) (λ k l u. h k (omega arith) (omega arith)))
+
+  -- the inputs of the multiplications, for any two meanings that agree on entries, and on entries less 1
+  module _ (cs : List Column) where
+    pub inputs-left : SameFrom 0 (entriesIn cs) (μ .entryAt) (ν .entryAt)
+        → run μ (circuitOf σ cs) .lefts ≡ run ν (circuitOf σ cs) .lefts
+    inputs-left h =
+        walk-is-run σ μ cs .lefts-are ∙ lefts-same cs 0 (λ k l u. h k l (omega arith)) ∙ sym (walk-is-run σ ν cs .lefts-are)
+
+    pub inputs-right : SameFrom 0 (entriesIn cs) (lessOne σ μ) (lessOne σ ν)
+        → run μ (circuitOf σ cs) .rights ≡ run ν (circuitOf σ cs) .rights
+    inputs-right h =
+        walk-is-run σ μ cs .rights-are ∙ rights-same cs 0 (λ k l u. h k l (omega arith))
+        ∙ sym (walk-is-run σ ν cs .rights-are)
+
+-- the tests on two lists
+module _ (O : Ops) (σ : Setting) (x y : ℕ → O .F) where
+  abbrev μ : Meaning (O .F)
+  μ = onList O x
+
+  abbrev ν : Meaning (O .F)
+  ν = onList O y
+
+  output-same : (e t : ℕ) → x e ≡ y e → bitOut σ μ e t ≡ bitOut σ ν e t
+  unfolding bitOut lessOne
+  output-same e t q = ap (λ v. O ._⊗_ v (O ._⊕_ v (O .ι (σ .modulus - 1)))) q
+
+  sum-same : (a b : O .F) (f g : ℕ → O .F) (n : ℕ) → a ≡ b → ((i : ℕ) → i < n → f i ≡ g i)
+      → sumFrom σ μ a f n ≡ sumFrom σ ν b g n
+  unfolding sumFrom
+  sum-same a b f g zero q h = q
+  sum-same a b f g (suc n) q h = ap₂ (O ._⊕_) (sum-same a b f g n q (λ i l. h i (omega arith))) (h n (omega arith))
+
+  sum-tests-same : (c : Column) (e : ℕ) → SameFrom e (e + entriesOf c) x y → sumTests σ μ e c ≡ sumTests σ ν e c
+  unfolding sumTests entriesOf
+  sum-tests-same yesNo e h = refl
+  sum-tests-same (choice n) e h =
+      ap (_∷ []) (sum-same _ _ (λ i. x (e + i)) (λ i. y (e + i)) n refl (λ i l. h (e + i) (omega arith) (omega arith)))
+  sum-tests-same (number n) e h =
+      ap (_∷ [])
+      (sum-same _ _ (λ i. O ._⊗_ (x (suc e + i)) (O .ι (2 ^ i))) (λ i. O ._⊗_ (y (suc e + i)) (O .ι (2 ^ i))) n
+      (ap (λ v. O ._⊗_ v (O .ι (σ .modulus - 1))) (h e (omega arith) (omega arith)))
+      (λ i l. ap (λ v. O ._⊗_ v (O .ι (2 ^ i))) (h (suc e + i) (omega arith) (omega arith))))
+
+  bit-tests-same : (c : Column) (e t : ℕ) → SameFrom e (e + entriesOf c) x y → bitTests σ μ e t c ≡ bitTests σ ν e t c
+  unfolding bitTests bitsAt gatesOf entriesOf
+  bit-tests-same yesNo e t h = tabulate-cong _ _ 1 (λ i l. output-same (e + i) (t + i) (h (e + i) (omega arith) (omega arith)))
+  bit-tests-same (choice n) e t h =
+      tabulate-cong _ _ n (λ i l. output-same (e + i) (t + i) (h (e + i) (omega arith) (omega arith)))
+  bit-tests-same (number n) e t h =
+      tabulate-cong _ _ n (λ i l. output-same (suc e + i) (t + i) (h (suc e + i) (omega arith) (omega arith)))
+
+  tests-same : (cs : List Column) (e t : ℕ) → SameFrom e (e + entriesIn cs) x y → walkTests σ μ e t cs ≡ walkTests σ ν e t cs
+  unfolding walkTests columnTests entriesIn
+  tests-same [] e t h = refl
+  tests-same (c ∷ cs) e t h =
+      ap₂ _++_
+      (ap₂ _++_ (bit-tests-same c e t (λ k l u. h k l (omega arith))) (sum-tests-same c e (λ k l u. h k l (omega arith))))
+      (tests-same cs (e + entriesOf c) (t + gatesOf c) (λ k l u. h k (omega arith) (omega arith)))
+
+  pub list-tests : (cs : List Column) → SameFrom 0 (entriesIn cs) x y
+      → run μ (circuitOf σ cs) .tests ≡ run ν (circuitOf σ cs) .tests
+  list-tests cs h =
+      walk-is-run σ μ cs .tests-are ∙ tests-same cs 0 0 (λ k l u. h k l (omega arith)) ∙ sym (walk-is-run σ ν cs .tests-are)

@@ -1,0 +1,9 @@
+-- Demand 3: verdicts, the same ids, totals; a sound return is handled; the whole claim.
+pub mod Agreement
+pub mod Verdicts
+pub mod FewReturns
+pub mod SameIds
+pub mod JoinedTotals
+pub mod WholeTotals
+pub mod Handled
+pub mod WholeRuns

@@ -1,0 +1,193 @@
+-- Under the conditions, joined messages that were handed in without refusal are a function of the shares noted: each
+-- was written by its server, for its round and id, and ids differ. So the sums, and the verdict, are the same at every
+-- server that judges a return to the end. Assumes the conditions of whole runs.
+use mathlib.Core.Path.{_≡_, sym, ap, ap₂, _∙_, subst}
+use mathlib.Core.Logic.{⊎-elim, inl, inr}
+use mathlib.Core.Bool.{Bool, false, _&&_}
+use mathlib.Core.List.{List, [], _∷_}
+use Prim.Native.Nat.{ℕ, _<_}
+use native.Mathlib.Omega.{arith}
+use borrow.Author.Tests.{eq-eqb, ne-eqb}
+use lib.Dec.{eqb}
+use Rattle.algebra.specs.Lists.{In, Distinct, distinct∷}
+use Rattle.algebra.specs.Modulo.{modulo}
+use Rattle.algebra.specs.Sums.{sum}
+use Rattle.algebra.proofs.Members.{in-map, not-in}
+use Rattle.algebra.proofs.Sums.{sum-ext}
+use Rattle.rules.specs.Settings.{Setting, Facts}
+use Rattle.rules.specs.Messages.{kindIn, idIn, firstIn, secondIn, placeIn, firstSum, secondSum, bothZero}
+use Rattle.rules.specs.Server.{Waiting, sigmaIn, messageOne, messageTwo}
+use Rattle.rules.specs.Ledger.{Note, Decided, empty, isAccepted, isDropped, idsOf, noted, withSums}
+use Rattle.rules.specs.WholeRun.{Pool, openedAt, ledgerAt, answersAt, noteUnder, handedIn, notesAt, Conditions}
+use Rattle.rules.proofs.Histories.Checks.{IsOf}
+use Rattle.rules.proofs.Histories.Moves.{History, history, Joined, answerTo}
+use Rattle.rules.proofs.Histories.NotesGrow.{Sound, sound-notes}
+use Rattle.rules.proofs.Histories.Origins.{Origin, of-share, of-one, of-close, origin, JudgedOn, judged-on}
+use Rattle.rules.proofs.Tables.Invariant.{d-below, e-below, tau-below}
+use Rattle.rules.proofs.Histories.OwnMessages.{kind-one, id-one, first-one, second-one, kind-two}
+use Rattle.rules.proofs.Histories.OwnMessages.{id-two, first-two, second-two, id-noted, kind-closing}
+
+-- the share under an id is the one that was noted
+pub noteUnder-in : (n : Note) (ns : List Note) → Distinct (idsOf ns) → In n ns → noteUnder (n .id) ns ≡ n
+unfolding noteUnder
+noteUnder-in n [] d h = absurd h
+noteUnder-in n (y ∷ ns) d (inl e) = rw (eq-eqb (y .id) (n .id) (ap (λ (v : Note). v .id) e)) e
+noteUnder-in n (y ∷ ns) (distinct∷ fresh d) (inr h) =
+    rw (ne-eqb (y .id) (n .id) differ) (noteUnder-in n ns d h)
+  where
+    differ : y .id ≡ n .id → ⊥
+    differ e =
+        not-in (y .id) (idsOf ns) fresh
+        (subst (λ (v : ℕ). In v (idsOf ns)) (sym e) (in-map (λ (v : Note). v .id) n ns h))
+
+module _ (σ : Setting) (𝓟 : Pool σ) where
+  -- the share that server q noted under an id, and what it comes to in both rounds
+  abbrev pub shareAt : ℕ → ℕ → Note
+  shareAt id q = noteUnder id (notesAt σ 𝓟 q)
+
+  abbrev pub firstAt : ℕ → ℕ → Waiting
+  firstAt id q = noted σ (openedAt σ 𝓟 q) (shareAt id q)
+
+  abbrev pub dAll : ℕ → ℕ
+  dAll id = sum (modulo (σ .modulus)) (𝓟 .servers) (λ q. firstAt id q .d)
+
+  abbrev pub eAll : ℕ → ℕ
+  eAll id = sum (modulo (σ .modulus)) (𝓟 .servers) (λ q. firstAt id q .e)
+
+  abbrev pub secondAt : ℕ → ℕ → Waiting
+  secondAt id q = withSums σ (openedAt σ 𝓟 q) (firstAt id q) (dAll id) (eAll id)
+
+  abbrev pub sigmaAll : ℕ → ℕ
+  sigmaAll id = sum (modulo (σ .modulus)) (𝓟 .servers) (λ q. sigmaIn σ (openedAt σ 𝓟 q) (secondAt id q))
+
+  abbrev pub tauAll : ℕ → ℕ
+  tauAll id = sum (modulo (σ .modulus)) (𝓟 .servers) (λ q. firstAt id q .tau)
+
+  -- the verdict that the shares noted under an id give
+  abbrev pub verdictAll : ℕ → Bool
+  verdictAll id = eqb (sigmaAll id) 0 && eqb (tauAll id) 0
+
+  -- server q noted a share under the id
+  pub record Noted (id q : ℕ) : Type 0 where
+    pub is-in : In (shareAt id q) (notesAt σ 𝓟 q)
+    pub has-id : shareAt id q .id ≡ id
+
+  pub history-at : (i : ℕ) → i < 𝓟 .servers
+      → History σ (openedAt σ 𝓟 i) empty (answersAt σ 𝓟 i) (handedIn σ (openedAt σ 𝓟 i) empty (𝓟 .calls i)) (ledgerAt σ 𝓟 i)
+  history-at i h = history σ (openedAt σ 𝓟 i) empty (𝓟 .calls i) (𝓟 .call-bytes i h)
+
+  pub sound-at : (i : ℕ) → i < 𝓟 .servers → Sound σ (openedAt σ 𝓟 i) (notesAt σ 𝓟 i)
+  sound-at i h = sound-notes σ (openedAt σ 𝓟 i) (history-at i h)
+
+  found : (id q : ℕ) → q < 𝓟 .servers → (n : Note) → In n (notesAt σ 𝓟 q) → n .id ≡ id → shareAt id q ≡ n
+  found id q b n h e = subst (λ (v : ℕ). shareAt v q ≡ n) e (noteUnder-in n (notesAt σ 𝓟 q) (sound-at q b .apart) h)
+
+  is-noted : (id q : ℕ) → q < 𝓟 .servers → (n : Note) → In n (notesAt σ 𝓟 q) → n .id ≡ id → Noted id q
+  is-noted id q b n h e =
+      let f : shareAt id q ≡ n = found id q b n h e in
+      record { is-in = subst (λ (v : Note). In v (notesAt σ 𝓟 q)) (sym f) h; has-id = ap (λ (v : Note). v .id) f ∙ e }
+
+  module _ (facts : Facts σ) (𝓒 : Conditions σ 𝓟) where
+    abbrev Handed : ℕ → List ℕ → Type 0
+    Handed i joined = In joined (handedIn σ (openedAt σ 𝓟 i) empty (𝓟 .calls i))
+
+    origin-at : (i q : ℕ) → i < 𝓟 .servers → q < 𝓟 .servers → (joined : List ℕ) → Handed i joined
+        → Origin σ (openedAt σ 𝓟 q) (notesAt σ 𝓟 q) (handedIn σ (openedAt σ 𝓟 q) empty (𝓟 .calls q)) (placeIn σ joined q)
+    origin-at i q l b joined h =
+        origin σ (openedAt σ 𝓟 q) (history-at q b) (placeIn σ joined q) (𝓒 .unaltered i q l b joined h)
+
+    -- ---- round one
+    place-one : (i q : ℕ) → i < 𝓟 .servers → q < 𝓟 .servers → (id : ℕ) (joined : List ℕ) → Handed i joined
+        → IsOf 34 id q (placeIn σ joined q) → placeIn σ joined q ≡ messageOne σ (openedAt σ 𝓟 q) (firstAt id q)
+    place-one i q l b id joined h f = go (origin-at i q l b joined h)
+      where
+        go : Origin σ (openedAt σ 𝓟 q) (notesAt σ 𝓟 q) (handedIn σ (openedAt σ 𝓟 q) empty (𝓟 .calls q)) (placeIn σ joined q)
+            → placeIn σ joined q ≡ messageOne σ (openedAt σ 𝓟 q) (firstAt id q)
+        go (of-share n a e) =
+            let o = openedAt σ 𝓟 q in
+            let r : idIn (messageOne σ o (noted σ o n)) ≡ noted σ o n .id =
+            id-one σ o (noted σ o n) (rw (id-noted σ o n) (sound-at q b .ids-fit n a)) in
+            let same : n .id ≡ id = sym (id-noted σ o n) ∙ sym r ∙ ap idIn (sym e) ∙ f .id-is in
+            e ∙ ap (λ (v : Note). messageOne σ o (noted σ o v)) (sym (found id q b n a same))
+        go (of-one n a j k s e) =
+            let z : kindIn (placeIn σ joined q) ≡ 35 = ap kindIn e ∙ kind-two σ (openedAt σ 𝓟 q) _ in
+            absurd (omega (arith, f .kind-is))
+        go (of-close m e) =
+            let z : kindIn (placeIn σ joined q) ≡ σ .totalsByte = ap kindIn e ∙ kind-closing σ (openedAt σ 𝓟 q) m in
+            absurd (omega (arith, f .kind-is, facts .apart))
+
+    module _ (i : ℕ) (l : i < 𝓟 .servers) (id : ℕ) (joined : List ℕ) (h : Handed i joined)
+        (s : Joined σ (openedAt σ 𝓟 i) 34 id joined) where
+      first-sum : firstSum σ (𝓟 .servers) joined ≡ dAll id
+      unfolding firstSum
+      first-sum = sum-ext (modulo (σ .modulus)) (𝓟 .servers) _ _ (λ q b.
+          ap (firstIn σ) (place-one i q l b id joined h (s q b))
+          ∙ first-one σ facts (openedAt σ 𝓟 q) (firstAt id q) (d-below σ facts (openedAt σ 𝓟 q) (shareAt id q)))
+
+      second-sum : secondSum σ (𝓟 .servers) joined ≡ eAll id
+      unfolding secondSum
+      second-sum = sum-ext (modulo (σ .modulus)) (𝓟 .servers) _ _ (λ q b.
+          ap (secondIn σ) (place-one i q l b id joined h (s q b))
+          ∙ second-one σ facts (openedAt σ 𝓟 q) (firstAt id q) (e-below σ facts (openedAt σ 𝓟 q) (shareAt id q)))
+
+    -- ---- round two
+    record Second (joined : List ℕ) (id q : ℕ) : Type 0 where
+      is : placeIn σ joined q ≡ messageTwo σ (openedAt σ 𝓟 q) (secondAt id q)
+      of : Noted id q
+
+    place-two : (i q : ℕ) → i < 𝓟 .servers → q < 𝓟 .servers → (id : ℕ) (joined : List ℕ) → Handed i joined
+        → IsOf 35 id q (placeIn σ joined q) → Second joined id q
+    place-two i q l b id joined h f = go (origin-at i q l b joined h)
+      where
+        go : Origin σ (openedAt σ 𝓟 q) (notesAt σ 𝓟 q) (handedIn σ (openedAt σ 𝓟 q) empty (𝓟 .calls q)) (placeIn σ joined q)
+            → Second joined id q
+        go (of-share n a e) =
+            let z : kindIn (placeIn σ joined q) ≡ 34 = ap kindIn e ∙ kind-one σ (openedAt σ 𝓟 q) _ in
+            absurd (omega (arith, f .kind-is))
+        go (of-one n a j k s e) =
+            let o = openedAt σ 𝓟 q in
+            let w = withSums σ o (noted σ o n) (firstSum σ (𝓟 .servers) j) (secondSum σ (𝓟 .servers) j) in
+            let r : idIn (answerTo σ o n j) ≡ w .id =
+            id-two σ o w (rw (id-noted σ o n) (sound-at q b .ids-fit n a)) in
+            let same : n .id ≡ id = sym (id-noted σ o n) ∙ sym r ∙ ap idIn (sym e) ∙ f .id-is in
+            let s′ : Joined σ o 34 id j = subst (λ (v : ℕ). Joined σ o 34 v j) same s in
+            let d : firstSum σ (𝓟 .servers) j ≡ dAll id = first-sum q b id j k s′ in
+            let c : secondSum σ (𝓟 .servers) j ≡ eAll id = second-sum q b id j k s′ in
+            record {
+              is =
+                  e
+                  ∙ ap₂ (λ (x y : ℕ). messageTwo σ o (withSums σ o (noted σ o n) x y)) d c
+                  ∙ ap (λ (v : Note). messageTwo σ o (withSums σ o (noted σ o v) (dAll id) (eAll id)))
+                  (sym (found id q b n a same));
+              of = is-noted id q b n a same;
+            }
+        go (of-close m e) =
+            let z : kindIn (placeIn σ joined q) ≡ σ .totalsByte = ap kindIn e ∙ kind-closing σ (openedAt σ 𝓟 q) m in
+            absurd (omega (arith, f .kind-is, facts .apart))
+
+    both-zero : (i : ℕ) → i < 𝓟 .servers → (id : ℕ) (joined : List ℕ) → Handed i joined
+        → Joined σ (openedAt σ 𝓟 i) 35 id joined → bothZero σ (𝓟 .servers) joined ≡ verdictAll id
+    unfolding bothZero firstSum secondSum
+    both-zero i l id joined h s =
+        ap₂ (λ (x y : ℕ). eqb x 0 && eqb y 0)
+        (sum-ext (modulo (σ .modulus)) (𝓟 .servers) _ _ (λ q b.
+        ap (firstIn σ) (place-two i q l b id joined h (s q b) .is)
+        ∙ first-two σ facts (openedAt σ 𝓟 q) (secondAt id q)))
+        (sum-ext (modulo (σ .modulus)) (𝓟 .servers) _ _ (λ q b.
+        ap (secondIn σ) (place-two i q l b id joined h (s q b) .is)
+        ∙ second-two σ facts (openedAt σ 𝓟 q) (secondAt id q) (tau-below σ facts (openedAt σ 𝓟 q) (shareAt id q))))
+
+    -- ---- a return judged to the end
+    module _ (i : ℕ) (l : i < 𝓟 .servers) (k : Decided) (h : In k (ledgerAt σ 𝓟 i .decided))
+        (f : isDropped (k .decision) ≡ false) where
+      judgement : JudgedOn σ (openedAt σ 𝓟 i) (handedIn σ (openedAt σ 𝓟 i) empty (𝓟 .calls i)) k
+      judgement =
+          ⊎-elim (λ (q : In k []). absurd q) (λ q. q) (judged-on σ (openedAt σ 𝓟 i) (history-at i l) k h f)
+
+      pub agreed : isAccepted (k .decision) ≡ verdictAll (k .note .id)
+      agreed =
+          judgement .says ∙ both-zero i l (k .note .id) (judgement .joined) (judgement .handed) (judgement .sound)
+
+      pub noted-everywhere : (q : ℕ) → q < 𝓟 .servers → Noted (k .note .id) q
+      noted-everywhere q b =
+          place-two i q l b (k .note .id) (judgement .joined) (judgement .handed) (judgement .sound q b) .of

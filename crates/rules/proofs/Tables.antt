@@ -1,0 +1,12 @@
+-- Demand 3: the table's bytes tell what the ledger tells.
+pub mod Parts
+pub mod State
+pub mod Sound
+pub mod Writes
+pub mod Invariant
+pub mod WaitBytes
+pub mod Taken
+pub mod LedgerGrows
+pub mod Decided
+pub mod Run
+pub mod Opens

@@ -1,0 +1,156 @@
+-- A table as its parts, one behind another. Reading it at the places of the layout gives the parts back, since each part
+-- has the length that the layout says. Assumes nothing.
+use mathlib.Core.Path.{_≡_, refl, sym, ap, ap₂, _∙_}
+use mathlib.Core.Bool.{cond}
+use mathlib.Core.List.{List, [], _∷_, _++_, append-assoc}
+use Prim.Native.Nat.{ℕ, zero, suc, _+_, _*_, _≤_, _<_}
+use native.Mathlib.Omega.{arith}
+use lib.Dec.{eqb}
+use lib.ListN.{length, getD, take, drop, length-append, length-drop}
+use lib.Seq.{take-at, drop-at, take-append-le, drop-append-le, drop-drop, drop-append-add}
+use Rattle.words.specs.Bytes.{valueOf, bytesOf, part, splice, elementsOf}
+use Rattle.words.proofs.Numbers.{value-bytes, length-bytes}
+use Rattle.words.proofs.Splice.{part-of-drop}
+use Rattle.records.specs.Outcome.{ok}
+use Rattle.rules.specs.Settings.{Setting}
+use Rattle.rules.specs.Columns.{Column, readSheet, columnsOf, listIn, publishedIn}
+use Rattle.rules.specs.Judging.{shareSize}
+use Rattle.rules.specs.Server.{Opened, Waiting, Stage, idle, awaitsOne, awaitsTwo, closed, ServerState}
+use Rattle.rules.specs.Table.{totalsPlace, idsPlace, waitPlace, sharePlace, tableLength, waitingIn, stageIn, openedIn, tableState}
+use Rattle.rules.specs.Table.{serversIn, ownIn, returnsIn, decidedIn, acceptedIn, sheetSize, sheetIn, columnsIn}
+use Rattle.rules.specs.Table.{stageByte, totalsIn, idsIn, wordIn}
+
+pub record Parts : Type 0 where
+  pub stage : ℕ
+  pub servers : ℕ
+  pub own : ℕ
+  pub returns : ℕ
+  pub decided : ℕ
+  pub accepted : ℕ
+  pub sheet : List ℕ
+  pub totals : List ℕ
+  pub ids : List ℕ
+  pub wait : List ℕ
+  pub rest : List ℕ
+
+-- the first twelve bytes
+abbrev pub header : Setting → Parts → List ℕ
+header σ g =
+    σ .tableByte
+    ∷ g .stage
+    ∷ g .servers
+    ∷ g .own
+    ∷ (bytesOf 2 (g .returns) ++ (bytesOf 2 (g .decided) ++ (bytesOf 2 (g .accepted) ++ bytesOf 2 (length (g .sheet)))))
+
+abbrev pub body : Parts → List ℕ
+body g = g .sheet ++ (g .totals ++ (g .ids ++ (g .wait ++ g .rest)))
+
+unfoldable pub assemble : Setting → Parts → List ℕ
+assemble σ g = header σ g ++ body g
+
+-- the parts have the lengths of the layout, and the counts fit their bytes
+pub record Sized (σ : Setting) (cs : List Column) (g : Parts) : Type 0 where
+  pub reads : readSheet (g .sheet) ≡ ok cs
+  pub totals-long : length (g .totals) ≡ σ .width * publishedIn cs
+  pub ids-long : length (g .ids) ≡ 4 * g .returns
+  pub wait-long : length (g .wait) ≡ 4 + 6 * σ .width + σ .width * shareSize cs
+  pub returns-fit : g .returns < 65536
+  pub sheet-fits : length (g .sheet) < 65536
+  pub decided-few : g .decided ≤ g .returns
+  pub accepted-few : g .accepted ≤ g .decided
+
+-- a part within a list, by its place
+pub part-within : (a x b : List ℕ) (i n : ℕ) → i + n ≤ length x → part (length a + i) n (a ++ (x ++ b)) ≡ part i n x
+part-within a x b i n h =
+    ap (take n) (drop-append-add a (x ++ b) i ∙ drop-append-le i x b (omega arith))
+    ∙ take-append-le n (drop i x) b (rw length-drop (omega arith))
+
+module _ (σ : Setting) (cs : List Column) (g : Parts) (z : Sized σ cs g) where
+  abbrev T : List ℕ
+  T = assemble σ g
+
+  pub columns-are : columnsOf (g .sheet) ≡ cs
+  unfolding listIn
+  columns-are = ap listIn (z .reads)
+
+  pub size-is : sheetSize σ T ≡ length (g .sheet)
+  unfolding assemble bytesOf
+  size-is = value-bytes 2 (length (g .sheet)) (z .sheet-fits)
+
+  pub returns-are : returnsIn σ T ≡ g .returns
+  unfolding assemble bytesOf
+  returns-are = value-bytes 2 (g .returns) (z .returns-fit)
+
+  pub decided-are : decidedIn σ T ≡ g .decided
+  unfolding assemble bytesOf
+  decided-are = value-bytes 2 (g .decided) (omega (arith, z .decided-few, z .returns-fit))
+
+  pub accepted-are : acceptedIn σ T ≡ g .accepted
+  unfolding assemble bytesOf
+  accepted-are = value-bytes 2 (g .accepted) (omega (arith, z .decided-few, z .returns-fit, z .accepted-few))
+
+  -- behind the header
+  pub body-is : drop 12 T ≡ body g
+  unfolding assemble bytesOf
+  body-is = refl
+
+  part-body : (i n : ℕ) → part (12 + i) n T ≡ part i n (body g)
+  part-body i n = sym (part-of-drop i n 12 T) ∙ ap (part i n) body-is
+
+  pub sheet-is : sheetIn σ T ≡ g .sheet
+  sheet-is = ap (λ (k : ℕ). part 12 k T) size-is ∙ part-body 0 (length (g .sheet)) ∙ take-at (g .sheet) _ _ refl
+
+  pub columns-in : columnsIn σ T ≡ cs
+  columns-in = ap columnsOf sheet-is ∙ columns-are
+
+  -- a place of the layout, with what the header says put in
+  pub placed : {X : Type 0} (f : ℕ → List Column → ℕ → X)
+      → f (sheetSize σ T) (columnsIn σ T) (returnsIn σ T) ≡ f (length (g .sheet)) cs (g .returns)
+  placed f = λ i. f (size-is i) (columns-in i) (returns-are i)
+
+  pub part-totals : (i n : ℕ) → i + n ≤ length (g .totals)
+      → part (totalsPlace σ (length (g .sheet)) cs (g .returns) + i) n T ≡ part i n (g .totals)
+  unfolding totalsPlace
+  part-totals i n h =
+      ap (λ (k : ℕ). part k n T) (let e : 12 + length (g .sheet) + i ≡ 12 + (length (g .sheet) + i) = omega arith in e)
+      ∙ part-body (length (g .sheet) + i) n
+      ∙ part-within (g .sheet) (g .totals) (g .ids ++ (g .wait ++ g .rest)) i n h
+
+  -- where the ids and the return that waits begin, behind the header
+  pub ids-at : length (g .sheet ++ g .totals) ≡ length (g .sheet) + σ .width * publishedIn cs
+  ids-at = length-append (g .sheet) (g .totals) ∙ ap (length (g .sheet) +_) (z .totals-long)
+
+  pub wait-at : length (g .sheet ++ (g .totals ++ g .ids)) ≡ length (g .sheet) + (σ .width * publishedIn cs + 4 * g .returns)
+  wait-at =
+      length-append (g .sheet) (g .totals ++ g .ids)
+      ∙ ap (length (g .sheet) +_) (length-append (g .totals) (g .ids) ∙ ap₂ _+_ (z .totals-long) (z .ids-long))
+
+  pub ids-body : body g ≡ (g .sheet ++ g .totals) ++ (g .ids ++ (g .wait ++ g .rest))
+  ids-body = sym (append-assoc (g .sheet) (g .totals) (g .ids ++ (g .wait ++ g .rest)))
+
+  pub wait-body : body g ≡ (g .sheet ++ (g .totals ++ g .ids)) ++ (g .wait ++ g .rest)
+  wait-body =
+      ap (g .sheet ++_) (sym (append-assoc (g .totals) (g .ids) (g .wait ++ g .rest)))
+      ∙ sym (append-assoc (g .sheet) (g .totals ++ g .ids) (g .wait ++ g .rest))
+
+  pub part-ids : (i n : ℕ) → i + n ≤ length (g .ids)
+      → part (idsPlace σ (length (g .sheet)) cs (g .returns) + i) n T ≡ part i n (g .ids)
+  unfolding idsPlace
+  part-ids i n h =
+      let e : 12 + length (g .sheet) + σ .width * publishedIn cs + i ≡ 12 + (length (g .sheet ++ g .totals) + i)
+      = omega (arith, ids-at) in
+      ap (λ (k : ℕ). part k n T) e
+      ∙ part-body (length (g .sheet ++ g .totals) + i) n
+      ∙ ap (part (length (g .sheet ++ g .totals) + i) n) ids-body
+      ∙ part-within (g .sheet ++ g .totals) (g .ids) (g .wait ++ g .rest) i n h
+
+  pub part-wait : (i n : ℕ) → i + n ≤ length (g .wait)
+      → part (waitPlace σ (length (g .sheet)) cs (g .returns) + i) n T ≡ part i n (g .wait)
+  unfolding waitPlace
+  part-wait i n h =
+      let e : 12 + length (g .sheet) + σ .width * publishedIn cs + 4 * g .returns + i
+      ≡ 12 + (length (g .sheet ++ (g .totals ++ g .ids)) + i) = omega (arith, wait-at) in
+      ap (λ (k : ℕ). part k n T) e
+      ∙ part-body (length (g .sheet ++ (g .totals ++ g .ids)) + i) n
+      ∙ ap (part (length (g .sheet ++ (g .totals ++ g .ids)) + i) n) wait-body
+      ∙ part-within (g .sheet ++ (g .totals ++ g .ids)) (g .wait) (g .rest) i n h

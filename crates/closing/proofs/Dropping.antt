@@ -9,6 +9,7 @@ use Rattle.records.specs.Outcome.{orElse}
 use Rattle.rules.specs.Settings.{document01}
 use Rattle.rules.specs.Columns.{within}
 use Rattle.rules.specs.Server.{dropRefusal}
+use Rattle.rules.specs.Judging.{shareSize}
 use Rattle.rules.specs.Table.{stageByte, waitingIn, stageIn, tableState, tableFault, decidedTable, dropRefused, dropTable, idsPlace, waitPlace}
 use Rattle.rules.proofs.Circuits.Limits.{within-both}
 use Rattle.layout.specs.Places.{waitAt}
@@ -36,7 +37,7 @@ module _ (T : List ℕ) where
 
   done-at : tableFault document01 T ≡ 0 → within 1 2 (tableOf T .stage) ≡ true
       → Drops T 0 (decidedAs (tableOf T) 0 (valueOf (part (waitAt (tableOf T .sheet) (tableOf T .published) (tableOf T .returns)) 4 T)) T)
-  unfolding dropRefused orElse dropRefusal tableState stageIn tableOf onlyIf dropTable decidedTable decidedAs idsPlace waitPlace
+  unfolding dropRefused orElse dropRefusal tableState stageIn tableOf onlyIf dropTable decidedTable decidedAs idsPlace waitPlace shareSize
   done-at f w =
       let b = stageByte document01 T in
       let r : dropRefused document01 T ≡ 0 = rw f (one-waits b (waitingIn document01 T) (within-both 1 2 b w)) in

@@ -12,8 +12,8 @@ use Rattle.words.proofs.Splice.{length-splice}
 use Rattle.words.proofs.Loops.{sets-splice, grow, copy-next}
 use Rattle.message.specs.Totals.{totalsHeader}
 use Rattle.message.proofs.Writing.{length-totals-header}
-use Rattle.layout.specs.Places.{totalsAt, idsAt}
-use Rattle.layout.specs.Writing.{startBytes, decidedAs, closingBytes}
+use Rattle.layout.specs.Places.{totalsAt, idsAt, waitAt, keptAt, sizeOf}
+use Rattle.layout.specs.Writing.{startBytes, erased, decidedAs, closingBytes}
 use Rattle.layout.specs.declared.Table.{Table}
 
 -- ---- cleared bytes
@@ -56,13 +56,15 @@ start-written s servers own returns n h =
 -- ---- a decided return
 pub decided-written : (k : Table) (accepted id : ℕ) (t : List ℕ) → 12 ≤ length t
     → idsAt (k .sheet) (k .published) + 4 * k .decided + 4 ≤ length t
+    → waitAt (k .sheet) (k .published) (k .returns) + keptAt (sizeOf (k .entries) (k .gates)) ≤ length t
     → set
+    (erased k
     (splice
     (splice (splice t 6 (bytesOf 2 (k .decided + 1))) 8 (bytesOf 2 (k .accepted + accepted)))
-    (idsAt (k .sheet) (k .published) + 4 * k .decided) (bytesOf 4 id)) 1 0
+    (idsAt (k .sheet) (k .published) + 4 * k .decided) (bytesOf 4 id))) 1 0
     ≡ decidedAs k accepted id t
 unfolding decidedAs
-decided-written k accepted id t h room =
+decided-written k accepted id t h room kept =
     let at = idsAt (k .sheet) (k .published) + 4 * k .decided in
     let counts : List ℕ = bytesOf 2 (k .decided + 1) ++ bytesOf 2 (k .accepted + accepted) in
     let two : length (bytesOf 2 (k .decided + 1)) ≡ 2 = length-bytes 2 (k .decided + 1) in
@@ -71,8 +73,12 @@ decided-written k accepted id t h room =
     let l : length (splice t 6 counts) ≡ length t = length-splice t 6 counts (omega arith) in
     let noted : List ℕ = splice (splice t 6 counts) at (bytesOf 4 id) in
     let m : length noted ≡ length (splice t 6 counts) = length-splice (splice t 6 counts) at (bytesOf 4 id) (omega arith) in
+    let place = waitAt (k .sheet) (k .published) (k .returns) in
+    let zeros : List ℕ = replicate (keptAt (sizeOf (k .entries) (k .gates))) 0 in
+    let z : length zeros ≡ keptAt (sizeOf (k .entries) (k .gates)) = length-replicate (keptAt (sizeOf (k .entries) (k .gates))) 0 in
+    let n : length (splice noted place zeros) ≡ length noted = length-splice noted place zeros (omega arith) in
     rw (grow t 6 (bytesOf 2 (k .decided + 1)) (bytesOf 2 (k .accepted + accepted)) 2 two (omega arith))
-    (sets-splice noted 1 (0 ∷ []) (omega arith))
+    (sets-splice (erased k noted) 1 (0 ∷ []) (omega arith))
 
 -- ---- the closing message
 pub closing-written : (k : Table) (t out : List ℕ) → 6 ≤ length out

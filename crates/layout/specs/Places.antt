@@ -18,6 +18,10 @@ shareAt n published returns = 12 + n + 4 * published + 4 * returns + 4 + 24
 abbrev pub lengthAt : ℕ → ℕ → ℕ → ℕ → ℕ
 lengthAt n published returns size = 12 + n + 4 * published + 4 * returns + 4 + 24 + 4 * size
 
+-- the bytes kept for a return that waits: its id, six numbers and a share of so many elements
+abbrev pub keptAt : ℕ → ℕ
+keptAt size = 28 + 4 * size
+
 -- the elements of a share, from the entries and the multiplications
 abbrev pub sizeOf : ℕ → ℕ → ℕ
 sizeOf entries gates = entries + (gates + gates) + 6

@@ -1,7 +1,7 @@
 // The places of a table, by plain numbers: the length of the sheet, the published entries and N.
 ghost use mathlib.Core.Path.{_≡_};
 ghost use Prim.Native.Nat.{_≤_};
-ghost use Rattle.layout.specs.Places.{totalsAt, idsAt, waitAt, shareAt, lengthAt, sizeOf, Small};
+ghost use Rattle.layout.specs.Places.{totalsAt, idsAt, waitAt, shareAt, keptAt, lengthAt, sizeOf, Small};
 
 // The totals stand behind the sheet.
 pub fn totals_place(n: usize) -> usize
@@ -41,6 +41,14 @@ pub fn share_size(entries: usize, gates: usize) -> usize
     ensures { λ r. ⌜ r ≡ sizeOf entries gates ⌝ }
 {
     entries + (gates + gates) + 6
+}
+
+// The bytes kept for a return that waits: its id, six numbers and its share.
+pub fn kept_length(size: usize) -> usize
+    requires { ⌜ size ≤ 774 ⌝ }
+    ensures { λ r. ⌜ r ≡ keptAt size ⌝ }
+{
+    28 + 4 * size
 }
 
 // The table's length.

@@ -3,10 +3,14 @@ ghost use mathlib.Core.Path.{_≡_};
 ghost use Prim.Native.Nat.{_+_, _≤_};
 ghost use lib.ListN.{length, replicate};
 ghost use Rattle.words.specs.Bytes.{splice};
-ghost use Rattle.layout.specs.Writing.{startBytes, decidedAs, Decidable, closingBytes, Closable};
+ghost use Rattle.layout.specs.Writing.{startBytes, erased, decidedAs, Decidable, closingBytes, Closable};
+ghost use Rattle.layout.specs.Numbers.{Whole};
 use crate::Table;
 use crate::places::ids_place;
+use crate::places::kept_length;
+use crate::places::share_size;
 use crate::places::totals_place;
+use crate::places::wait_place;
 
 // Clears n bytes from `at`.
 pub fn clear(t: &mut [u8], at: usize, n: usize)
@@ -35,7 +39,20 @@ pub fn write_start(t: &mut [u8], servers: u8, own: u8, returns: u32, n: u32)
     words::write_u16(t, 10, n);
 }
 
-// Notes that the return that waits is decided: the counts, its id, and the stage.
+// Erases what is kept of the return that waits.
+fn erase(t: &mut [u8], k: Table)
+    requires { ⌜ Whole (now t) k ⌝ }
+    ensures { λ _. ⌜ now (t .exit) ≡ erased k (now (t .entry)) ⌝ }
+{
+    let size = share_size(k.entries, k.gates);
+    clear(
+        t,
+        wait_place(k.sheet, k.published, k.returns),
+        kept_length(size),
+    );
+}
+
+// Notes that the return that waits is decided: the counts, its id, and the stage; nothing else of it is kept.
 pub fn decide(t: &mut [u8], k: Table, accepted: u32, id: u32)
     requires { ⌜ Decidable (now t) k × (accepted ≤ 1) ⌝ }
     ensures { λ _. ⌜ now (t .exit) ≡ decidedAs k accepted id (now (t .entry)) ⌝ }
@@ -48,6 +65,7 @@ pub fn decide(t: &mut [u8], k: Table, accepted: u32, id: u32)
         ids_place(k.sheet, k.published) + 4 * (decided as usize),
         id,
     );
+    erase(t, k);
     t[1] = 0;
 }
 

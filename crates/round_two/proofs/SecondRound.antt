@@ -15,7 +15,8 @@ use Rattle.rules.specs.Columns.{within}
 use Rattle.rules.specs.Messages.{roundFault, roundMessage, firstSum, secondSum, bothZero}
 use Rattle.rules.specs.Server as rules
 use Rattle.rules.specs.Server.{whileTwo, twoRefusal, messageTwo, sigmaIn}
-use Rattle.rules.specs.Table.{stageByte, serversIn, ownIn, openedIn, waitingIn, stageIn, tableState, tableFault, idsPlace}
+use Rattle.rules.specs.Judging.{shareSize}
+use Rattle.rules.specs.Table.{stageByte, serversIn, ownIn, openedIn, waitingIn, stageIn, tableState, tableFault, idsPlace, waitPlace}
 use Rattle.rules.specs.Table.{decidedTable, twoRefused, twoVerdict, twoTable}
 use Rattle.rules.proofs.Circuits.Limits.{within-is}
 use Rattle.message.proofs.Rounds.{rounds-summable}
@@ -58,7 +59,7 @@ module _ (servers : ℕ) (joined : List ℕ) (x : ℕ) (e : x ≡ firstSum docum
 -- ---- what the verdict does to the table
 decided-at : (T t : List ℕ) (accepted : ℕ)
     → decidedAs (tableOf T) accepted (waitingIn document01 T .id) t ≡ decidedTable document01 T accepted t
-unfolding decidedAs decidedTable tableOf idsPlace
+unfolding decidedAs decidedTable tableOf idsPlace waitPlace shareSize
 decided-at T t accepted = refl
 
 verdict-at : (T joined : List ℕ) → bothZero document01 (tableOf T .servers) joined ≡ twoVerdict document01 T joined

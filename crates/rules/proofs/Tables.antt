@@ -10,3 +10,4 @@ pub mod LedgerGrows
 pub mod Decided
 pub mod Run
 pub mod Opens
+pub mod Erased

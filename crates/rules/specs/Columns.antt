@@ -111,14 +111,20 @@ unfoldable pub totalsFit : Setting → ℕ → List Column → Bool
 totalsFit σ n cs = every (λ c. ltb (n * largestOf c) (σ .modulus)) cs
 
 -- S from 2 to 8; a server's number below S; N from 1 to 1,024: else 2
+abbrev pub serversFit : ℕ → Bool
+serversFit servers = within 2 8 servers
+
+abbrev pub returnsFit : ℕ → Bool
+returnsFit n = within 1 1024 n
+
 abbrev pub serversFault : ℕ → ℕ
-serversFault servers = check (within 2 8 servers) 2
+serversFault servers = check (serversFit servers) 2
 
 abbrev pub ownFault : ℕ → ℕ → ℕ
 ownFault servers own = check (ltb own servers) 2
 
 abbrev pub returnsFault : ℕ → ℕ
-returnsFault n = check (within 1 1024 n) 2
+returnsFault n = check (returnsFit n) 2
 
 abbrev pub totalsFault : Setting → ℕ → List Column → ℕ
 totalsFault σ n cs = check (totalsFit σ n cs) 4

@@ -17,9 +17,10 @@
 --   then           6 w     its r, s, d, e, r × h(r) and tau
 --   then           w E     its share, E = L + 2M + 6 elements
 --
--- While a return waits there is room for its id: the returns decided are fewer than N.
+-- While a return waits there is room for its id: the returns decided are fewer than N. Where none waits, the bytes kept for
+-- one (the last three lines) are 0: opening writes them so, and a return that is decided leaves nothing but its id.
 -- A longer slice holds a table too; what lies past the table is never read and never written. Free within a table, and no
--- fault: the ids past those decided; the return that waits, where none does; which ids were decided; and whether d, e,
+-- fault: the ids past those decided; the bytes kept for a return, where none waits; which ids were decided; and whether d, e,
 -- r × h(r) and tau are what the share gives. Opening and the calls after it make them so.
 -- Assumes nothing.
 use mathlib.Core.Bool.{Bool, true, false, cond, _&&_, _||_, not}
@@ -32,12 +33,16 @@ use Rattle.algebra.specs.Modulo.{modulo}
 use Rattle.words.specs.Bytes.{valueOf, bytesOf, bytesOfAll, part, splice, elementsOf, allBelow}
 use Rattle.records.specs.Outcome.{orElse}
 use Rattle.rules.specs.Settings.{Setting}
-use Rattle.rules.specs.Columns.{Column, check, within, publishedIn, sheetFault, columnsOf, totalsFit}
+use Rattle.rules.specs.Columns.{Column, check, within, serversFit, returnsFit, publishedIn, sheetFault, columnsOf, totalsFit}
 use Rattle.rules.specs.Judging.{shareSize, allowedPair}
 use Rattle.rules.specs.Messages.{idIn, shareElements, bothZero}
 use Rattle.rules.specs.Server.{Opened, Waiting, Stage, idle, awaitsOne, awaitsTwo, closed, ServerState, openFault, waitingOf}
 use Rattle.rules.specs.Server.{messageOne, messageTwo, summed, publishedShares, totalsMessage}
 use Rattle.rules.specs.Server.{shareRefusal, oneRefusal, twoRefusal, dropRefusal, closeRefusal}
+
+-- the bytes kept for a return that waits: its id, six numbers and its share
+abbrev pub waitLength : Setting → List Column → ℕ
+waitLength σ cs = 4 + 6 * σ .width + σ .width * shareSize cs
 
 -- places that depend on the length n of the sheet, its columns and N
 module _ (σ : Setting) (n : ℕ) (cs : List Column) (returns : ℕ) where
@@ -122,15 +127,19 @@ module _ (σ : Setting) (T : List ℕ) where
   abbrev pub waits : Bool
   waits = within 1 2 stageByte
 
+  -- the bytes kept for a return that waits
+  abbrev pub keptIn : List ℕ
+  keptIn = part (waitPlace σ sheetSize columnsIn returnsIn) (waitLength σ columnsIn) T
+
   -- "11: a table whose length, stage, counts, sheet, numbers or elements break the limits above"
   unfoldable pub headerSound : Bool
   headerSound =
       leb 12 (length T)
       && (eqb (getD T 0 0) (σ .tableByte)
       && (leb stageByte 3
-      && (within 2 8 serversIn
+      && (serversFit serversIn
       && (ltb ownIn serversIn
-      && (within 1 1024 returnsIn
+      && (returnsFit returnsIn
       && (leb (12 + sheetSize) (length T) && eqb (sheetFault sheetIn) 0))))))
 
   unfoldable pub countsSound : Bool
@@ -209,14 +218,16 @@ module _ (σ : Setting) (T : List ℕ) where
   unfoldable pub oneBytes : List ℕ → List ℕ
   oneBytes joined = messageTwo σ (openedIn σ T) (oneTaken joined)
 
-  -- the return that waits is decided: its id is noted and the table is idle
+  -- the return that waits is decided: its id is noted, nothing else of it is kept, and the table is idle
   unfoldable pub decidedTable : ℕ → List ℕ → List ℕ
   decidedTable accepted t =
       staged 0
       (splice
+      (splice
       (splice t 6 (bytesOf 2 (decidedIn σ T + 1) ++ bytesOf 2 (acceptedIn σ T + accepted)))
       (idsPlace σ (sheetSize σ T) (columnsIn σ T) (returnsIn σ T) + 4 * decidedIn σ T)
       (bytesOf 4 (waitingIn σ T .id)))
+      waitAt (replicate (waitLength σ (columnsIn σ T)) 0))
 
   -- "Then the published entries are added to the totals."
   unfoldable pub addedTotals : List ℕ

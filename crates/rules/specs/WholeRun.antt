@@ -6,7 +6,7 @@ use mathlib.Core.Bool.{Bool, true, false, cond}
 use mathlib.Core.List.{List, [], _∷_, _++_, map}
 use Prim.Native.Nat.{ℕ, zero, suc, _+_, _-_, _*_, _%_, _≤_, _<_, max}
 use lib.Dec.{eqb, leb}
-use lib.ListN.{length, getD}
+use lib.ListN.{length, getD, replicate}
 use Rattle.algebra.specs.Lists.{All, In, Distinct, Rearranged, sumOver, tabulate}
 use Rattle.algebra.specs.Modulo.{modulo}
 use Rattle.algebra.specs.Count.{countPairs}
@@ -20,13 +20,13 @@ use Rattle.rules.specs.Judging.{shareSize, addedUp, letsIn, allowedPair}
 use Rattle.rules.specs.Making.{madeShare, randomCount, shareMessage}
 use Rattle.rules.specs.Messages.{placeIn, roundLength}
 use Rattle.rules.specs.Server.{Opened, Waiting, waitingOf, messageOne, messageTwo, summed}
-use Rattle.rules.specs.Table.{openRefusal}
+use Rattle.rules.specs.Table.{openRefusal, waitLength, waits, keptIn}
 use Rattle.rules.specs.Joining.{joinRefusal, joinCount, joinTotals}
 use Rattle.rules.specs.Ledger.{Call, share, roundOne, roundTwo, drop, close, Answer, refused, wrote, judged, done}
 use Rattle.rules.specs.Ledger.{Note, Progress, isIdle, waitsOne, waitsTwo, isClosed, Decided, Ledger, empty}
 use Rattle.rules.specs.Ledger.{isAccepted, isDropped, notesWith, idsOf, notesOf, refusalOf, ledgerStep, runLedger, ledgerAnswers}
 use Rattle.rules.specs.Ledger.{closingMessage}
-use Rattle.rules.specs.Runs.{openedTable, tableAnswers}
+use Rattle.rules.specs.Runs.{openedTable, runTable, tableAnswers}
 
 -- the bytes of a call are bytes
 abbrev pub Bytes : List ℕ → Type 0
@@ -241,3 +241,7 @@ pub record WholeRun (σ : Setting) (𝓟 : Pool σ) : Type 0 where
       ∷ wrote (messageTwo σ (openedAt σ 𝓟 i) (secondWait σ 𝓟 id shares r s i))
       ∷ judged (letsIn σ (columns σ 𝓟) (𝓟 .servers) (λ j e. getD (shares j) e 0) r s)
       ∷ []
+  -- 9. A decided return leaves nothing behind but its id: where no return waits, the bytes kept for one are all 0. No
+  -- condition is needed
+  pub erased : (i : ℕ) → i < 𝓟 .servers → waits σ (runTable σ (tableAt σ 𝓟 i) (𝓟 .calls i)) ≡ false
+      → keptIn σ (runTable σ (tableAt σ 𝓟 i) (𝓟 .calls i)) ≡ replicate (waitLength σ (columns σ 𝓟)) 0

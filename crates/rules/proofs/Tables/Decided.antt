@@ -5,47 +5,53 @@ use mathlib.Core.List.{List, [], _∷_, _++_, map, append-nil}
 use Prim.Native.Nat.{ℕ, zero, suc, _+_, _*_, _%_, _^_, _≤_, _<_}
 use native.Mathlib.Nat.{mod-lt, add-zero}
 use native.Mathlib.Omega.{arith}
-use lib.ListN.{length, getD, take, length-append, length-map}
+use lib.ListN.{length, getD, take, replicate, length-append, length-map, length-replicate}
 use Rattle.algebra.specs.Lists.{All, all[], all∷, tabulate, sumOver}
 use Rattle.algebra.specs.Modulo.{modulo}
 use Rattle.algebra.proofs.Members.{all-map, all-tabulate}
 use Rattle.algebra.proofs.Tables.{length-tabulate, tabulate-cong}
 use Rattle.words.specs.Bytes.{bytesOf, bytesOfAll, splice, elementsOf, allBelow}
 use Rattle.words.proofs.Numbers.{length-bytes}
-use Rattle.words.proofs.Splice.{length-splice}
+use Rattle.words.proofs.Splice.{length-splice, splice-all}
 use Rattle.words.proofs.Elements.{length-bytes-all, elements-bytes}
 use Rattle.words.proofs.Below.{below-of-all}
 use Rattle.rules.specs.Settings.{Setting, Facts}
 use Rattle.rules.specs.Columns.{Column, publishedIn, publishedFrom}
 use Rattle.rules.specs.Messages.{bothZero}
 use Rattle.rules.specs.Server.{Opened, Waiting, publishedShares}
-use Rattle.rules.specs.Table.{idsPlace, totalsPlace, sheetSize, columnsIn, returnsIn}
+use Rattle.rules.specs.Table.{waitLength, idsPlace, totalsPlace, waitPlace, sheetSize, columnsIn, returnsIn}
 use Rattle.rules.specs.Table.{decidedTable, addedTotals}
 use Rattle.rules.specs.Ledger.{Note, Progress, isIdle, isClosed, Decision, accepted, rejected, dropped, Decided, Ledger}
 use Rattle.rules.specs.Ledger.{isAccepted, notesWith, idsOf, notesOf, ledgerTotals}
 use Rattle.rules.proofs.Histories.MessageBytes.{width-positive}
 use Rattle.rules.proofs.Tables.Parts.{Parts, Sized, assemble, placed, columns-in, decided-are, accepted-are}
 use Rattle.rules.proofs.Tables.State.{waitingAt, opened-is, waiting-is, totals-are}
-use Rattle.rules.proofs.Tables.Writes.{setStage, setCounts, setRuns, put-stage, put-counts, put-totals, put-ids}
+use Rattle.rules.proofs.Tables.Writes.{setStage, setCounts, setRuns, put-stage, put-counts, put-totals, put-ids, put-wait}
 use Rattle.rules.proofs.Tables.Invariant.{NoteFits, Staged, Beside, positive}
 use Rattle.rules.proofs.Tables.Taken.{fits-bytes, opened-o}
 use Rattle.rules.proofs.Tables.WaitBytes.{id-noted}
 use Rattle.rules.proofs.Tables.LedgerGrows.{decidedAs, notes-grow, ids-grow, count-grows, totals-grow}
 
 module _ (σ : Setting) (cs : List Column) (g : Parts) (z : Sized σ cs g) where
-  -- the parts with a return more decided, counted a more times as accepted, and the totals t
+  abbrev zeros : List ℕ
+  zeros = replicate (waitLength σ cs) 0
+
+  -- the parts with a return more decided, counted a more times as accepted, and the totals t; nothing waits
   abbrev pub decidedParts : ℕ → List ℕ → ℕ → Parts
   decidedParts a t id =
       setStage 0
-      (setRuns t (splice (g .ids) (4 * g .decided) (bytesOf 4 id)) (g .wait) (setCounts (g .decided + 1) (g .accepted + a) g))
+      (setRuns t (splice (g .ids) (4 * g .decided) (bytesOf 4 id)) zeros (setCounts (g .decided + 1) (g .accepted + a) g))
 
   module _ (a : ℕ) (t : List ℕ) (same : length t ≡ length (g .totals)) (one : a ≤ 1) (room : g .decided < g .returns) where
-    counted : Sized σ cs (setCounts (g .decided + 1) (g .accepted + a) (setRuns t (g .ids) (g .wait) g))
-    counted = record {
+    abbrev longer : List ℕ → List ℕ → Parts
+    longer ids wait = setCounts (g .decided + 1) (g .accepted + a) (setRuns t ids wait g)
+
+    longer-sized : (ids wait : List ℕ) → length ids ≡ length (g .ids) → length wait ≡ length (g .wait) → Sized σ cs (longer ids wait)
+    longer-sized ids wait l m = record {
       reads = z .reads;
       totals-long = same ∙ z .totals-long;
-      ids-long = z .ids-long;
-      wait-long = z .wait-long;
+      ids-long = l ∙ z .ids-long;
+      wait-long = m ∙ z .wait-long;
       returns-fit = z .returns-fit;
       sheet-fits = z .sheet-fits;
       decided-few = omega arith;
@@ -55,41 +61,68 @@ module _ (σ : Setting) (cs : List Column) (g : Parts) (z : Sized σ cs g) where
     inside : 4 * g .decided + 4 ≤ length (g .ids)
     inside = omega (arith, z .ids-long)
 
-    id-inside : (id : ℕ) → 4 * g .decided + length (bytesOf 4 id) ≤ length (g .ids)
-    id-inside id = omega (arith, length-bytes 4 id, inside)
+    zeros-long : length zeros ≡ length (g .wait)
+    zeros-long = length-replicate (waitLength σ cs) 0 ∙ sym (z .wait-long)
 
-    pub decided-sized : (id : ℕ) → Sized σ cs (decidedParts a t id)
-    decided-sized id = record {
-      reads = z .reads;
-      totals-long = same ∙ z .totals-long;
-      ids-long = length-splice (g .ids) (4 * g .decided) (bytesOf 4 id) (id-inside id) ∙ z .ids-long;
-      wait-long = z .wait-long;
-      returns-fit = z .returns-fit;
-      sheet-fits = z .sheet-fits;
-      decided-few = omega arith;
-      accepted-few = omega (arith, z .accepted-few);
-    }
+    module _ (id : ℕ) where
+      abbrev noted : List ℕ
+      noted = splice (g .ids) (4 * g .decided) (bytesOf 4 id)
+
+      id-inside : 4 * g .decided + length (bytesOf 4 id) ≤ length (g .ids)
+      id-inside = omega (arith, length-bytes 4 id, inside)
+
+      noted-long : length noted ≡ length (g .ids)
+      noted-long = length-splice (g .ids) (4 * g .decided) (bytesOf 4 id) id-inside
+
+      pub decided-sized : Sized σ cs (decidedParts a t id)
+      decided-sized = let s = longer-sized noted zeros noted-long zeros-long in record {
+        reads = s .reads;
+        totals-long = s .totals-long;
+        ids-long = s .ids-long;
+        wait-long = s .wait-long;
+        returns-fit = s .returns-fit;
+        sheet-fits = s .sheet-fits;
+        decided-few = s .decided-few;
+        accepted-few = s .accepted-few;
+      }
+
+      -- counts, id and zeros put one after another
+      put-decided : (u : List ℕ) → u ≡ assemble σ (setRuns t (g .ids) (g .wait) g)
+          → splice
+          (splice
+          (splice u 6 (bytesOf 2 (g .decided + 1) ++ bytesOf 2 (g .accepted + a)))
+          (idsPlace σ (length (g .sheet)) cs (g .returns) + 4 * g .decided) (bytesOf 4 id))
+          (waitPlace σ (length (g .sheet)) cs (g .returns)) zeros
+          ≡ assemble σ (longer noted zeros)
+      put-decided u e =
+          let place = waitPlace σ (length (g .sheet)) cs (g .returns) in
+          let counts : splice u 6 (bytesOf 2 (g .decided + 1) ++ bytesOf 2 (g .accepted + a)) ≡ assemble σ (longer (g .ids) (g .wait)) =
+          ap (λ (v : List ℕ). splice v 6 (bytesOf 2 (g .decided + 1) ++ bytesOf 2 (g .accepted + a))) e
+          ∙ put-counts σ (setRuns t (g .ids) (g .wait) g) (g .decided + 1) (g .accepted + a) in
+          let ids = put-ids σ cs (longer (g .ids) (g .wait)) (longer-sized (g .ids) (g .wait) refl refl) (4 * g .decided) (bytesOf 4 id)
+          id-inside in
+          ap (λ (v : List ℕ). splice v place zeros)
+          (ap (λ (v : List ℕ). splice v (idsPlace σ (length (g .sheet)) cs (g .returns) + 4 * g .decided) (bytesOf 4 id)) counts ∙ ids)
+          ∙ ap (λ (k : ℕ). splice (assemble σ (longer noted (g .wait))) k zeros) (sym (add-zero place))
+          ∙ put-wait σ cs (longer noted (g .wait)) (longer-sized noted (g .wait) noted-long refl) 0 zeros (omega (arith, zeros-long))
+          ∙ ap (λ (w : List ℕ). assemble σ (longer noted w)) (splice-all (g .wait) zeros zeros-long)
 
     pub decided-parts : decidedTable σ (assemble σ g) a (assemble σ (setRuns t (g .ids) (g .wait) g))
         ≡ assemble σ (decidedParts a t (waitingAt σ cs (g .wait) .id))
     unfolding decidedTable
     decided-parts =
-        let T = assemble σ g in
         let u = assemble σ (setRuns t (g .ids) (g .wait) g) in
         let id = waitingAt σ cs (g .wait) .id in
-        let place = idsPlace σ (length (g .sheet)) cs (g .returns) in
         (λ i.
         splice
+        (splice
         (splice
         (splice u 6 (bytesOf 2 (decided-are σ cs g z i + 1) ++ bytesOf 2 (accepted-are σ cs g z i + a)))
         (placed σ cs g z (idsPlace σ) i + 4 * decided-are σ cs g z i)
         (bytesOf 4 (waiting-is σ cs g z i .id)))
+        (placed σ cs g z (waitPlace σ) i) (replicate (waitLength σ (columns-in σ cs g z i)) 0))
         1 (0 ∷ []))
-        ∙ ap (λ (v : List ℕ). splice v 1 (0 ∷ []))
-        (ap (λ (v : List ℕ). splice v (place + 4 * g .decided) (bytesOf 4 id))
-        (put-counts σ (setRuns t (g .ids) (g .wait) g) (g .decided + 1) (g .accepted + a))
-        ∙ put-ids σ cs (setCounts (g .decided + 1) (g .accepted + a) (setRuns t (g .ids) (g .wait) g)) counted (4 * g .decided)
-        (bytesOf 4 id) (id-inside id))
+        ∙ ap (λ (v : List ℕ). splice v 1 (0 ∷ [])) (put-decided id u refl)
         ∙ put-stage σ _ 0
 
 module _ (σ : Setting) (facts : Facts σ) (o : Opened) (sheet : List ℕ)
@@ -143,7 +176,7 @@ module _ (σ : Setting) (facts : Facts σ) (o : Opened) (sheet : List ℕ)
       used-are = used d;
       totals-are = are;
       totals-below = below;
-      staged = refl;
+      staged = (refl, refl);
       room = omega (arith, count-grows ds n d);
     }
 

@@ -8,7 +8,7 @@ use native.Mathlib.Nat.{mod-lt}
 use native.Mathlib.Omega.{arith}
 use borrow.Author.Tests.{ltb-true, leb-true, lt-ltb}
 use lib.Dec.{eqb, leb, ltb}
-use lib.ListN.{length, getD, take, drop}
+use lib.ListN.{length, getD, take, drop, replicate}
 use Rattle.algebra.specs.Lists.{All, all[], all∷, tabulate}
 use Rattle.algebra.specs.Modulo.{modulo}
 use Rattle.algebra.specs.Sums.{sum}
@@ -21,7 +21,7 @@ use Rattle.rules.specs.Columns.{Column, within, readSheet, totalsFit, pu
 use Rattle.rules.specs.Circuit.{gatesIn}
 use Rattle.rules.specs.Judging.{shareSize, allowedPair, dOf, eOf, hAt, tauOf, folded}
 use Rattle.rules.specs.Server.{Opened, Waiting, Stage, ServerState, waitingOf}
-use Rattle.rules.specs.Table.{tableState, tableFault}
+use Rattle.rules.specs.Table.{waitLength, tableState, tableFault}
 use Rattle.rules.specs.Ledger.{Note, Progress, isIdle, waitsOne, waitsTwo, isClosed, Ledger, isAccepted, notesWith, idsOf}
 use Rattle.rules.specs.Ledger.{notesOf, noted, withSums, ledgerStage, ledgerState, ledgerTotals}
 use Rattle.rules.proofs.Tables.Parts.{Parts, Sized, assemble}
@@ -50,9 +50,13 @@ waitingNumber (waitsTwo n d e) = 1
 waitingNumber isClosed = 0
 
 module _ (σ : Setting) (o : Opened) where
+  -- no return waits: the bytes kept for one are 0
+  abbrev pub Erased : List ℕ → Type 0
+  Erased wait = wait ≡ replicate (waitLength σ (o .columns)) 0
+
   -- the stage byte and the bytes of the return that waits say how far the ledger is
   abbrev pub Staged : Progress → ℕ → List ℕ → Type 0
-  Staged isIdle b wait = b ≡ 0
+  Staged isIdle b wait = (b ≡ 0) × Erased wait
   Staged (waitsOne n) b wait = (b ≡ 1) × (waitingAt σ (o .columns) wait ≡ noted σ o n) × NoteFits σ (o .columns) n
   Staged (waitsTwo n d e) b wait =
       (b ≡ 2)
@@ -60,7 +64,7 @@ module _ (σ : Setting) (o : Opened) where
       × NoteFits σ (o .columns) n
       × (d < σ .modulus)
       × (e < σ .modulus)
-  Staged isClosed b wait = b ≡ 3
+  Staged isClosed b wait = (b ≡ 3) × Erased wait
 
   pub record Beside (sheet T : List ℕ) (l : Ledger) : Type 0 where
     pub parts : Parts
@@ -149,24 +153,26 @@ module _ (σ : Setting) (facts : Facts σ) where
   module _ (o : Opened) (sheet : List ℕ) (open-facts : Opens σ o sheet) where
     staged-sound : (q : Progress) (b : ℕ) (wait : List ℕ) → Staged σ o q b wait → within 1 2 b ≡ true
         → WaitSound σ (o .columns) wait
-    staged-sound isIdle b wait st h = absurd (let z : 1 ≤ b = leb-true 1 b (and-left (leb 1 b) (leb b 2) h) in omega arith)
+    staged-sound isIdle b wait st h =
+        absurd (let z : 1 ≤ b = leb-true 1 b (and-left (leb 1 b) (leb b 2) h) in omega (arith, st .0))
     staged-sound (waitsOne n) b wait st h =
         wait-sound o n (noted σ o n .d) (noted σ o n .e) wait (st .2) (d-below o n) (e-below o n) (st .1)
     staged-sound (waitsTwo n d e) b wait st h = wait-sound o n d e wait (st .2) (st .3) (st .4) (st .1)
-    staged-sound isClosed b wait st h = absurd (let z : b ≤ 2 = leb-true b 2 (and-right (leb 1 b) (leb b 2) h) in omega arith)
+    staged-sound isClosed b wait st h =
+        absurd (let z : b ≤ 2 = leb-true b 2 (and-right (leb 1 b) (leb b 2) h) in omega (arith, st .0))
 
     staged-small : (q : Progress) (b : ℕ) (wait : List ℕ) → Staged σ o q b wait → (b ≤ 3) × (waitingCount b ≡ waitingNumber q)
-    staged-small isIdle b wait st = (omega arith, ap waitingCount st)
+    staged-small isIdle b wait st = (let z : b ≡ 0 = st .0 in omega arith, ap waitingCount (st .0))
     staged-small (waitsOne n) b wait st = (let z : b ≡ 1 = st .0 in omega arith, ap waitingCount (st .0))
     staged-small (waitsTwo n d e) b wait st = (let z : b ≡ 2 = st .0 in omega arith, ap waitingCount (st .0))
-    staged-small isClosed b wait st = (omega arith, ap waitingCount st)
+    staged-small isClosed b wait st = (let z : b ≡ 3 = st .0 in omega arith, ap waitingCount (st .0))
 
     staged-told : (q : Progress) (b : ℕ) (wait : List ℕ) → Staged σ o q b wait → stageAt σ (o .columns) b wait ≡ ledgerStage σ o q
     unfolding stageAt ledgerStage
-    staged-told isIdle b wait st = ap (λ (k : ℕ). stageAt σ (o .columns) k wait) st
+    staged-told isIdle b wait st = ap (λ (k : ℕ). stageAt σ (o .columns) k wait) (st .0)
     staged-told (waitsOne n) b wait st = ap (λ (k : ℕ). stageAt σ (o .columns) k wait) (st .0) ∙ ap Stage.awaitsOne (st .1)
     staged-told (waitsTwo n d e) b wait st = ap (λ (k : ℕ). stageAt σ (o .columns) k wait) (st .0) ∙ ap Stage.awaitsTwo (st .1)
-    staged-told isClosed b wait st = ap (λ (k : ℕ). stageAt σ (o .columns) k wait) st
+    staged-told isClosed b wait st = ap (λ (k : ℕ). stageAt σ (o .columns) k wait) (st .0)
 
     module _ (T : List ℕ) (l : Ledger) (b : Beside σ o sheet T l) where
       limited : Limited σ (o .columns) (b .parts)

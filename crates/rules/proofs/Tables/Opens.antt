@@ -21,17 +21,17 @@ use Rattle.rules.specs.Columns.{Column, check, within, readSheet, sheetF
 use Rattle.rules.specs.Columns.{serversFault, ownFault, returnsFault, totalsFault}
 use Rattle.rules.specs.Judging.{shareSize}
 use Rattle.rules.specs.Server.{Opened, openFault}
-use Rattle.rules.specs.Table.{tableLength, openLength, openRefusal, openBytes}
+use Rattle.rules.specs.Table.{waitLength, tableLength, openLength, openRefusal, openBytes}
 use Rattle.rules.specs.Ledger.{Call, Ledger, empty, notesWith, ledgerTotals, ledgerAnswers}
-use Rattle.rules.specs.Runs.{openedTable, tableAnswers}
-use Rattle.rules.specs.WholeRun.{Pool, BytesIn, columns, openedAt, tableAt, answersAt}
+use Rattle.rules.specs.Runs.{openedTable, runTable, tableAnswers}
+use Rattle.rules.specs.WholeRun.{Pool, BytesIn, columns, openedAt, tableAt, ledgerAt, answersAt}
 use Rattle.rules.proofs.Circuits.Limits.{Limits, within-both}
 use Rattle.rules.proofs.Circuits.Refusals.{sheet-read, sheet-limits}
 use Rattle.rules.proofs.Histories.MessageBytes.{width-positive}
 use Rattle.rules.proofs.Tables.Parts.{Parts, Sized, header, body, assemble}
 use Rattle.rules.proofs.Tables.Invariant.{Opens, Beside, positive}
 use Rattle.rules.proofs.Tables.Taken.{fits-bytes}
-use Rattle.rules.proofs.Tables.Run.{passed, answers-same}
+use Rattle.rules.proofs.Tables.Run.{passed, run-beside, answers-same}
 
 -- the bytes of zeros
 zero-bytes : (w : ℕ) → bytesOf w 0 ≡ replicate w 0
@@ -102,9 +102,6 @@ module _ (σ : Setting) (facts : Facts σ) (servers own : ℕ) (sheet : List ℕ
     totals-fit = known-open .totals-fit;
   }
 
-  abbrev waitLength : ℕ
-  waitLength = 4 + 6 * σ .width + σ .width * shareSize cs
-
   abbrev parts : Parts
   parts = record {
     stage = 0;
@@ -116,17 +113,18 @@ module _ (σ : Setting) (facts : Facts σ) (servers own : ℕ) (sheet : List ℕ
     sheet = sheet;
     totals = replicate (σ .width * publishedIn cs) 0;
     ids = replicate (4 * returns) 0;
-    wait = replicate waitLength 0;
+    wait = replicate (waitLength σ cs) 0;
     rest = drop (0 + length (openBytes σ servers own sheet returns)) buffer;
   }
 
   zeros-are : replicate (openLength σ sheet returns - (12 + length sheet)) 0 ≡ parts .totals ++ (parts .ids ++ parts .wait)
   unfolding openLength tableLength
   zeros-are =
-      let size : openLength σ sheet returns - (12 + length sheet) ≡ σ .width * publishedIn cs + (4 * returns + waitLength) = omega arith in
+      let size : openLength σ sheet returns - (12 + length sheet) ≡ σ .width * publishedIn cs + (4 * returns + waitLength σ cs)
+      = omega arith in
       ap (λ (k : ℕ). replicate k 0) size
-      ∙ sym (replicate-append-replicate (σ .width * publishedIn cs) (4 * returns + waitLength) 0)
-      ∙ ap (parts .totals ++_) (sym (replicate-append-replicate (4 * returns) waitLength 0))
+      ∙ sym (replicate-append-replicate (σ .width * publishedIn cs) (4 * returns + waitLength σ cs) 0)
+      ∙ ap (parts .totals ++_) (sym (replicate-append-replicate (4 * returns) (waitLength σ cs) 0))
 
   opened-parts : openedTable σ servers own sheet returns buffer ≡ assemble σ parts
   unfolding splice openBytes assemble bytesOf
@@ -161,7 +159,7 @@ module _ (σ : Setting) (facts : Facts σ) (servers own : ℕ) (sheet : List ℕ
           reads = open-facts .reads;
           totals-long = length-replicate (σ .width * publishedIn cs) 0;
           ids-long = length-replicate (4 * returns) 0;
-          wait-long = length-replicate waitLength 0;
+          wait-long = length-replicate (waitLength σ cs) 0;
           returns-fit = omega (arith, few .1);
           sheet-fits = omega (arith, limited .bytes-most, limited .entries-most);
           decided-few = omega arith;
@@ -177,16 +175,33 @@ module _ (σ : Setting) (facts : Facts σ) (servers own : ℕ) (sheet : List ℕ
         totals-below =
             ap (allBelow (σ .modulus)) zeros-again
             ∙ below-of-all (σ .modulus) _ (all-zeros (σ .modulus) (positive σ facts) (publishedIn cs));
-        staged = refl;
+        staged = (refl, refl);
         room = omega (arith, few .0);
       }
 
--- 1. EACH TABLE HANDS BACK WHAT THE LEDGER TELLS
-pub tables-tell : (σ : Setting) → Facts σ → (𝓟 : Pool σ) → (i : ℕ) → i < 𝓟 .servers
-    → tableAnswers σ (tableAt σ 𝓟 i) (𝓟 .calls i) ≡ answersAt σ 𝓟 i
-tables-tell σ facts 𝓟 i h =
-    let S = 𝓟 .servers in
-    let opened = 𝓟 .opens i h in
-    let many = sheet-limits (𝓟 .sheet) (opening σ S i (𝓟 .sheet) (𝓟 .returns) (length (𝓟 .buffers i)) opened .no-fault) .published-count in
-    answers-same σ facts (openedAt σ 𝓟 i) (𝓟 .sheet) (open-facts σ facts S i (𝓟 .sheet) (𝓟 .returns) (𝓟 .buffers i) opened) many
-    (𝓟 .calls i) (tableAt σ 𝓟 i) empty (opened-beside σ facts S i (𝓟 .sheet) (𝓟 .returns) (𝓟 .buffers i) opened) (𝓟 .call-bytes i h)
+-- In a pool: each table opens, and after its calls stands beside its ledger
+module _ (σ : Setting) (facts : Facts σ) (𝓟 : Pool σ) (i : ℕ) (h : i < 𝓟 .servers) where
+  abbrev S : ℕ
+  S = 𝓟 .servers
+
+  opens-at : openRefusal σ S i (𝓟 .sheet) (𝓟 .returns) (length (𝓟 .buffers i)) ≡ 0
+  opens-at = 𝓟 .opens i h
+
+  opened-at : Opens σ (openedAt σ 𝓟 i) (𝓟 .sheet)
+  opened-at = open-facts σ facts S i (𝓟 .sheet) (𝓟 .returns) (𝓟 .buffers i) opens-at
+
+  begins : Beside σ (openedAt σ 𝓟 i) (𝓟 .sheet) (tableAt σ 𝓟 i) empty
+  begins = opened-beside σ facts S i (𝓟 .sheet) (𝓟 .returns) (𝓟 .buffers i) opens-at
+
+  many : length (publishedFrom 0 (columns σ 𝓟)) ≡ publishedIn (columns σ 𝓟)
+  many =
+      sheet-limits (𝓟 .sheet) (opening σ S i (𝓟 .sheet) (𝓟 .returns) (length (𝓟 .buffers i)) opens-at .no-fault) .published-count
+
+  -- 1. EACH TABLE HANDS BACK WHAT THE LEDGER TELLS
+  pub tables-tell : tableAnswers σ (tableAt σ 𝓟 i) (𝓟 .calls i) ≡ answersAt σ 𝓟 i
+  tables-tell =
+      answers-same σ facts (openedAt σ 𝓟 i) (𝓟 .sheet) opened-at many (𝓟 .calls i) (tableAt σ 𝓟 i) empty begins (𝓟 .call-bytes i h)
+
+  pub table-after : Beside σ (openedAt σ 𝓟 i) (𝓟 .sheet) (runTable σ (tableAt σ 𝓟 i) (𝓟 .calls i)) (ledgerAt σ 𝓟 i)
+  table-after =
+      run-beside σ facts (openedAt σ 𝓟 i) (𝓟 .sheet) opened-at many (𝓟 .calls i) (tableAt σ 𝓟 i) empty begins (𝓟 .call-bytes i h)

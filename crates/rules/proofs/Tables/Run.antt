@@ -228,7 +228,7 @@ module _ (σ : Setting) (facts : Facts σ) (o : Opened) (sheet : List ℕ) (open
     used-are = b .used-are;
     totals-are = b .totals-are;
     totals-below = b .totals-below;
-    staged = refl;
+    staged = (refl, b .staged .1);
     room = b .room;
   }
 
@@ -250,7 +250,26 @@ module _ (σ : Setting) (facts : Facts σ) (o : Opened) (sheet : List ℕ) (open
   take-call T l b drop bytes e = take-drop T (l .progress) (l .decided) b e
   take-call T l b (close room) bytes e = take-close T (l .progress) (l .decided) b room e
 
-  -- the whole list
+  -- the whole list: the table after it stands beside the ledger after it, and the answers are the same
+  pub run-beside : (cs : List Call) (T : List ℕ) (l : Ledger) → Beside σ o sheet T l → All BytesIn cs
+      → Beside σ o sheet (runTable σ T cs) (runLedger σ o l cs)
+  unfolding runTable runLedger
+  run-beside [] T l b bytes = b
+  run-beside (c ∷ cs) T l b (all∷ h hs) =
+      subst (λ (f : ℕ). Beside σ o sheet (runTable σ (cond (eqb f 0) (tableAfter σ T c) T) cs) (after (refusalOf σ o l c)))
+      (sym (refusal-same T l b c)) (go (eqb (refusalOf σ o l c) 0) refl (run-beside cs))
+    where
+      after : ℕ → Ledger
+      after f = runLedger σ o (cond (eqb f 0) (ledgerAfter σ o l c) l) cs
+
+      go : (v : Bool) → eqb (refusalOf σ o l c) 0 ≡ v
+          → ((T : List ℕ) (l : Ledger) → Beside σ o sheet T l → All BytesIn cs
+          → Beside σ o sheet (runTable σ T cs) (runLedger σ o l cs))
+          → Beside σ o sheet (runTable σ (cond v (tableAfter σ T c) T) cs) (runLedger σ o (cond v (ledgerAfter σ o l c) l) cs)
+      go true e rest =
+          rest (tableAfter σ T c) (ledgerAfter σ o l c) (take-call T l b c h (eqb-true (refusalOf σ o l c) 0 e) .after) hs
+      go false e rest = rest T l b hs
+
   pub answers-same : (cs : List Call) (T : List ℕ) (l : Ledger) → Beside σ o sheet T l → All BytesIn cs
       → tableAnswers σ T cs ≡ ledgerAnswers σ o l cs
   unfolding tableAnswers ledgerAnswers

@@ -1,9 +1,9 @@
--- `layout::writing::decide` meets its contract: counts, id and stage are put where they stand (`decided-written`).
+-- `layout::writing::decide` meets its contract: counts, id, zeros and stage are put where they stand (`decided-written`).
 -- Assumes nothing.
 use Prim.Native.Nat.{_+_, _*_, _≤_}
 use native.Mathlib.Omega.{arith}
 use lib.ListN.{length, length-set}
-use Rattle.layout.specs.Places.{idsAt}
+use Rattle.layout.specs.Places.{idsAt, waitAt, keptAt, sizeOf}
 use Rattle.layout.proofs.Pieces.{decided-written}
 use borrow.Author.Needs.{needs}
 use Rattle.layout.proofs.writing.decide.Statement.{statement}
@@ -36,32 +36,41 @@ add-write-u32 c = search needs
 write-u32-requires : tie.Need-write-u32-requires
 write-u32-requires c κs = search needs
 
+erase-requires : tie.Need-erase-requires
+erase-requires c κs = search needs
+
 slice-write-t : tie.Need-slice-write-t
 slice-write-t c = search needs
 
 same-length : tie.Need-same-length
 same-length c =
-    let third = c .before .before in
+    let last = c .before .before in
+    let third = last .before .before .before .before in
     let second = third .before .before .before .before .before in
     let first = second .before .before .before .before .before in
-    simp length-set (omega (arith, third .write-u32 .kept .0, second .write-u162 .kept .0, first .write-u16 .kept .0))
+    simp length-set
+    (omega (arith, last .erase .kept .0, third .write-u32 .kept .0, second .write-u162 .kept .0, first .write-u16 .kept .0))
 
 returns : tie.Need-returns
 returns c =
-    let third = c .before .before in
+    let last = c .before .before in
+    let third = last .before .before .before .before in
     let second = third .before .before .before .before .before in
     let first = second .before .before .before .before .before in
     let a = first .before .before .before in
     let k = a .args .k in
     let h : 12 ≤ length (a .args .t .now) = omega (arith, a .pre) in
     let m : idsAt (k .sheet) (k .published) + 4 * k .decided + 4 ≤ length (a .args .t .now) = omega (arith, a .pre) in
+    let z : waitAt (k .sheet) (k .published) (k .returns) + keptAt (sizeOf (k .entries) (k .gates)) ≤ length (a .args .t .now)
+    = omega (arith, a .pre) in
     rw (
+      last .erase .ensures,
       third .write-u32 .ensures,
       third .before .ids-place .ensures,
       second .write-u162 .ensures,
       first .write-u16 .ensures,
     )
-    (decided-written k (a .args .accepted) (a .args .id) (a .args .t .now) h m)
+    (decided-written k (a .args .accepted) (a .args .id) (a .args .t .now) h m z)
 
 pub decide-spec : {M : Type 1} → statement M
 decide-spec =
@@ -76,6 +85,7 @@ decide-spec =
     mul-write-u32
     add-write-u32
     write-u32-requires
+    erase-requires
     slice-write-t
     same-length
     returns)

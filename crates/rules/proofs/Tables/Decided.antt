@@ -75,16 +75,7 @@ module _ (σ : Setting) (cs : List Column) (g : Parts) (z : Sized σ cs g) where
       noted-long = length-splice (g .ids) (4 * g .decided) (bytesOf 4 id) id-inside
 
       pub decided-sized : Sized σ cs (decidedParts a t id)
-      decided-sized = let s = longer-sized noted zeros noted-long zeros-long in record {
-        reads = s .reads;
-        totals-long = s .totals-long;
-        ids-long = s .ids-long;
-        wait-long = s .wait-long;
-        returns-fit = s .returns-fit;
-        sheet-fits = s .sheet-fits;
-        decided-few = s .decided-few;
-        accepted-few = s .accepted-few;
-      }
+      decided-sized = longer-sized noted zeros noted-long zeros-long
 
       -- counts, id and zeros put one after another
       put-decided : (u : List ℕ) → u ≡ assemble σ (setRuns t (g .ids) (g .wait) g)
@@ -142,7 +133,7 @@ module _ (σ : Setting) (facts : Facts σ) (o : Opened) (sheet : List ℕ)
     g = b .parts
 
     left : g .decided < g .returns
-    left = omega (arith, b .decided-is, b .returns-are)
+    left = omega (arith, b .tells .decided-is, b .opened-as .returns-are)
 
     abbrev grown : Decision → List Note
     grown d = notesWith isAccepted (ds ++ (decidedAs n d ∷ []))
@@ -154,7 +145,7 @@ module _ (σ : Setting) (facts : Facts σ) (o : Opened) (sheet : List ℕ)
         ap (λ (k : ℕ). elementsOf 4 (take (4 * (g .decided + 1)) (splice (g .ids) (4 * g .decided) (bytesOf 4 k)))) (w .id-is)
         ∙ id-noted (g .ids) (g .decided) (n .id) (w .fits .id-fits)
         (inside σ (o .columns) g (b .sized) 0 (g .totals) refl (omega arith) left)
-        ∙ ap (_++ (n .id ∷ [])) (b .used-are)
+        ∙ ap (_++ (n .id ∷ [])) (b .tells .used-are)
         ∙ sym (ids-grow ds n d)
 
     -- decided as d, with the totals t
@@ -168,14 +159,14 @@ module _ (σ : Setting) (facts : Facts σ) (o : Opened) (sheet : List ℕ)
           ap₂ (λ (u v : List ℕ). decidedTable σ u a v) (b .is) put
           ∙ decided-parts σ (o .columns) g (b .sized) a t long one left;
       sized = decided-sized σ (o .columns) g (b .sized) a t long one left (waitingAt σ (o .columns) (g .wait) .id);
-      servers-are = b .servers-are;
-      own-is = b .own-is;
-      returns-are = b .returns-are;
-      decided-is = ap (_+ 1) (b .decided-is) ∙ sym (count-grows ds n d);
-      accepted-is = count;
-      used-are = used d;
-      totals-are = are;
-      totals-below = below;
+      opened-as = b .opened-as;
+      tells = record {
+        decided-is = ap (_+ 1) (b .tells .decided-is) ∙ sym (count-grows ds n d);
+        accepted-is = count;
+        used-are = used d;
+        totals-are = are;
+        totals-below = below;
+      };
       staged = (refl, refl);
       room = omega (arith, count-grows ds n d);
     }
@@ -186,8 +177,8 @@ module _ (σ : Setting) (facts : Facts σ) (o : Opened) (sheet : List ℕ)
     kept d no-more =
         let same : grown d ≡ notesWith isAccepted ds =
         notes-grow isAccepted ds n d ∙ ap (λ (t : Bool). notesWith isAccepted ds ++ cond t (n ∷ []) []) no-more ∙ append-nil _ in
-        decide-as d 0 (g .totals) T (omega arith) (add-zero (g .accepted) ∙ b .accepted-is ∙ ap length (sym same)) refl
-        (b .totals-are ∙ ap (ledgerTotals σ o) (sym same)) (b .totals-below) (b .is)
+        decide-as d 0 (g .totals) T (omega arith) (add-zero (g .accepted) ∙ b .tells .accepted-is ∙ ap length (sym same)) refl
+        (b .tells .totals-are ∙ ap (ledgerTotals σ o) (sym same)) (b .tells .totals-below) (b .is)
 
     -- accepted: the published entries are added
     added-are : addedTotals σ T ≡ ledgerTotals σ o (notesWith isAccepted ds ++ (n ∷ []))
@@ -197,9 +188,9 @@ module _ (σ : Setting) (facts : Facts σ) (o : Opened) (sheet : List ℕ)
         ∙ (λ i.
         tabulate
         (λ k.
-        (getD ((totals-are σ (o .columns) g (b .sized) ∙ b .totals-are) i) k 0
+        (getD ((totals-are σ (o .columns) g (b .sized) ∙ b .tells .totals-are) i) k 0
         + getD
-        (publishedShares σ (opened-o σ facts o sheet g (b .sized) (b .servers-are) (b .own-is) (b .returns-are) i)
+        (publishedShares σ (opened-o σ facts o sheet g (b .sized) (b .opened-as) i)
         ((ap (λ (v : Waiting). v .elements) (waiting-is σ (o .columns) g (b .sized)) ∙ w .elements-are) i)) k 0)
         % σ .modulus)
         ((ap publishedIn (columns-in σ (o .columns) g (b .sized)) ∙ sym many) i))
@@ -235,6 +226,6 @@ module _ (σ : Setting) (facts : Facts σ) (o : Opened) (sheet : List ℕ)
         ∙ ap (λ (k : ℕ). splice (assemble σ g) k t) (placed σ (o .columns) g (b .sized) (totalsPlace σ))
         ∙ put-totals σ (o .columns) g (b .sized) t long in
         decide-as accepted 1 t _ (omega arith)
-        (ap (_+ 1) (b .accepted-is) ∙ sym (ap length more ∙ length-append (notesWith isAccepted ds) (n ∷ []))) long
+        (ap (_+ 1) (b .tells .accepted-is) ∙ sym (ap length more ∙ length-append (notesWith isAccepted ds) (n ∷ []))) long
         (back ∙ ap (ledgerTotals σ o) (sym more))
         (ap (allBelow (σ .modulus)) back ∙ below-of-all (σ .modulus) new (totals-low (notesWith isAccepted ds ++ (n ∷ [])))) put

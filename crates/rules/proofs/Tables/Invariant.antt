@@ -22,7 +22,7 @@ use Rattle.rules.specs.Circuit.{gatesIn}
 use Rattle.rules.specs.Judging.{shareSize, allowedPair, dOf, eOf, hAt, tauOf, folded}
 use Rattle.rules.specs.Server.{Opened, Waiting, Stage, ServerState, waitingOf}
 use Rattle.rules.specs.Table.{waitLength, tableState, tableFault}
-use Rattle.rules.specs.Ledger.{Note, Progress, isIdle, waitsOne, waitsTwo, isClosed, Ledger, isAccepted, notesWith, idsOf}
+use Rattle.rules.specs.Ledger.{Note, Progress, isIdle, waitsOne, waitsTwo, isClosed, Decided, Ledger, isAccepted, notesWith, idsOf}
 use Rattle.rules.specs.Ledger.{notesOf, noted, withSums, ledgerStage, ledgerState, ledgerTotals}
 use Rattle.rules.proofs.Tables.Parts.{Parts, Sized, assemble}
 use Rattle.rules.proofs.Tables.State.{wordAt, shareAt, waitingAt, stageAt, knownAt, known-is}
@@ -66,18 +66,26 @@ module _ (σ : Setting) (o : Opened) where
       × (e < σ .modulus)
   Staged isClosed b wait = (b ≡ 3) × Erased wait
 
+  -- the header says what the table was opened with
+  pub record OpenedAs (servers own returns : ℕ) : Type 0 where
+    pub servers-are : servers ≡ o .servers
+    pub own-is : own ≡ o .own
+    pub returns-are : returns ≡ o .returns
+
+  -- the counts, ids and totals are those of the decided returns
+  pub record Tells (ds : List Decided) (decided accepted : ℕ) (totals ids : List ℕ) : Type 0 where
+    pub decided-is : decided ≡ length ds
+    pub accepted-is : accepted ≡ length (notesWith isAccepted ds)
+    pub used-are : elementsOf 4 (take (4 * decided) ids) ≡ idsOf (notesOf ds)
+    pub totals-are : elementsOf (σ .width) totals ≡ ledgerTotals σ o (notesWith isAccepted ds)
+    pub totals-below : allBelow (σ .modulus) (elementsOf (σ .width) totals) ≡ true
+
   pub record Beside (sheet T : List ℕ) (l : Ledger) : Type 0 where
     pub parts : Parts
     pub is : T ≡ assemble σ parts
     pub sized : Sized σ (o .columns) parts
-    pub servers-are : parts .servers ≡ o .servers
-    pub own-is : parts .own ≡ o .own
-    pub returns-are : parts .returns ≡ o .returns
-    pub decided-is : parts .decided ≡ length (l .decided)
-    pub accepted-is : parts .accepted ≡ length (notesWith isAccepted (l .decided))
-    pub used-are : elementsOf 4 (take (4 * parts .decided) (parts .ids)) ≡ idsOf (notesOf (l .decided))
-    pub totals-are : elementsOf (σ .width) (parts .totals) ≡ ledgerTotals σ o (notesWith isAccepted (l .decided))
-    pub totals-below : allBelow (σ .modulus) (elementsOf (σ .width) (parts .totals)) ≡ true
+    pub opened-as : OpenedAs (parts .servers) (parts .own) (parts .returns)
+    pub tells : Tells (l .decided) (parts .decided) (parts .accepted) (parts .totals) (parts .ids)
     pub staged : Staged (l .progress) (parts .stage) (parts .wait)
     pub room : length (l .decided) + waitingNumber (l .progress) ≤ o .returns
 
@@ -179,13 +187,13 @@ module _ (σ : Setting) (facts : Facts σ) where
       limited =
           let small = staged-small (l .progress) (b .parts .stage) (b .parts .wait) (b .staged) in
           record {
-            servers-fit = rw (b .servers-are) (open-facts .servers-fit);
-            own-fits = rw (b .own-is, b .servers-are) (open-facts .own-fits);
-            returns-fit = rw (b .returns-are) (open-facts .returns-fit);
-            totals-fit = rw (b .returns-are) (open-facts .totals-fit);
+            servers-fit = rw (b .opened-as .servers-are) (open-facts .servers-fit);
+            own-fits = rw (b .opened-as .own-is, b .opened-as .servers-are) (open-facts .own-fits);
+            returns-fit = rw (b .opened-as .returns-are) (open-facts .returns-fit);
+            totals-fit = rw (b .opened-as .returns-are) (open-facts .totals-fit);
             stage-fits = small .0;
-            decided-fit = omega (arith, small .1, b .decided-is, b .returns-are, b .room);
-            totals-below = b .totals-below;
+            decided-fit = omega (arith, small .1, b .tells .decided-is, b .opened-as .returns-are, b .room);
+            totals-below = b .tells .totals-below;
             wait-sound = staged-sound (l .progress) (b .parts .stage) (b .parts .wait) (b .staged);
           }
 
@@ -199,9 +207,9 @@ module _ (σ : Setting) (facts : Facts σ) where
       beside-known =
           ap (tableState σ) (b .is) ∙ known-is σ (o .columns) (b .parts) (b .sized)
           ∙ λ i. record {
-            opened = record { servers = b .servers-are i; own = b .own-is i; columns = o .columns; returns = b .returns-are i };
+            opened = record { servers = b .opened-as .servers-are i; own = b .opened-as .own-is i; columns = o .columns; returns = b .opened-as .returns-are i };
             stage = staged-told (l .progress) (b .parts .stage) (b .parts .wait) (b .staged) i;
-            used = b .used-are i;
-            accepted = b .accepted-is i;
-            totals = b .totals-are i;
+            used = b .tells .used-are i;
+            accepted = b .tells .accepted-is i;
+            totals = b .tells .totals-are i;
           }

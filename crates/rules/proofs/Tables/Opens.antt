@@ -165,16 +165,16 @@ module _ (σ : Setting) (facts : Facts σ) (servers own : ℕ) (sheet : List ℕ
           decided-few = omega arith;
           accepted-few = omega arith;
         };
-        servers-are = refl;
-        own-is = refl;
-        returns-are = refl;
-        decided-is = refl;
-        accepted-is = refl;
-        used-are = refl;
-        totals-are = totals-none;
-        totals-below =
-            ap (allBelow (σ .modulus)) zeros-again
-            ∙ below-of-all (σ .modulus) _ (all-zeros (σ .modulus) (positive σ facts) (publishedIn cs));
+        opened-as = record { servers-are = refl; own-is = refl; returns-are = refl };
+        tells = record {
+          decided-is = refl;
+          accepted-is = refl;
+          used-are = refl;
+          totals-are = totals-none;
+          totals-below =
+              ap (allBelow (σ .modulus)) zeros-again
+              ∙ below-of-all (σ .modulus) _ (all-zeros (σ .modulus) (positive σ facts) (publishedIn cs));
+        };
         staged = (refl, refl);
         room = omega (arith, few .0);
       }

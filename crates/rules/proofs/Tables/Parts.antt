@@ -16,7 +16,7 @@ use Rattle.rules.specs.Settings.{Setting}
 use Rattle.rules.specs.Columns.{Column, readSheet, columnsOf, listIn, publishedIn}
 use Rattle.rules.specs.Judging.{shareSize}
 use Rattle.rules.specs.Server.{Opened, Waiting, Stage, idle, awaitsOne, awaitsTwo, closed, ServerState}
-use Rattle.rules.specs.Table.{totalsPlace, idsPlace, waitPlace, sharePlace, tableLength, waitingIn, stageIn, openedIn, tableState}
+use Rattle.rules.specs.Table.{waitLength, totalsPlace, idsPlace, waitPlace, sharePlace, tableLength, waitingIn, stageIn, openedIn, tableState}
 use Rattle.rules.specs.Table.{serversIn, ownIn, returnsIn, decidedIn, acceptedIn, sheetSize, sheetIn, columnsIn}
 use Rattle.rules.specs.Table.{stageByte, totalsIn, idsIn, wordIn}
 
@@ -49,15 +49,18 @@ unfoldable pub assemble : Setting → Parts → List ℕ
 assemble σ g = header σ g ++ body g
 
 -- the parts have the lengths of the layout, and the counts fit their bytes
-pub record Sized (σ : Setting) (cs : List Column) (g : Parts) : Type 0 where
-  pub reads : readSheet (g .sheet) ≡ ok cs
-  pub totals-long : length (g .totals) ≡ σ .width * publishedIn cs
-  pub ids-long : length (g .ids) ≡ 4 * g .returns
-  pub wait-long : length (g .wait) ≡ 4 + 6 * σ .width + σ .width * shareSize cs
-  pub returns-fit : g .returns < 65536
-  pub sheet-fits : length (g .sheet) < 65536
-  pub decided-few : g .decided ≤ g .returns
-  pub accepted-few : g .accepted ≤ g .decided
+pub record SizedAs (σ : Setting) (cs : List Column) (sheet : List ℕ) (returns decided accepted : ℕ) (totals ids wait : List ℕ) : Type 0 where
+  pub reads : readSheet sheet ≡ ok cs
+  pub totals-long : length totals ≡ σ .width * publishedIn cs
+  pub ids-long : length ids ≡ 4 * returns
+  pub wait-long : length wait ≡ waitLength σ cs
+  pub returns-fit : returns < 65536
+  pub sheet-fits : length sheet < 65536
+  pub decided-few : decided ≤ returns
+  pub accepted-few : accepted ≤ decided
+
+abbrev pub Sized : Setting → List Column → Parts → Type 0
+Sized σ cs g = SizedAs σ cs (g .sheet) (g .returns) (g .decided) (g .accepted) (g .totals) (g .ids) (g .wait)
 
 -- a part within a list, by its place
 pub part-within : (a x b : List ℕ) (i n : ℕ) → i + n ≤ length x → part (length a + i) n (a ++ (x ++ b)) ≡ part i n x

@@ -210,24 +210,9 @@ module _ (σ : Setting) (facts : Facts σ) (o : Opened) (sheet : List ℕ) (open
   close-after T ds b = record {
     parts = setStage 3 (b .parts);
     is = ap (λ (t : List ℕ). splice t 1 (3 ∷ [])) (b .is) ∙ put-stage σ (b .parts) 3;
-    sized = record {
-      reads = b .sized .reads;
-      totals-long = b .sized .totals-long;
-      ids-long = b .sized .ids-long;
-      wait-long = b .sized .wait-long;
-      returns-fit = b .sized .returns-fit;
-      sheet-fits = b .sized .sheet-fits;
-      decided-few = b .sized .decided-few;
-      accepted-few = b .sized .accepted-few;
-    };
-    servers-are = b .servers-are;
-    own-is = b .own-is;
-    returns-are = b .returns-are;
-    decided-is = b .decided-is;
-    accepted-is = b .accepted-is;
-    used-are = b .used-are;
-    totals-are = b .totals-are;
-    totals-below = b .totals-below;
+    sized = b .sized;
+    opened-as = b .opened-as;
+    tells = b .tells;
     staged = (refl, b .staged .1);
     room = b .room;
   }

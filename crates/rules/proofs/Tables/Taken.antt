@@ -23,8 +23,8 @@ use Rattle.rules.specs.Table.{waitPlace, openedIn, waitingIn, shareTable
 use Rattle.rules.specs.Ledger.{Note, Progress, isIdle, waitsOne, waitsTwo, Decided, Ledger, noted, withSums, noteOf}
 use Rattle.rules.proofs.Tables.Parts.{Parts, Sized, assemble, placed}
 use Rattle.rules.proofs.Tables.State.{waitingAt, openedAt, opened-is, waiting-is}
-use Rattle.rules.proofs.Tables.Writes.{setStage, setRuns, put-stage, put-wait}
-use Rattle.rules.proofs.Tables.Invariant.{NoteFits, Staged, Beside, positive, sum-below, d-below, e-below, rh-below, tau-below}
+use Rattle.rules.proofs.Tables.Writes.{setStage, setRuns, waits-sized, put-stage, put-wait}
+use Rattle.rules.proofs.Tables.Invariant.{NoteFits, Staged, OpenedAs, Beside, positive, sum-below, d-below, e-below, rh-below, tau-below}
 use Rattle.rules.proofs.Tables.Invariant.{pair-below}
 use Rattle.rules.proofs.Tables.WaitBytes.{sixOf, waitBytes, wait-long, wait-back, summedBytes, summed-long, summed-back}
 
@@ -40,10 +40,11 @@ module _ (σ : Setting) (facts : Facts σ) (o : Opened) (sheet : List ℕ) where
   pub fits-bytes : (x : ℕ) → x < σ .modulus → x < 256 ^ W
   fits-bytes x h = let f : σ .modulus ≤ 256 ^ W = facts .fits in omega arith
 
-  module _ (g : Parts) (z : Sized σ (o .columns) g) (S : g .servers ≡ o .servers) (i : g .own ≡ o .own) (N : g .returns ≡ o .returns) where
+  module _ (g : Parts) (z : Sized σ (o .columns) g) (h : OpenedAs σ o (g .servers) (g .own) (g .returns)) where
     pub opened-o : openedIn σ (assemble σ g) ≡ o
     opened-o =
-        opened-is σ (o .columns) g z ∙ λ k. record { servers = S k; own = i k; columns = o .columns; returns = N k }
+        opened-is σ (o .columns) g z
+        ∙ λ k. record { servers = h .servers-are k; own = h .own-is k; columns = o .columns; returns = h .returns-are k }
 
     -- the table after a share is taken
     share-parts : (m : List ℕ) (r s : ℕ) → length (drop 6 m) ≡ W * shareSize (o .columns)
@@ -108,25 +109,10 @@ module _ (σ : Setting) (facts : Facts σ) (o : Opened) (sheet : List ℕ) where
           parts = setStage 1 (setRuns (g .totals) (g .ids) (waitBytes σ w (drop 6 m)) g);
           is =
               ap (λ (t : List ℕ). shareTable σ t m r s) (b .is)
-              ∙ share-parts g (b .sized) (b .servers-are) (b .own-is) (b .returns-are) m r s rest;
-          sized = record {
-            reads = b .sized .reads;
-            totals-long = b .sized .totals-long;
-            ids-long = b .sized .ids-long;
-            wait-long = wait-long σ (o .columns) w (drop 6 m) rest;
-            returns-fit = b .sized .returns-fit;
-            sheet-fits = b .sized .sheet-fits;
-            decided-few = b .sized .decided-few;
-            accepted-few = b .sized .accepted-few;
-          };
-          servers-are = b .servers-are;
-          own-is = b .own-is;
-          returns-are = b .returns-are;
-          decided-is = b .decided-is;
-          accepted-is = b .accepted-is;
-          used-are = b .used-are;
-          totals-are = b .totals-are;
-          totals-below = b .totals-below;
+              ∙ share-parts g (b .sized) (b .opened-as) m r s rest;
+          sized = waits-sized σ (o .columns) g (b .sized) _ (wait-long σ (o .columns) w (drop 6 m) rest);
+          opened-as = b .opened-as;
+          tells = b .tells;
           staged = (
             refl,
             wait-back σ (o .columns) w (drop 6 m) short six rest refl,
@@ -153,25 +139,10 @@ module _ (σ : Setting) (facts : Facts σ) (o : Opened) (sheet : List ℕ) where
           parts = setStage 2 (setRuns (g .totals) (g .ids) wait g);
           is =
               ap (λ (t : List ℕ). oneTable σ t joined) (b .is)
-              ∙ one-parts g (b .sized) (b .servers-are) (b .own-is) (b .returns-are) (noted σ o n) same joined;
-          sized = record {
-            reads = b .sized .reads;
-            totals-long = b .sized .totals-long;
-            ids-long = b .sized .ids-long;
-            wait-long = summed-long σ (o .columns) (g .wait) d e (b .sized .wait-long);
-            returns-fit = b .sized .returns-fit;
-            sheet-fits = b .sized .sheet-fits;
-            decided-few = b .sized .decided-few;
-            accepted-few = b .sized .accepted-few;
-          };
-          servers-are = b .servers-are;
-          own-is = b .own-is;
-          returns-are = b .returns-are;
-          decided-is = b .decided-is;
-          accepted-is = b .accepted-is;
-          used-are = b .used-are;
-          totals-are = b .totals-are;
-          totals-below = b .totals-below;
+              ∙ one-parts g (b .sized) (b .opened-as) (noted σ o n) same joined;
+          sized = waits-sized σ (o .columns) g (b .sized) _ (summed-long σ (o .columns) (g .wait) d e (b .sized .wait-long));
+          opened-as = b .opened-as;
+          tells = b .tells;
           staged = (
             refl,
             summed-back σ (o .columns) (g .wait) d e (b .sized .wait-long) (fits-bytes d low-d) (fits-bytes e low-e)

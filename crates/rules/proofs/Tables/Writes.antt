@@ -12,7 +12,7 @@ use Rattle.words.specs.Bytes.{bytesOf, bytesOfAll, splice}
 use Rattle.words.proofs.Splice.{splice-all}
 use Rattle.rules.specs.Settings.{Setting}
 use Rattle.rules.specs.Columns.{Column, publishedIn}
-use Rattle.rules.specs.Table.{totalsPlace, idsPlace, waitPlace, staged}
+use Rattle.rules.specs.Table.{waitLength, totalsPlace, idsPlace, waitPlace, staged}
 use Rattle.rules.proofs.Tables.Parts.{Parts, Sized, header, body, assemble, ids-at, wait-at, ids-body, wait-body}
 
 -- a run of bytes put within the middle of three lists
@@ -73,6 +73,20 @@ setRuns totals ids wait g = record {
   ids = ids;
   wait = wait;
   rest = g .rest;
+}
+
+-- the sizes stay where the bytes of the return that waits change
+pub waits-sized : (σ : Setting) (cs : List Column) (g : Parts) → Sized σ cs g → (wait : List ℕ) → length wait ≡ waitLength σ cs
+    → Sized σ cs (setRuns (g .totals) (g .ids) wait g)
+waits-sized σ cs g z wait h = record {
+  reads = z .reads;
+  totals-long = z .totals-long;
+  ids-long = z .ids-long;
+  wait-long = h;
+  returns-fit = z .returns-fit;
+  sheet-fits = z .sheet-fits;
+  decided-few = z .decided-few;
+  accepted-few = z .accepted-few;
 }
 
 module _ (σ : Setting) (g : Parts) where

@@ -10,7 +10,7 @@ use Rattle.rules.specs.Settings.{Setting}
 use Rattle.rules.specs.Columns.{publishedFrom}
 use Rattle.rules.specs.Messages.{idIn, shareElements, firstSum, secondSum, bothZero}
 use Rattle.rules.specs.Server.{Opened, Waiting, Stage, idle, awaitsOne, awaitsTwo, closed, ServerState, waitingOf}
-use Rattle.rules.specs.Server.{messageOne, messageTwo, summed, totalsMessage}
+use Rattle.rules.specs.Server.{withSums, messageOne, messageTwo, summed, totalsMessage}
 use Rattle.rules.specs.Server.{shareRefusal, oneRefusal, twoRefusal, dropRefusal, closeRefusal}
 
 -- The calls of a list: a share with r and s, rounds one and two with the joined messages, a drop, a close. `room` is the
@@ -96,10 +96,6 @@ module _ (σ : Setting) (o : Opened) where
   -- "its stage, ids and own messages told from the ledger"
   abbrev pub noted : Note → Waiting
   noted n = waitingOf σ o (n .id) (n .elements) (n .r) (n .s)
-
-  abbrev pub withSums : Waiting → ℕ → ℕ → Waiting
-  withSums w d e =
-      record { id = w .id; r = w .r; s = w .s; d = d; e = e; rh = w .rh; tau = w .tau; elements = w .elements }
 
   unfoldable pub ledgerStage : Progress → Stage
   ledgerStage isIdle = idle

@@ -35,6 +35,10 @@ pub record Waiting : Type 0 where
   pub tau : ℕ
   pub elements : List ℕ
 
+-- the return with the sums d and e
+abbrev pub withSums : Waiting → ℕ → ℕ → Waiting
+withSums w d e = record { id = w .id; r = w .r; s = w .s; d = d; e = e; rh = w .rh; tau = w .tau; elements = w .elements }
+
 -- "It is idle (takes a share or a close), awaits round one or awaits round two (takes that round's joined messages or a
 -- drop), or is closed (takes nothing)."
 pub data Stage : Type 0 where
@@ -98,16 +102,7 @@ module _ (σ : Setting) (o : Opened) where
 
   -- the return after round one: with the sums of the joined messages
   unfoldable pub summed : Waiting → List ℕ → Waiting
-  summed w joined = record {
-    id = w .id;
-    r = w .r;
-    s = w .s;
-    d = firstSum σ (o .servers) joined;
-    e = secondSum σ (o .servers) joined;
-    rh = w .rh;
-    tau = w .tau;
-    elements = w .elements;
-  }
+  summed w joined = withSums w (firstSum σ (o .servers) joined) (secondSum σ (o .servers) joined)
 
   -- the shares of the published entries
   unfoldable pub publishedShares : List ℕ → List ℕ

@@ -40,6 +40,19 @@ use Rattle.rules.specs.Server.{Opened, Waiting, Stage, idle, awaitsOne, 
 use Rattle.rules.specs.Server.{messageOne, messageTwo, summed, publishedShares, totalsMessage}
 use Rattle.rules.specs.Server.{shareRefusal, oneRefusal, twoRefusal, dropRefusal, closeRefusal}
 
+-- the stages, as the table's second byte says them
+abbrev pub stageIdle : ℕ
+stageIdle = 0
+
+abbrev pub stageOne : ℕ
+stageOne = 1
+
+abbrev pub stageTwo : ℕ
+stageTwo = 2
+
+abbrev pub stageClosed : ℕ
+stageClosed = 3
+
 -- the bytes kept for a return that waits: its id, six numbers and its share
 abbrev pub waitLength : Setting → List Column → ℕ
 waitLength σ cs = 4 + 6 * σ .width + σ .width * shareSize cs
@@ -114,8 +127,8 @@ module _ (σ : Setting) (T : List ℕ) where
 
   unfoldable pub stageIn : Stage
   stageIn =
-      cond (eqb stageByte 0) idle
-      (cond (eqb stageByte 1) (awaitsOne waitingIn) (cond (eqb stageByte 2) (awaitsTwo waitingIn) closed))
+      cond (eqb stageByte stageIdle) idle
+      (cond (eqb stageByte stageOne) (awaitsOne waitingIn) (cond (eqb stageByte stageTwo) (awaitsTwo waitingIn) closed))
 
   abbrev pub openedIn : Opened
   openedIn = record { servers = serversIn; own = ownIn; columns = columnsIn; returns = returnsIn }
@@ -125,7 +138,7 @@ module _ (σ : Setting) (T : List ℕ) where
 
   -- a return waits
   abbrev pub waits : Bool
-  waits = within 1 2 stageByte
+  waits = within stageOne stageTwo stageByte
 
   -- the bytes kept for a return that waits
   abbrev pub keptIn : List ℕ
@@ -136,7 +149,7 @@ module _ (σ : Setting) (T : List ℕ) where
   headerSound =
       leb 12 (length T)
       && (eqb (getD T 0 0) (σ .tableByte)
-      && (leb stageByte 3
+      && (leb stageByte stageClosed
       && (serversFit serversIn
       && (ltb ownIn serversIn
       && (returnsFit returnsIn
@@ -169,7 +182,7 @@ openRefusal σ servers own sheet returns room =
 
 unfoldable pub openBytes : Setting → ℕ → ℕ → List ℕ → ℕ → List ℕ
 openBytes σ servers own sheet returns =
-    (σ .tableByte ∷ 0 ∷ servers ∷ own ∷ [])
+    (σ .tableByte ∷ stageIdle ∷ servers ∷ own ∷ [])
     ++ bytesOf 2 returns
     ++ bytesOf 2 0
     ++ bytesOf 2 0
@@ -195,7 +208,7 @@ module _ (σ : Setting) (T : List ℕ) where
   unfoldable pub shareTable : List ℕ → ℕ → ℕ → List ℕ
   shareTable m r s =
       let w = shareTaken m r s in
-      staged 1
+      staged stageOne
       (splice T waitAt
       (bytesOf 4 (w .id)
       ++ bytesOfAll (σ .width) (w .r ∷ w .s ∷ w .d ∷ w .e ∷ w .rh ∷ w .tau ∷ [])
@@ -213,7 +226,7 @@ module _ (σ : Setting) (T : List ℕ) where
   unfoldable pub oneTable : List ℕ → List ℕ
   oneTable joined =
       let w = oneTaken joined in
-      staged 2 (splice T (waitAt + 4 + σ .width * 2) (bytesOfAll (σ .width) (w .d ∷ w .e ∷ [])))
+      staged stageTwo (splice T (waitAt + 4 + σ .width * 2) (bytesOfAll (σ .width) (w .d ∷ w .e ∷ [])))
 
   unfoldable pub oneBytes : List ℕ → List ℕ
   oneBytes joined = messageTwo σ (openedIn σ T) (oneTaken joined)
@@ -221,7 +234,7 @@ module _ (σ : Setting) (T : List ℕ) where
   -- the return that waits is decided: its id is noted, nothing else of it is kept, and the table is idle
   unfoldable pub decidedTable : ℕ → List ℕ → List ℕ
   decidedTable accepted t =
-      staged 0
+      staged stageIdle
       (splice
       (splice
       (splice t 6 (bytesOf 2 (decidedIn σ T + 1) ++ bytesOf 2 (acceptedIn σ T + accepted)))
@@ -260,7 +273,7 @@ module _ (σ : Setting) (T : List ℕ) where
   closeRefused room = orElse (tableFault σ T) (closeRefusal σ (tableState σ T) room)
 
   unfoldable pub closeTable : List ℕ
-  closeTable = staged 3 T
+  closeTable = staged stageClosed T
 
   unfoldable pub closeBytes : List ℕ
   closeBytes = totalsMessage σ (openedIn σ T) (acceptedIn σ T) (totalsIn σ T)

@@ -23,11 +23,11 @@ use Rattle.rules.specs.Judging.{allowedPair}
 use Rattle.rules.specs.Making.{shareLength}
 use Rattle.rules.specs.Messages.{kindIn, idIn, serverIn, shareElements, placeIn, roundLength, headerFault, elementsFault, roundFault}
 use Rattle.rules.specs.Messages.{firstSum, secondSum, bothZero}
-use Rattle.rules.specs.Server.{Opened, waitingOf, isMember, messageOne, messageTwo, shareRefusal, oneRefusal, twoRefusal, dropRefusal}
+use Rattle.rules.specs.Server.{Opened, waitingOf, isMember, messageOne, messageTwo, shareRefusal, oneRefusal, twoRefusal, dropRefusal, withSums}
 use Rattle.rules.specs.Server.{closeRefusal, whileIdle, whileOne, whileTwo, whileWaiting}
 use Rattle.rules.specs.Ledger.{Call, share, roundOne, roundTwo, drop, close, Answer, refused, wrote, judged, done, Note}
 use Rattle.rules.specs.Ledger.{Progress, isIdle, waitsOne, waitsTwo, isClosed, accepted, rejected, dropped, Decided, Ledger}
-use Rattle.rules.specs.Ledger.{idsOf, notesOf, closingMessage, noted, withSums, ledgerStage, ledgerState, refusalOf, noteOf}
+use Rattle.rules.specs.Ledger.{idsOf, notesOf, closingMessage, noted, ledgerStage, ledgerState, refusalOf, noteOf}
 use Rattle.rules.specs.Ledger.{decideWaiting, sumsNoted, ledgerAfter, ledgerMessage, answerOf, ledgerStep, ledgerSays}
 use Rattle.rules.specs.Ledger.{runLedger, ledgerAnswers}
 use Rattle.rules.specs.WholeRun.{BytesIn, waitingNote, joinedIn, handedIn}
@@ -63,7 +63,7 @@ module _ (σ : Setting) (o : Opened) where
   -- the message of round two that follows joined messages of round one
   abbrev pub answerTo : Note → List ℕ → List ℕ
   answerTo n joined =
-      messageTwo σ o (withSums σ o (noted σ o n) (firstSum σ (o .servers) joined) (secondSum σ (o .servers) joined))
+      messageTwo σ o (withSums (noted σ o n) (firstSum σ (o .servers) joined) (secondSum σ (o .servers) joined))
 
   abbrev pub verdictOn : Note → List ℕ → Decided
   verdictOn n joined = record { note = n; decision = cond (bothZero σ (o .servers) joined) accepted rejected }
@@ -143,7 +143,7 @@ module _ (σ : Setting) (o : Opened) where
   passed (waitsTwo n x y) ds (share m r s room) b e = absurd (omega arith)
   passed (waitsTwo n x y) ds (roundOne joined room) b e = absurd (omega arith)
   passed (waitsTwo n x y) ds (roundTwo joined) b e =
-      let mine = messageTwo σ o (withSums σ o (noted σ o n) x y) in
+      let mine = messageTwo σ o (withSums (noted σ o n) x y) in
       judges ds n x y joined (round-passed σ (o .servers) 35 (n .id) (o .own) mine joined e)
   passed (waitsTwo n x y) ds drop b e = drops ds (waitsTwo n x y) n refl
   passed (waitsTwo n x y) ds (close room) b e = absurd (omega arith)

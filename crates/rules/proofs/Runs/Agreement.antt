@@ -16,8 +16,8 @@ use Rattle.algebra.proofs.Members.{in-map, not-in}
 use Rattle.algebra.proofs.Sums.{sum-ext}
 use Rattle.rules.specs.Settings.{Setting, Facts}
 use Rattle.rules.specs.Messages.{kindIn, idIn, firstIn, secondIn, placeIn, firstSum, secondSum, bothZero}
-use Rattle.rules.specs.Server.{Waiting, sigmaIn, messageOne, messageTwo}
-use Rattle.rules.specs.Ledger.{Note, Decided, empty, isAccepted, isDropped, idsOf, noted, withSums}
+use Rattle.rules.specs.Server.{Waiting, sigmaIn, messageOne, messageTwo, withSums}
+use Rattle.rules.specs.Ledger.{Note, Decided, empty, isAccepted, isDropped, idsOf, noted}
 use Rattle.rules.specs.WholeRun.{Pool, openedAt, ledgerAt, answersAt, noteUnder, handedIn, notesAt, Conditions}
 use Rattle.rules.proofs.Histories.Checks.{IsOf}
 use Rattle.rules.proofs.Histories.Moves.{History, history, Joined, answerTo}
@@ -55,7 +55,7 @@ module _ (σ : Setting) (𝓟 : Pool σ) where
   eAll id = sum (modulo (σ .modulus)) (𝓟 .servers) (λ q. firstAt id q .e)
 
   abbrev pub secondAt : ℕ → ℕ → Waiting
-  secondAt id q = withSums σ (openedAt σ 𝓟 q) (firstAt id q) (dAll id) (eAll id)
+  secondAt id q = withSums (firstAt id q) (dAll id) (eAll id)
 
   abbrev pub sigmaAll : ℕ → ℕ
   sigmaAll id = sum (modulo (σ .modulus)) (𝓟 .servers) (λ q. sigmaIn σ (openedAt σ 𝓟 q) (secondAt id q))
@@ -146,7 +146,7 @@ module _ (σ : Setting) (𝓟 : Pool σ) where
             absurd (omega (arith, f .kind-is))
         go (of-one n a j k s e) =
             let o = openedAt σ 𝓟 q in
-            let w = withSums σ o (noted σ o n) (firstSum σ (𝓟 .servers) j) (secondSum σ (𝓟 .servers) j) in
+            let w = withSums (noted σ o n) (firstSum σ (𝓟 .servers) j) (secondSum σ (𝓟 .servers) j) in
             let r : idIn (answerTo σ o n j) ≡ w .id =
             id-two σ o w (rw (id-noted σ o n) (sound-at q b .ids-fit n a)) in
             let same : n .id ≡ id = sym (id-noted σ o n) ∙ sym r ∙ ap idIn (sym e) ∙ f .id-is in
@@ -156,8 +156,8 @@ module _ (σ : Setting) (𝓟 : Pool σ) where
             record {
               is =
                   e
-                  ∙ ap₂ (λ (x y : ℕ). messageTwo σ o (withSums σ o (noted σ o n) x y)) d c
-                  ∙ ap (λ (v : Note). messageTwo σ o (withSums σ o (noted σ o v) (dAll id) (eAll id)))
+                  ∙ ap₂ (λ (x y : ℕ). messageTwo σ o (withSums (noted σ o n) x y)) d c
+                  ∙ ap (λ (v : Note). messageTwo σ o (withSums (noted σ o v) (dAll id) (eAll id)))
                   (sym (found id q b n a same));
               of = is-noted id q b n a same;
             }

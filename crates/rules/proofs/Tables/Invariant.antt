@@ -20,10 +20,10 @@ use Rattle.rules.specs.Settings.{Setting, Facts}
 use Rattle.rules.specs.Columns.{Column, within, readSheet, totalsFit, publishedIn}
 use Rattle.rules.specs.Circuit.{gatesIn}
 use Rattle.rules.specs.Judging.{shareSize, allowedPair, dOf, eOf, hAt, tauOf, folded}
-use Rattle.rules.specs.Server.{Opened, Waiting, Stage, ServerState, waitingOf}
+use Rattle.rules.specs.Server.{Opened, Waiting, Stage, ServerState, waitingOf, withSums}
 use Rattle.rules.specs.Table.{waitLength, tableState, tableFault}
 use Rattle.rules.specs.Ledger.{Note, Progress, isIdle, waitsOne, waitsTwo, isClosed, Decided, Ledger, isAccepted, notesWith, idsOf}
-use Rattle.rules.specs.Ledger.{notesOf, noted, withSums, ledgerStage, ledgerState, ledgerTotals}
+use Rattle.rules.specs.Ledger.{notesOf, noted, ledgerStage, ledgerState, ledgerTotals}
 use Rattle.rules.proofs.Tables.Parts.{Parts, Sized, assemble}
 use Rattle.rules.proofs.Tables.State.{wordAt, shareAt, waitingAt, stageAt, knownAt, known-is}
 use Rattle.rules.proofs.Tables.Sound.{WaitSound, Limited, waitingCount, no-table-fault}
@@ -60,7 +60,7 @@ module _ (σ : Setting) (o : Opened) where
   Staged (waitsOne n) b wait = (b ≡ 1) × (waitingAt σ (o .columns) wait ≡ noted σ o n) × NoteFits σ (o .columns) n
   Staged (waitsTwo n d e) b wait =
       (b ≡ 2)
-      × (waitingAt σ (o .columns) wait ≡ withSums σ o (noted σ o n) d e)
+      × (waitingAt σ (o .columns) wait ≡ withSums (noted σ o n) d e)
       × NoteFits σ (o .columns) n
       × (d < σ .modulus)
       × (e < σ .modulus)
@@ -144,7 +144,7 @@ module _ (σ : Setting) (facts : Facts σ) where
 
   -- what is noted is within the limits
   wait-sound : (o : Opened) (n : Note) (d e : ℕ) (wait : List ℕ) → NoteFits σ (o .columns) n → d < σ .modulus → e < σ .modulus
-      → waitingAt σ (o .columns) wait ≡ withSums σ o (noted σ o n) d e → WaitSound σ (o .columns) wait
+      → waitingAt σ (o .columns) wait ≡ withSums (noted σ o n) d e → WaitSound σ (o .columns) wait
   unfolding waitingAt
   wait-sound o n d e wait f hd he q =
       let below = pair-below (o .columns) (n .r) (n .s) (f .pair) in
@@ -153,7 +153,7 @@ module _ (σ : Setting) (facts : Facts σ) where
         pair =
             ap₂ (allowedPair σ (o .columns)) (ap (λ (v : Waiting). v .r) q ∙ same .0) (ap (λ (v : Waiting). v .s) q ∙ same .1) ∙ f .pair;
         words-below =
-            six-below (withSums σ o (noted σ o n) d e) o wait q (rw (same .0) (below .0)) (rw (same .1) (below .1)) hd he (rh-below o n)
+            six-below (withSums (noted σ o n) d e) o wait q (rw (same .0) (below .0)) (rw (same .1) (below .1)) hd he (rh-below o n)
             (tau-below o n);
         share-below = ap (allBelow (σ .modulus)) (ap (λ (v : Waiting). v .elements) q ∙ same .2) ∙ f .elements-below;
       }

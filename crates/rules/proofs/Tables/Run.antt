@@ -27,7 +27,7 @@ use Rattle.rules.specs.Table.{shareRefused, shareTable, shareBytes, oneR
 use Rattle.rules.specs.Table.{dropRefused, dropTable, closeRefused, closeTable, closeBytes}
 use Rattle.rules.specs.Ledger.{Call, share, roundOne, roundTwo, drop, close, Answer, refused, wrote, judged, done}
 use Rattle.rules.specs.Ledger.{Note, Progress, isIdle, waitsOne, waitsTwo, isClosed, accepted, rejected, dropped, Decided, Ledger}
-use Rattle.rules.specs.Ledger.{isAccepted, notesWith, idsOf, notesOf, ledgerState, ledgerStage, noted, withSums, noteOf, refusalOf}
+use Rattle.rules.specs.Ledger.{isAccepted, notesWith, idsOf, notesOf, ledgerState, ledgerStage, noted, noteOf, refusalOf}
 use Rattle.rules.specs.Ledger.{ledgerTotals, closingMessage, decideWaiting, sumsNoted, ledgerAfter, ledgerMessage, answerOf}
 use Rattle.rules.specs.Ledger.{runLedger, ledgerAnswers}
 use Rattle.rules.specs.Runs.{tableRefusal, tableAfter, tableAnswer, runTable, tableAnswers}

@@ -18,9 +18,9 @@ use Rattle.rules.specs.Columns.{Column}
 use Rattle.rules.specs.Judging.{shareSize, allowedPair}
 use Rattle.rules.specs.Making.{shareLength}
 use Rattle.rules.specs.Messages.{idIn, shareElements, firstSum, secondSum}
-use Rattle.rules.specs.Server.{Opened, Waiting, waitingOf, summed}
+use Rattle.rules.specs.Server.{Opened, Waiting, waitingOf, summed, withSums}
 use Rattle.rules.specs.Table.{waitPlace, openedIn, waitingIn, shareTable, oneTable}
-use Rattle.rules.specs.Ledger.{Note, Progress, isIdle, waitsOne, waitsTwo, Decided, Ledger, noted, withSums, noteOf}
+use Rattle.rules.specs.Ledger.{Note, Progress, isIdle, waitsOne, waitsTwo, Decided, Ledger, noted, noteOf}
 use Rattle.rules.proofs.Tables.Parts.{Parts, Sized, assemble, placed}
 use Rattle.rules.proofs.Tables.State.{waitingAt, openedAt, opened-is, waiting-is}
 use Rattle.rules.proofs.Tables.Writes.{setStage, setRuns, waits-sized, put-stage, put-wait}
@@ -146,7 +146,7 @@ module _ (σ : Setting) (facts : Facts σ) (o : Opened) (sheet : List ℕ) where
           staged = (
             refl,
             summed-back σ (o .columns) (g .wait) d e (b .sized .wait-long) (fits-bytes d low-d) (fits-bytes e low-e)
-                ∙ ap (λ (w : Waiting). withSums σ o w d e) same,
+                ∙ ap (λ (w : Waiting). withSums w d e) same,
             b .staged .2,
             low-d,
             low-e,

@@ -1,8 +1,9 @@
 # The commands of the README, and what is handy beside them.
 .PHONY: help demo run test fuzz bench format
 
-# The core as a C library, and the sources that it is made from.
+# The core as a C library, the crates with its functions, and the sources that it is made from.
 ARCHIVE := target/staticlib/libpool.a
+PARTS := pool_sheets pool_client pool_server pool_totals
 SOURCES := crates.txt $(shell find crates -name '*.rt' -o -name '*.antt')
 
 help:
@@ -19,6 +20,15 @@ demo: target/hosts/demo
 target/hosts/demo: hosts/c/demo.c hosts/c/host.h include/pool.h $(ARCHIVE)
 	@mkdir -p target/hosts
 	@$(CC) -std=c11 -O2 -Wall -Wextra -Iinclude hosts/c/demo.c $(ARCHIVE) -o $@
+
+# One archive of all C functions: the archives of the crates that have them, made one after another, since rt keeps its notes
+# of a crate in one place. With addlib an object never takes the place of another of its name.
+$(ARCHIVE): $(SOURCES)
+	@mkdir -p target/staticlib
+	@echo 'proving the C functions and making the C library'
+	@(rt check $(PARTS) && for part in $(PARTS); do rt staticlib $$part || exit 1; done) >target/staticlib/pool.log 2>&1 || \
+	    { cat target/staticlib/pool.log; exit 1; }
+	@(echo create $@; for part in $(PARTS); do echo addlib target/staticlib/lib$$part.a; done; echo save; echo end) | ar -M
 
 target/staticlib/lib%.a: $(SOURCES)
 	@mkdir -p target/staticlib

@@ -41,7 +41,7 @@ pub fn values(example: &[u8]) {
 pub fn circuit(name: &[u8], out: &mut [u8]) {
     let mut written: usize = 0;
     write(name);
-    let number = pool::pool_circuit(&[17], out, &mut written);
+    let number = pool_sheets::pool_circuit(&[17], out, &mut written);
     printing::outcome(number, b": bytes ", written as u64);
 }
 

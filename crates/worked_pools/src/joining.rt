@@ -33,7 +33,7 @@ pub fn show() {
     let mut out = [0u8; 16];
     let mut accepted: u32 = 0;
     let mut written: usize = 0;
-    let number = pool::pool_join(
+    let number = pool_totals::pool_join(
         2,
         &[17, 18, 3],
         10,

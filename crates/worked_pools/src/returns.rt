@@ -17,7 +17,7 @@ struct Server {
 fn open(own: u32) -> Server {
     let mut table = [0u8; 121];
     let mut written: usize = 0;
-    let number = pool::pool_open(2, own, &[17], 10, &mut table, &mut written);
+    let number = pool_server::pool_open(2, own, &[17], 10, &mut table, &mut written);
     Server {
         table: table,
         number: number,
@@ -30,7 +30,7 @@ fn share(server: Server, m: [u8; 42], r: u64) -> Server {
     let mut table = server.table;
     let mut message = [0u8; 14];
     let mut written: usize = 0;
-    let number = pool::pool_share(&mut table, &m, r, 0, &mut message, &mut written);
+    let number = pool_server::pool_share(&mut table, &m, r, 0, &mut message, &mut written);
     Server {
         table: table,
         number: number,
@@ -43,7 +43,7 @@ fn round_one(server: Server, joined: [u8; 28]) -> Server {
     let mut table = server.table;
     let mut message = [0u8; 14];
     let mut written: usize = 0;
-    let number = pool::pool_round_one(&mut table, &joined, &mut message, &mut written);
+    let number = pool_server::pool_round_one(&mut table, &joined, &mut message, &mut written);
     Server {
         table: table,
         number: number,
@@ -55,7 +55,7 @@ fn round_one(server: Server, joined: [u8; 28]) -> Server {
 fn verdict(server: Server, joined: [u8; 28]) {
     let mut table = server.table;
     let mut accepted: u32 = 0;
-    let number = pool::pool_round_two(&mut table, &joined, &mut accepted);
+    let number = pool_server::pool_round_two(&mut table, &joined, &mut accepted);
     if number != 0 {
         refused(number);
         return;
@@ -166,7 +166,15 @@ pub fn make() -> [u8; 42] {
     let mut out = [0u8; 84];
     let mut written: usize = 0;
     let numbers = random();
-    let number = pool::pool_make(&[17], 2, 9, &[1, 0, 0, 0], &numbers, &mut out, &mut written);
+    let number = pool_client::pool_make(
+        &[17],
+        2,
+        9,
+        &[1, 0, 0, 0],
+        &numbers,
+        &mut out,
+        &mut written,
+    );
     made(number, out, written);
     first(out)
 }
@@ -176,6 +184,6 @@ pub fn opens(returns: u32) {
     let mut table = [0u8; 1000];
     let mut written: usize = 0;
     item(b"sheet 19 24, N ", returns as u64);
-    let number = pool::pool_open(2, 0, &[19, 24], returns, &mut table, &mut written);
+    let number = pool_server::pool_open(2, 0, &[19, 24], returns, &mut table, &mut written);
     printing::outcome(number, b": a table of bytes ", written as u64);
 }

@@ -1,6 +1,0 @@
--- Laws of the outcomes.
-pub mod Outcomes
-pub mod Sheets
-pub mod Circuits
-pub mod Totals
-pub mod Verdicts

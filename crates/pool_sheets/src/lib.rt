@@ -1,0 +1,61 @@
+// The C functions of whoever writes a sheet: each hands its arguments to one call and its answer to the host, and has no
+// rules of its own.
+// include/pool.h tells a host how to use them. Each takes any arguments and returns 0 or the number of the refusal; the
+// promises (specs/Calls) are equalities with rules' definitions at document 01's setting.
+ghost use Rattle.pool_sheets.specs.Calls.{ReadsSheet, WritesCircuit, ReadsCircuit};
+use sheet::Reading;
+
+#[no_mangle]
+pub extern "C" fn pool_read_sheet(
+    sheet: &[u8],
+    columns: &mut u32,
+    entries: &mut u32,
+    multiplications: &mut u32,
+    published: &mut u32,
+) -> u32
+    ensures { λ r. ⌜ ReadsSheet (now (sheet .entry))
+        (now (columns .entry)) (now (entries .entry)) (now (multiplications .entry)) (now (published .entry))
+        r (now (columns .exit)) (now (entries .exit)) (now (multiplications .exit)) (now (published .exit)) ⌝ }
+{
+    match sheet::read(sheet) {
+        Reading::Refused(refusal) => refusal,
+        Reading::Counts(counts) => {
+            *columns = counts.columns as u32;
+            *entries = counts.entries as u32;
+            *multiplications = counts.gates as u32;
+            *published = counts.published as u32;
+            0
+        }
+    }
+}
+
+#[no_mangle]
+pub extern "C" fn pool_circuit(sheet: &[u8], out: &mut [u8], written: &mut usize) -> u32
+    ensures { λ r. ⌜ WritesCircuit (now (sheet .entry)) (now (out .entry)) (now (written .entry))
+        r (now (out .exit)) (now (written .exit)) ⌝ }
+{
+    records::hand_back(compile::write(sheet, out), written)
+}
+
+#[no_mangle]
+pub extern "C" fn pool_read_circuit(
+    entries: u32,
+    circuit: &[u8],
+    wires: &mut u32,
+    multiplications: &mut u32,
+    tests: &mut u32,
+) -> u32
+    ensures { λ r. ⌜ ReadsCircuit entries (now (circuit .entry))
+        (now (wires .entry)) (now (multiplications .entry)) (now (tests .entry))
+        r (now (wires .exit)) (now (multiplications .exit)) (now (tests .exit)) ⌝ }
+{
+    match circuit::read(entries, circuit) {
+        circuit::Reading::Refused(refusal) => refusal,
+        circuit::Reading::Counts(counts) => {
+            *wires = counts.wires;
+            *multiplications = counts.multiplications;
+            *tests = counts.tests;
+            0
+        }
+    }
+}

@@ -1,45 +1,44 @@
 -- Document 01, "Examples at the bench": the marked cases as one table, then the others, with cases of the readings that
--- docs/DECISIONS.md tells. Each row says what it shows and is a test that computes; proofs/Examples has them pass.
+-- docs/DECISIONS.md tells and of the limits. Each row says what it shows and is a test that computes; proofs/Computed has
+-- them pass. TableExamples has the rows about a server's table.
 -- Assumes nothing.
-use mathlib.Core.Bool.{Bool, true, false, _&&_, not}
+use mathlib.Core.Bool.{Bool, _&&_, not}
 use mathlib.Core.List.{List, [], _∷_, _++_}
-use Prim.Native.Nat.{ℕ, zero, suc, _+_, _-_, _*_}
+use Prim.Native.Nat.{ℕ, suc, _+_, _-_, _*_}
 use Prim.Native.String.{String}
 use lib.Dec.{eqb}
-use lib.ListN.{length, getD, set, take, drop, replicate}
-use Rattle.algebra.specs.Lists.{tabulate}
+use lib.ListN.{length, getD, replicate}
 use Rattle.algebra.specs.Modulo.{modulo}
 use Rattle.words.specs.Bytes.{bytesOf, bytesOfAll, sameBytes}
 use Rattle.rules.specs.Settings.{Setting, document01}
-use Rattle.rules.specs.Columns.{Column, yesNo, choice, number, entriesIn, publishedFrom, sheetFault, columnsOf}
-use Rattle.rules.specs.Circuit.{Step, gatesIn, testsIn, wiresIn, circuitOf, circuitBytes}
-use Rattle.rules.specs.CircuitReader.{circuitFault, countIn, stepWires, stepGates, stepTests}
+use Rattle.rules.specs.Columns.{Column, yesNo, choice, number, entriesIn, publishedFrom, faultIn, sheetFault, columnsOf}
+use Rattle.rules.specs.Circuit.{Step, constant, multiply, test, gatesIn, testsIn, wiresIn, circuitOf, circuitBytes}
+use Rattle.rules.specs.CircuitReader.{circuitFault, circuitLimits, countIn, stepWires, stepGates, stepTests}
 use Rattle.rules.specs.Values.{encoding}
-use Rattle.rules.specs.Judging.{dSum, eSum, sigmaSum, tauSum, letsIn}
-use Rattle.rules.specs.Making.{madeWhole, madeShare, shareLength, shareMessage, shareOf, makeRefusal}
-use Rattle.rules.specs.Table.{openRefusal, openBytes, shareRefused, shareTable, shareBytes, oneRefused, oneTable, oneBytes}
-use Rattle.rules.specs.Table.{twoRefused, twoVerdict, twoTable, dropRefused, dropTable, closeRefused, closeTable, closeBytes}
-use Rattle.rules.specs.Joining.{joinRefusal, joinCount, joinTotals}
+use Rattle.rules.specs.Judging.{folded, tauOf, dSum, eSum, sigmaSum, tauSum, letsIn}
+use Rattle.rules.specs.Making.{madeWhole, madeShare, shareLength, shareMessage, shareOf}
+use Rattle.rules.specs.Table.{openRefusal, openBytes, shareRefused}
+use Rattle.rules.specs.Joining.{joinRefusal}
 use Rattle.rules.specs.Recount.{recountText}
 
 pub record Row : Type 0 where
   pub shows : String
   pub holds : Bool
 
-abbrev row : String → Bool → Row
+abbrev pub row : String → Bool → Row
 row shows holds = record { shows = shows; holds = holds }
 
-abbrev P : ℕ
+abbrev pub P : ℕ
 P = 2147483647
 
-abbrev σ : Setting
+abbrev pub σ : Setting
 σ = document01
 
-abbrev same : List ℕ → List ℕ → Bool
+abbrev pub same : List ℕ → List ℕ → Bool
 same = sameBytes
 
 -- sheet 17, and its circuit
-abbrev yesSheet : List Column
+abbrev pub yesSheet : List Column
 yesSheet = yesNo ∷ []
 
 abbrev circuit17 : List ℕ
@@ -48,21 +47,21 @@ circuit17 =
     ∷ 0x00 ∷ 0x06 ∷ 0x03 ∷ 0x00 ∷ []
 
 -- random elements: u_0 = 2, v_0 = 3, a = 5, b = 7, then any share for server 1
-abbrev random : List ℕ
+abbrev pub random : List ℕ
 random = 2 ∷ 3 ∷ 5 ∷ 7 ∷ 10 ∷ 2000 ∷ 300000 ∷ 40000000 ∷ 2147483646 ∷ 60 ∷ 7 ∷ 888888888 ∷ 99 ∷ []
 
 -- the return of a yes, whole and in two shares
 abbrev wholeYes : List ℕ
 wholeYes = madeWhole σ yesSheet 2 (1 ∷ []) random
 
-abbrev honest : ℕ → ℕ → ℕ
+abbrev pub honest : ℕ → ℕ → ℕ
 honest i e = getD (madeShare σ yesSheet 2 (1 ∷ []) random i) e 0
 
 -- the false entry 2 with f(0) = 2, g(0) = 3, h(0..2) = 6, 0, 2147483645 and c = a × b, in two shares
 abbrev wholeFalse : List ℕ
 wholeFalse = 2 ∷ 2 ∷ 3 ∷ 6 ∷ 0 ∷ 2147483645 ∷ 5 ∷ 7 ∷ 35 ∷ []
 
-abbrev cheat : ℕ → ℕ → ℕ
+abbrev pub cheat : ℕ → ℕ → ℕ
 cheat i e = shareOf (modulo P) 2 (λ k. getD wholeFalse k 0) (λ j k. getD random (4 + k) 0) i e
 
 -- what a fresh table of server 0, opened for a sheet 17, says to a sound share with the challenges r and s
@@ -143,10 +142,6 @@ largest =
     ++ (19 ∷ 24 ∷ 19 ∷ 24 ∷ 19 ∷ 24 ∷ 19 ∷ 24 ∷ 19 ∷ 24 ∷ [])
     ++ (19 ∷ 5 ∷ [])
 
--- wires, multiplications and tests of a circuit of one entry
-abbrev counts : List ℕ → List ℕ
-counts s = countIn stepWires σ 1 s ∷ countIn stepGates σ 1 s ∷ countIn stepTests σ 1 s ∷ []
-
 unfoldable pub unmarked : List Row
 unmarked =
     row "recount prints the text told" (same (recountText σ recountInput) recountOutput)
@@ -173,101 +168,80 @@ unmarked =
     ∷ row "N = 1 and 1024 open" (eqb (toOpen (17 ∷ []) 1) 0 && eqb (toOpen (17 ∷ []) 1024) 0)
     ∷ row "joining: 4 before 12" (eqb (joinRefusal σ 2 (19 ∷ 24 ∷ []) 129 [] 100) 4)
     ∷ row "joining nothing: 12" (eqb (joinRefusal σ 2 (17 ∷ []) 10 [] 100) 12)
-    ∷ row "an empty circuit: 2" (eqb (circuitFault σ 1 []) 2)
-    ∷ row "a circuit of 0 or 257 entries: 2" (eqb (circuitFault σ 0 circuit17) 2 && eqb (circuitFault σ 257 circuit17) 2)
+    ∷ []
+
+-- wires, multiplications and tests of a circuit of one entry
+abbrev counts : List ℕ → List ℕ
+counts s = countIn stepWires σ 1 s ∷ countIn stepGates σ 1 s ∷ countIn stepTests σ 1 s ∷ []
+
+-- a circuit with so many wires, multiplications and tests
+abbrev sized : ℕ → ℕ → ℕ → List Step
+sized w m k = replicate (w - m) (constant 0) ++ replicate m (multiply 0 0) ++ replicate k (test 0)
+
+-- the refusal of reading it
+abbrev toRead : ℕ → ℕ → ℕ → ℕ
+toRead w m k = circuitFault σ 1 (circuitBytes σ (sized w m k))
+
+-- the refusal by the total limits alone
+abbrev toLimits : ℕ → ℕ → ℕ → ℕ
+toLimits w m k = faultIn (circuitLimits (sized w m k))
+
+-- Circuits: their limits, on both sides, and their order of refusals
+unfoldable pub circuits : List Row
+circuits =
+    row "an empty circuit: 2" (eqb (circuitFault σ 1 []) 2)
     ∷ row "the circuit of sheet 17 is read" (eqb (circuitFault σ 1 circuit17) 0)
     ∷ row "its wires, multiplications and tests" (same (counts circuit17) (4 ∷ 1 ∷ 1 ∷ []))
+    ∷ row "a circuit of 0 or 257 entries: 2" (eqb (circuitFault σ 0 circuit17) 2 && eqb (circuitFault σ 257 circuit17) 2)
+    ∷ row "a circuit of 256 entries is read" (eqb (circuitFault σ 256 circuit17) 0)
+    ∷ row "entry L: 3" (eqb (circuitFault σ 1 (2 ∷ 1 ∷ 0 ∷ [])) 3)
     ∷ row "a step that names its own wire: 3" (eqb (circuitFault σ 1 (2 ∷ 0 ∷ 0 ∷ 3 ∷ 0 ∷ 0 ∷ 1 ∷ 0 ∷ [])) 3)
     ∷ row "the constant p: 2" (eqb (circuitFault σ 1 (1 ∷ 0xFF ∷ 0xFF ∷ 0xFF ∷ 0x7F ∷ [])) 2)
-    ∷ row "entry L: 3" (eqb (circuitFault σ 1 (2 ∷ 1 ∷ 0 ∷ [])) 3)
+    ∷ row "kind 4 with the constant p and a wire not made: 2" (eqb (circuitFault σ 1 (4 ∷ 9 ∷ 0 ∷ bytesOf 4 P)) 2)
+    ∷ row "kind 0 and kind 7: 1" (eqb (circuitFault σ 1 (0 ∷ 0 ∷ 0 ∷ [])) 1 && eqb (circuitFault σ 1 (7 ∷ 0 ∷ 0 ∷ [])) 1)
+    ∷ row "a cut step: 1, not 3" (eqb (circuitFault σ 1 (6 ∷ 9 ∷ [])) 1)
+    ∷ row "17,920 bytes: the first step is looked at" (eqb (circuitFault σ 1 (replicate 17920 0)) 1)
+    ∷ row "17,921 bytes: 2 before any step" (eqb (circuitFault σ 1 (replicate 17921 0)) 2)
+    ∷ row "0 entries: 2 before any step" (eqb (circuitFault σ 0 (0 ∷ [])) 2)
+    ∷ row "1 multiplication and 1 test are read" (eqb (toRead 2 1 1) 0)
+    ∷ row "no multiplication: 2" (eqb (toRead 2 0 1) 2)
+    ∷ row "no test: 2" (eqb (toRead 2 1 0) 2)
+    ∷ row "256 multiplications are within the limits" (eqb (toLimits 257 256 1) 0)
+    ∷ row "257 multiplications: 2" (eqb (toLimits 258 257 1) 2)
+    ∷ row "512 tests are within the limits" (eqb (toLimits 2 1 512) 0)
+    ∷ row "513 tests: 2" (eqb (toLimits 2 1 513) 2)
+    ∷ row "2,048 wires are within the limits" (eqb (toLimits 2048 1 1) 0)
+    ∷ row "2,049 wires: 2" (eqb (toLimits 2049 1 1) 2)
+    ∷ row "no test, and then byte 99: 1, the total limits last" (eqb (circuitFault σ 1 (circuitBytes σ (sized 2 1 0) ++ (99 ∷ []))) 1)
     ∷ row "the largest circuit of a sheet: 1,248 wires" (eqb (suc (wiresIn (columnsOf largest))) 1248)
     ∷ row "7,008 bytes" (eqb (length (circuitBytes σ (circuitOf σ (columnsOf largest)))) 7008)
     ∷ []
 
--- Two servers, sheet 17, N = 2: the calls on their tables, one after another. The share of server i under an id
-abbrev shareIn : (ℕ → ℕ → ℕ) → ℕ → ℕ → List ℕ
-shareIn x id i = shareMessage σ id i (tabulate (x i) 9)
+-- a share of sheet 18 2 whose elements are 10, 20, 30, ..: h(1) = 60, h(2) = 70 and, at server 0, 10 + 20 - 1 are tested
+abbrev choiceSheet : List Column
+choiceSheet = choice 2 ∷ []
 
-abbrev fresh : ℕ → List ℕ
-fresh i = openBytes σ 2 i (17 ∷ []) 2
+abbrev tens : ℕ → ℕ
+tens e = 10 + 10 * e
 
--- what the two servers write for a return with the shares x, under an id, with the challenges r and 9
-module _ (T : ℕ → List ℕ) (x : ℕ → ℕ → ℕ) (id r : ℕ) where
-  abbrev took : ℕ → List ℕ
-  took i = shareTable σ (T i) (shareIn x id i) r 9
+-- the false entry 2 with h = f × g: h(0..2) = 6, 2, 2147483645, in two shares
+abbrev wholeTwo : List ℕ
+wholeTwo = 2 ∷ 2 ∷ 3 ∷ 6 ∷ 2 ∷ 2147483645 ∷ 5 ∷ 7 ∷ 35 ∷ []
 
-  abbrev ones : List ℕ
-  ones = shareBytes σ (T 0) (shareIn x id 0) r 9 ++ shareBytes σ (T 1) (shareIn x id 1) r 9
+abbrev tested : ℕ → ℕ → ℕ
+tested i e = shareOf (modulo P) 2 (λ k. getD wholeTwo k 0) (λ j k. getD random (4 + k) 0) i e
 
-  abbrev summedUp : ℕ → List ℕ
-  summedUp i = oneTable σ (took i) ones
-
-  abbrev twos : List ℕ
-  twos = oneBytes σ (took 0) ones ++ oneBytes σ (took 1) ones
-
-  abbrev judgedBy : ℕ → List ℕ
-  judgedBy i = twoTable σ (summedUp i) twos
-
--- after an honest return under 77; then after a false one under 78 with r = 3; then closed
-abbrev first : ℕ → List ℕ
-first = judgedBy fresh honest 77 4
-
-abbrev second : ℕ → List ℕ
-second = judgedBy first cheat 78 3
-
-abbrev joinedTotals : List ℕ
-joinedTotals = closeBytes σ (second 0) ++ closeBytes σ (second 1)
-
--- the tables after the first share, and after the second was dropped
-abbrev waiting : ℕ → List ℕ
-waiting = took fresh honest 77 4
-
-abbrev messages : List ℕ
-messages = ones fresh honest 77 4
-
-abbrev afterDrop : ℕ → List ℕ
-afterDrop i = dropTable σ (waiting i)
-
-abbrev shareOf77 : List ℕ
-shareOf77 = shareIn honest 77 0
-
-abbrev broken : List ℕ
-broken = 0 ∷ []
-
-unfoldable pub onTables : List Row
-onTables =
-    row "an honest return is accepted" (twoVerdict σ (summedUp fresh honest 77 4 0) (twos fresh honest 77 4))
-    ∷ row "round one and two are not refused"
-    (eqb (oneRefused σ (waiting 0) messages 14) 0 && eqb (twoRefused σ (summedUp fresh honest 77 4 0) (twos fresh honest 77 4)) 0)
-    ∷ row "a false return is rejected" (not (twoVerdict σ (summedUp first cheat 78 3 1) (twos first cheat 78 3)))
-    ∷ row "the first return decided: a second is taken" (eqb (shareRefused σ (first 0) (shareIn cheat 78 0) 3 9 14) 0)
-    ∷ row "N decided: every share is 13, however broken" (eqb (shareRefused σ (second 0) broken 3 9 14) 13)
-    ∷ row "below N a broken share is 7" (eqb (shareRefused σ (first 0) broken 3 9 14) 7)
-    ∷ row "closing is not refused" (eqb (closeRefused σ (second 0) 10) 0)
-    ∷ row "joining is not refused" (eqb (joinRefusal σ 2 (17 ∷ []) 2 joinedTotals 4) 0)
-    ∷ row "one return was accepted" (eqb (joinCount joinedTotals) 1)
-    ∷ row "the total is 1" (same (joinTotals σ 2 (17 ∷ []) joinedTotals) (1 ∷ []))
-    ∷ row "an accepted id used again: 10" (eqb (shareRefused σ (first 0) shareOf77 4 9 14) 10)
-    ∷ row "a dropped id used again: 10" (eqb (shareRefused σ (afterDrop 0) shareOf77 4 9 14) 10)
-    ∷ row "a dropped return is not added" (same (closeBytes σ (afterDrop 0)) (36 ∷ 0 ∷ 0 ∷ 0 ∷ 0 ∷ 0 ∷ 0 ∷ 0 ∷ 0 ∷ 0 ∷ []))
-    ∷ row "own round message altered: 12" (eqb (oneRefused σ (waiting 0) (set messages 6 255) 14) 12)
-    ∷ row "another's sound message is not compared" (eqb (oneRefused σ (waiting 0) (set messages 20 7) 14) 0)
-    ∷ row "messages of another id: 12" (eqb (oneRefused σ (waiting 0) (ones fresh honest 78 4) 14) 12)
-    ∷ row "messages of the other round: 12" (eqb (oneRefused σ (waiting 0) (twos fresh honest 77 4) 14) 12)
-    ∷ row "another's element that is p: 12" (eqb (oneRefused σ (waiting 0) (take 20 messages ++ bytesOfAll 4 (P ∷ 0 ∷ [])) 14) 12)
-    ∷ row "messages in another server order: 12" (eqb (oneRefused σ (waiting 0) (drop 14 messages ++ take 14 messages) 14) 12)
-    ∷ row "one message missing: 12" (eqb (oneRefused σ (waiting 0) (take 14 messages) 14) 12)
-    ∷ row "room for 13 bytes: 14" (eqb (oneRefused σ (waiting 0) messages 13) 14)
-    ∷ row "a share while one waits: 11" (eqb (shareRefused σ (waiting 0) (shareIn honest 79 0) 4 9 14) 11)
-    ∷ row "a close while one waits: 11" (eqb (closeRefused σ (waiting 0) 100) 11)
-    ∷ row "round two before round one: 11" (eqb (twoRefused σ (waiting 0) (twos fresh honest 77 4)) 11)
-    ∷ row "a drop with nothing waiting: 11" (eqb (dropRefused σ (fresh 0)) 11)
-    ∷ row "closed: a share is 11" (eqb (shareRefused σ (closeTable σ (first 0)) broken 3 9 14) 11)
-    ∷ row "closed: a close is 11" (eqb (closeRefused σ (closeTable σ (first 0)) 100) 11)
-    ∷ row "a share for another server: 7" (eqb (shareRefused σ (fresh 1) shareOf77 4 9 14) 7)
-    ∷ row "an element that is p: 8" (eqb (shareRefused σ (fresh 0) (take 6 shareOf77 ++ bytesOfAll 4 (P ∷ replicate 8 0)) 4 9 14) 8)
-    ∷ row "a table cut by a byte: 11" (eqb (closeRefused σ (take (length (fresh 0) - 1) (fresh 0)) 100) 11)
-    ∷ row "totals counts unequal: 12" (eqb (joinRefusal σ 2 (17 ∷ []) 2 (set joinedTotals 2 0) 4) 12)
-    ∷ row "totals counts over N: 12" (eqb (joinRefusal σ 2 (17 ∷ []) 2 (set (set joinedTotals 2 3) 12 3) 4) 12)
-    ∷ row "totals in another server order: 12" (eqb (joinRefusal σ 2 (17 ∷ []) 2 (closeBytes σ (second 1) ++ closeBytes σ (second 0)) 4) 12)
+-- Judging: tau is told by its value
+unfoldable pub taus : List Row
+taus =
+    row "tests 3, 5 and 7, s = 2: 3 + 10 + 28" (eqb (folded (modulo P) (3 ∷ 5 ∷ 7 ∷ []) 2) 41)
+    ∷ row "s = 0: the first test" (eqb (folded (modulo P) (3 ∷ 5 ∷ 7 ∷ []) 0) 3)
+    ∷ row "s = p - 1: 3 - 5 + 7" (eqb (folded (modulo P) (3 ∷ 5 ∷ 7 ∷ []) (P - 1)) 5)
+    ∷ row "the tests of a share at server 0: 60 + 140 + 116" (eqb (tauOf (modulo P) σ choiceSheet 1 tens 2) 316)
+    ∷ row "at another server, which adds no constant: 60 + 140 + 120" (eqb (tauOf (modulo P) σ choiceSheet 0 tens 2) 320)
+    ∷ row "at s = 0: h(1)" (eqb (tauOf (modulo P) σ choiceSheet 1 tens 0) 60)
+    ∷ row "the false entry 2 with h = f × g: sigma 0" (eqb (sigmaSum (modulo P) σ yesSheet 2 tested 4) 0)
+    ∷ row "its tau is 2" (eqb (tauSum (modulo P) σ yesSheet 2 tested 9) 2)
+    ∷ row "at s = 0 too: 2, rejected"
+    (eqb (tauSum (modulo P) σ yesSheet 2 tested 0) 2 && not (letsIn σ yesSheet 2 tested 4 0))
     ∷ []

@@ -16,5 +16,6 @@ pub mod Joining
 pub mod Recount
 pub mod Ledger
 pub mod Examples
+pub mod TableExamples
 pub mod Runs
 pub mod WholeRun

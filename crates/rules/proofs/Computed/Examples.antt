@@ -2,7 +2,7 @@
 use mathlib.Core.Bool.{true}
 use mathlib.Core.Path.{_≡_, refl}
 use Rattle.algebra.specs.Lists.{every}
-use Rattle.rules.specs.Examples.{marked, unmarked, onTables}
+use Rattle.rules.specs.Examples.{marked, unmarked, circuits, taus}
 use Rattle.rules.proofs.Computed.Computing.{everything}
 
 pub marked-hold : every (λ row. row .holds) marked ≡ true
@@ -13,6 +13,10 @@ pub unmarked-hold : every (λ row. row .holds) unmarked ≡ true
 unfolding everything unmarked
 unmarked-hold = refl
 
-pub on-tables-hold : every (λ row. row .holds) onTables ≡ true
-unfolding everything onTables
-on-tables-hold = refl
+pub circuits-hold : every (λ row. row .holds) circuits ≡ true
+unfolding everything circuits
+circuits-hold = refl
+
+pub taus-hold : every (λ row. row .holds) taus ≡ true
+unfolding everything taus
+taus-hold = refl

@@ -1,0 +1,18 @@
+-- The rows about a server's table come out: antt computes each row. Assumes nothing.
+use mathlib.Core.Bool.{true}
+use mathlib.Core.Path.{_≡_, refl}
+use Rattle.algebra.specs.Lists.{every}
+use Rattle.rules.specs.TableExamples.{limits, onTables, inOrder}
+use Rattle.rules.proofs.Computed.Computing.{everything}
+
+pub limits-hold : every (λ row. row .holds) limits ≡ true
+unfolding everything limits
+limits-hold = refl
+
+pub on-tables-hold : every (λ row. row .holds) onTables ≡ true
+unfolding everything onTables
+on-tables-hold = refl
+
+pub in-order-hold : every (λ row. row .holds) inOrder ≡ true
+unfolding everything inOrder
+in-order-hold = refl

@@ -1,0 +1,185 @@
+-- Document 01, "Judging", "Whole runs" and "Who can cause which refusal": a server's table by rows that compute. First
+-- the tables within the limits and those past them, then calls on the tables of two servers, then the order of a share's
+-- refusals. Assumes nothing.
+use mathlib.Core.Bool.{Bool, _&&_, _||_, not}
+use mathlib.Core.List.{List, [], _∷_, _++_}
+use Prim.Native.Nat.{ℕ, _+_, _-_, _*_}
+use lib.Dec.{eqb}
+use lib.ListN.{length, set, take, drop, replicate}
+use Rattle.algebra.specs.Lists.{every, countFrom, tabulate}
+use Rattle.words.specs.Bytes.{bytesOf, bytesOfAll, splice}
+use Rattle.rules.specs.Making.{shareMessage}
+use Rattle.rules.specs.Table.{tableSound, openBytes, shareRefused, shareTable, shareBytes, oneRefused, oneTable, oneBytes}
+use Rattle.rules.specs.Table.{twoRefused, twoVerdict, twoTable, dropRefused, dropTable, closeRefused, closeTable, closeBytes}
+use Rattle.rules.specs.Joining.{joinRefusal, joinCount, joinTotals}
+use Rattle.rules.specs.Examples.{Row, row, P, σ, same, honest, cheat}
+
+-- the table that server i of two opens for sheet 17 and N = 2, 89 bytes
+abbrev fresh : ℕ → List ℕ
+fresh i = openBytes σ 2 i (17 ∷ []) 2
+
+abbrev sound : List ℕ → Bool
+sound T = tableSound σ T
+
+-- that table with one byte changed, and with so many decided and accepted
+abbrev changed : ℕ → ℕ → List ℕ
+changed place byte = set (fresh 0) place byte
+
+abbrev counted : ℕ → ℕ → List ℕ
+counted decided accepted = splice (fresh 0) 6 (bytesOf 2 decided ++ bytesOf 2 accepted)
+
+-- that table at a stage, with r = 2, and number k of the six after the waiting id, or number k of the share's elements
+abbrev waitsAt : ℕ → List ℕ
+waitsAt stage = splice (changed 1 stage) 29 (bytesOf 4 2)
+
+abbrev word : ℕ → ℕ → List ℕ
+word k v = splice (waitsAt 1) (29 + 4 * k) (bytesOf 4 v)
+
+abbrev element : ℕ → ℕ → List ℕ
+element k v = splice (waitsAt 1) (53 + 4 * k) (bytesOf 4 v)
+
+-- "11: a table whose length, stage, counts, sheet, numbers or elements break the limits": each limit on both sides
+unfoldable pub limits : List Row
+limits =
+    row "a fresh table" (sound (fresh 0))
+    ∷ row "89 bytes, and more; not 88, nor 11, nor none"
+    (eqb (length (fresh 0)) 89
+    && (sound (fresh 0 ++ (7 ∷ [])) && not (sound (take 88 (fresh 0)) || (sound (take 11 (fresh 0)) || sound []))))
+    ∷ row "the table byte is 1, not 0 or 2" (not (sound (changed 0 0) || sound (changed 0 2)))
+    ∷ row "stage 3" (sound (changed 1 3))
+    ∷ row "not stage 4" (not (sound (changed 1 4)))
+    ∷ row "8 servers" (sound (changed 2 8))
+    ∷ row "not 1 or 9 servers" (not (sound (changed 2 1) || sound (changed 2 9)))
+    ∷ row "own number S - 1" (sound (changed 3 1))
+    ∷ row "not own number S" (not (sound (changed 3 2)))
+    ∷ row "N = 1" (sound (openBytes σ 2 0 (17 ∷ []) 1))
+    ∷ row "N = 1,024" (sound (openBytes σ 2 0 (17 ∷ []) 1024))
+    ∷ row "not N = 0" (not (sound (openBytes σ 2 0 (17 ∷ []) 0)))
+    ∷ row "not N = 1,025" (not (sound (openBytes σ 2 0 (17 ∷ []) 1025)))
+    ∷ row "no sheet with a fault" (not (sound (changed 12 20)))
+    ∷ row "no empty sheet" (not (sound (openBytes σ 2 0 [] 2)))
+    ∷ row "b = 24: N = 128" (sound (openBytes σ 2 0 (19 ∷ 24 ∷ []) 128))
+    ∷ row "b = 24: not N = 129" (not (sound (openBytes σ 2 0 (19 ∷ 24 ∷ []) 129)))
+    ∷ row "N decided, all accepted" (sound (counted 2 2))
+    ∷ row "not over N decided" (not (sound (counted 3 0)))
+    ∷ row "not more accepted than decided" (not (sound (counted 1 2)))
+    ∷ row "a total p - 1" (sound (splice (fresh 0) 13 (bytesOf 4 (P - 1))))
+    ∷ row "no total p" (not (sound (splice (fresh 0) 13 (bytesOf 4 P))))
+    ∷ row "a return waits" (sound (waitsAt 1) && sound (waitsAt 2))
+    ∷ row "a return waits with N - 1 decided" (sound (splice (waitsAt 2) 6 (bytesOf 2 1)))
+    ∷ row "not with N decided" (not (sound (splice (waitsAt 1) 6 (bytesOf 2 2)) || sound (splice (waitsAt 2) 6 (bytesOf 2 2))))
+    ∷ row "not with r = M" (not (sound (word 0 1)))
+    ∷ row "r = M where none waits" (sound (splice (changed 1 0) 29 (bytesOf 4 1)) && sound (splice (changed 1 3) 29 (bytesOf 4 1)))
+    ∷ row "r, s, d, e, r h(r) or tau p - 1" (every (λ k. sound (word k (P - 1))) (countFrom 0 6))
+    ∷ row "none of them p" (every (λ k. not (sound (word k P))) (countFrom 0 6))
+    ∷ row "the first and the last element of the share p - 1" (sound (element 0 (P - 1)) && sound (element 8 (P - 1)))
+    ∷ row "neither p" (not (sound (element 0 P) || sound (element 8 P)))
+    ∷ []
+
+-- The calls on the tables of two servers, one after another. The share of server i under an id
+abbrev shareIn : (ℕ → ℕ → ℕ) → ℕ → ℕ → List ℕ
+shareIn x id i = shareMessage σ id i (tabulate (x i) 9)
+
+-- what the two servers write for a return with the shares x, under an id, with the challenges r and 9
+module _ (T : ℕ → List ℕ) (x : ℕ → ℕ → ℕ) (id r : ℕ) where
+  abbrev took : ℕ → List ℕ
+  took i = shareTable σ (T i) (shareIn x id i) r 9
+
+  abbrev ones : List ℕ
+  ones = shareBytes σ (T 0) (shareIn x id 0) r 9 ++ shareBytes σ (T 1) (shareIn x id 1) r 9
+
+  abbrev summedUp : ℕ → List ℕ
+  summedUp i = oneTable σ (took i) ones
+
+  abbrev twos : List ℕ
+  twos = oneBytes σ (took 0) ones ++ oneBytes σ (took 1) ones
+
+  abbrev judgedBy : ℕ → List ℕ
+  judgedBy i = twoTable σ (summedUp i) twos
+
+-- after an honest return under 77; then after a false one under 78 with r = 3; then closed
+abbrev first : ℕ → List ℕ
+first = judgedBy fresh honest 77 4
+
+abbrev second : ℕ → List ℕ
+second = judgedBy first cheat 78 3
+
+abbrev joinedTotals : List ℕ
+joinedTotals = closeBytes σ (second 0) ++ closeBytes σ (second 1)
+
+-- the tables after the first share, and after the second was dropped
+abbrev waiting : ℕ → List ℕ
+waiting = took fresh honest 77 4
+
+abbrev messages : List ℕ
+messages = ones fresh honest 77 4
+
+abbrev afterDrop : ℕ → List ℕ
+afterDrop i = dropTable σ (waiting i)
+
+abbrev shareOf77 : List ℕ
+shareOf77 = shareIn honest 77 0
+
+abbrev broken : List ℕ
+broken = 0 ∷ []
+
+unfoldable pub onTables : List Row
+onTables =
+    row "an honest return is accepted" (twoVerdict σ (summedUp fresh honest 77 4 0) (twos fresh honest 77 4))
+    ∷ row "round one and two are not refused"
+    (eqb (oneRefused σ (waiting 0) messages 14) 0 && eqb (twoRefused σ (summedUp fresh honest 77 4 0) (twos fresh honest 77 4)) 0)
+    ∷ row "a false return is rejected" (not (twoVerdict σ (summedUp first cheat 78 3 1) (twos first cheat 78 3)))
+    ∷ row "the first return decided: a second is taken" (eqb (shareRefused σ (first 0) (shareIn cheat 78 0) 3 9 14) 0)
+    ∷ row "N decided: every share is 13, however broken" (eqb (shareRefused σ (second 0) broken 3 9 14) 13)
+    ∷ row "below N a broken share is 7" (eqb (shareRefused σ (first 0) broken 3 9 14) 7)
+    ∷ row "closing is not refused" (eqb (closeRefused σ (second 0) 10) 0)
+    ∷ row "joining is not refused" (eqb (joinRefusal σ 2 (17 ∷ []) 2 joinedTotals 4) 0)
+    ∷ row "one return was accepted" (eqb (joinCount joinedTotals) 1)
+    ∷ row "the total is 1" (same (joinTotals σ 2 (17 ∷ []) joinedTotals) (1 ∷ []))
+    ∷ row "an accepted id used again: 10" (eqb (shareRefused σ (first 0) shareOf77 4 9 14) 10)
+    ∷ row "a dropped id used again: 10" (eqb (shareRefused σ (afterDrop 0) shareOf77 4 9 14) 10)
+    ∷ row "a dropped return is not added" (same (closeBytes σ (afterDrop 0)) (36 ∷ 0 ∷ 0 ∷ 0 ∷ 0 ∷ 0 ∷ 0 ∷ 0 ∷ 0 ∷ 0 ∷ []))
+    ∷ row "own round message altered: 12" (eqb (oneRefused σ (waiting 0) (set messages 6 255) 14) 12)
+    ∷ row "another's sound message is not compared" (eqb (oneRefused σ (waiting 0) (set messages 20 7) 14) 0)
+    ∷ row "messages of another id: 12" (eqb (oneRefused σ (waiting 0) (ones fresh honest 78 4) 14) 12)
+    ∷ row "messages of the other round: 12" (eqb (oneRefused σ (waiting 0) (twos fresh honest 77 4) 14) 12)
+    ∷ row "another's element that is p: 12" (eqb (oneRefused σ (waiting 0) (take 20 messages ++ bytesOfAll 4 (P ∷ 0 ∷ [])) 14) 12)
+    ∷ row "messages in another server order: 12" (eqb (oneRefused σ (waiting 0) (drop 14 messages ++ take 14 messages) 14) 12)
+    ∷ row "one message missing: 12" (eqb (oneRefused σ (waiting 0) (take 14 messages) 14) 12)
+    ∷ row "room for 13 bytes: 14" (eqb (oneRefused σ (waiting 0) messages 13) 14)
+    ∷ row "a share while one waits: 11" (eqb (shareRefused σ (waiting 0) (shareIn honest 79 0) 4 9 14) 11)
+    ∷ row "a close while one waits: 11" (eqb (closeRefused σ (waiting 0) 100) 11)
+    ∷ row "round two before round one: 11" (eqb (twoRefused σ (waiting 0) (twos fresh honest 77 4)) 11)
+    ∷ row "a drop with nothing waiting: 11" (eqb (dropRefused σ (fresh 0)) 11)
+    ∷ row "closed: a share is 11" (eqb (shareRefused σ (closeTable σ (first 0)) broken 3 9 14) 11)
+    ∷ row "closed: a close is 11" (eqb (closeRefused σ (closeTable σ (first 0)) 100) 11)
+    ∷ row "a share for another server: 7" (eqb (shareRefused σ (fresh 1) shareOf77 4 9 14) 7)
+    ∷ row "an element that is p: 8" (eqb (shareRefused σ (fresh 0) (take 6 shareOf77 ++ bytesOfAll 4 (P ∷ replicate 8 0)) 4 9 14) 8)
+    ∷ row "a table cut by a byte: 11" (eqb (closeRefused σ (take (length (fresh 0) - 1) (fresh 0)) 100) 11)
+    ∷ row "totals counts unequal: 12" (eqb (joinRefusal σ 2 (17 ∷ []) 2 (set joinedTotals 2 0) 4) 12)
+    ∷ row "totals counts over N: 12" (eqb (joinRefusal σ 2 (17 ∷ []) 2 (set (set joinedTotals 2 3) 12 3) 4) 12)
+    ∷ row "totals in another server order: 12" (eqb (joinRefusal σ 2 (17 ∷ []) 2 (closeBytes σ (second 1) ++ closeBytes σ (second 0)) 4) 12)
+    ∷ []
+
+-- a share at fault in every way, and then in one way fewer each time: the wrong kind, an element p, an id decided before
+abbrev kind34 : List ℕ → List ℕ
+kind34 m = set m 0 34
+
+abbrev withP : List ℕ → List ℕ
+withP m = splice m 6 (bytesOf 4 P)
+
+abbrev share79 : List ℕ
+share79 = shareIn honest 79 0
+
+-- "A share: 11, 13, 7, 8, 10, 9, 14." With r = M, and room for 13 bytes
+unfoldable pub inOrder : List Row
+inOrder =
+    row "11: closed, with N decided" (eqb (shareRefused σ (closeTable σ (second 0)) (kind34 (withP shareOf77)) 1 9 13) 11)
+    ∷ row "13: N decided" (eqb (shareRefused σ (second 0) (kind34 (withP shareOf77)) 1 9 13) 13)
+    ∷ row "7: wrong kind" (eqb (shareRefused σ (first 0) (kind34 (withP shareOf77)) 1 9 13) 7)
+    ∷ row "8: an element p" (eqb (shareRefused σ (first 0) (withP shareOf77) 1 9 13) 8)
+    ∷ row "10: id decided" (eqb (shareRefused σ (first 0) shareOf77 1 9 13) 10)
+    ∷ row "9: r = M" (eqb (shareRefused σ (first 0) share79 1 9 13) 9)
+    ∷ row "14: room for 13 bytes" (eqb (shareRefused σ (first 0) share79 2 9 13) 14)
+    ∷ row "taken" (eqb (shareRefused σ (first 0) share79 2 9 14) 0)
+    ∷ []

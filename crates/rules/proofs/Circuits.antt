@@ -13,4 +13,5 @@ pub mod Digits
 pub mod ColumnTests
 pub mod Encoding
 pub mod Published
+pub mod ColumnPlaces
 pub mod Legal

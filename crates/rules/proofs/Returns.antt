@@ -14,3 +14,4 @@ pub mod Shares
 pub mod Honest
 pub mod HonestReturns
 pub mod OnSheets
+pub mod MadeMessages

@@ -7,3 +7,5 @@ pub mod JoinedTotals
 pub mod WholeTotals
 pub mod Handled
 pub mod WholeRuns
+pub mod Delivered
+pub mod EncodedTotals

@@ -19,3 +19,4 @@ pub mod Examples
 pub mod TableExamples
 pub mod Runs
 pub mod WholeRun
+pub mod Made

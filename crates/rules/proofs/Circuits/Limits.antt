@@ -72,18 +72,19 @@ bounds (choice n ∷ cs) (all∷ h hs) = let r = bounds cs hs in search arith
 bounds (number n ∷ cs) (all∷ h hs) = let r = bounds cs hs in search arith
 
 -- ---- published entries
+pub count-length : (a n : ℕ) → length (countFrom a n) ≡ n
+unfolding countFrom
+count-length a zero = refl
+count-length a (suc n) = ap suc (count-length (suc a) n)
+
 published-length : (cs : List Column) (e : ℕ) → length (publishedFrom e cs) ≡ publishedIn cs
-unfolding publishedFrom publishedIn countFrom
+unfolding publishedFrom publishedIn
 published-length [] e = refl
 published-length (c ∷ cs) e =
     length-append (countFrom e (publishedOf c)) _
     ∙ ap₂ _+_ (count-length e (publishedOf c)) (published-length cs (e + entriesOf c))
-  where
-    count-length : (a n : ℕ) → length (countFrom a n) ≡ n
-    count-length a zero = refl
-    count-length a (suc n) = ap suc (count-length (suc a) n)
 
-published-few-of : (c : Column) → publishedOf c ≤ entriesOf c
+pub published-few-of : (c : Column) → publishedOf c ≤ entriesOf c
 unfolding publishedOf entriesOf
 published-few-of yesNo = omega arith
 published-few-of (choice n) = omega arith

@@ -17,14 +17,9 @@ use Rattle.rules.specs.Settings.{Setting}
 use Rattle.rules.specs.Columns.{Column, yesNo, choice, number, entriesOf, publishedOf, valuesOf, largestOf, entriesIn}
 use Rattle.rules.specs.Columns.{publishedFrom, totalsFit}
 use Rattle.rules.specs.Values.{encoded, legalValues, encoding}
+use Rattle.rules.proofs.Circuits.Limits.{published-few-of}
 use Rattle.rules.proofs.Circuits.Digits.{one-at-below}
 use Rattle.rules.proofs.Circuits.Encoding.{not-legal, legal-head, legal-tail, encoding-head, encoding-tail}
-
-published-most : (c : Column) → publishedOf c ≤ entriesOf c
-unfolding publishedOf entriesOf
-published-most yesNo = omega arith
-published-most (choice n) = omega arith
-published-most (number n) = omega arith
 
 encoded-largest : (c : Column) (v : ℕ) → v < valuesOf c → (i : ℕ) → i < publishedOf c → encoded c v i ≤ largestOf c
 unfolding encoded valuesOf largestOf publishedOf
@@ -67,7 +62,7 @@ module _ (σ : Setting) (n : ℕ) where
           let most : encoded c v i * n ≤ largestOf c * n
           = mul-le-mul-right n (encoded-largest c v (legal-head c cs v vs h) i low) in
           let swap : largestOf c * n ≡ n * largestOf c = mul-comm (largestOf c) n in
-          rw (encoding-head c cs v vs i (omega (arith, published-most c))) (omega (arith, fit-head c cs f))
+          rw (encoding-head c cs v vs i (omega (arith, published-few-of c))) (omega (arith, fit-head c cs f))
 
       later : ((j : ℕ) → In (a + entriesOf c + j) (publishedFrom (a + entriesOf c) cs)
           → getD (encoding cs vs) j 0 * n < σ .modulus)
@@ -110,7 +105,7 @@ bit-from after n j l (c ∷ before) a k =
     let rest = publishedFrom (a + entriesOf c) (before ++ (number n ∷ after)) in
     let there : a + (entriesOf c + entriesIn before + suc j) ≡ a + entriesOf c + (entriesIn before + suc j) = omega arith in
     ⊎-elim
-    (λ q. omega (arith, in-count a (publishedOf c) _ q .1, published-most c))
+    (λ q. omega (arith, in-count a (publishedOf c) _ q .1, published-few-of c))
     (λ q. bit-from after n j l before (a + entriesOf c) (subst (λ e. In e rest) there q))
     (in-append _ (countFrom a (publishedOf c)) rest k)
 

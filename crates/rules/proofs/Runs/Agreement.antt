@@ -79,7 +79,7 @@ module _ (σ : Setting) (𝓟 : Pool σ) where
   pub sound-at : (i : ℕ) → i < 𝓟 .servers → Sound σ (openedAt σ 𝓟 i) (notesAt σ 𝓟 i)
   sound-at i h = sound-notes σ (openedAt σ 𝓟 i) (history-at i h)
 
-  found : (id q : ℕ) → q < 𝓟 .servers → (n : Note) → In n (notesAt σ 𝓟 q) → n .id ≡ id → shareAt id q ≡ n
+  pub found : (id q : ℕ) → q < 𝓟 .servers → (n : Note) → In n (notesAt σ 𝓟 q) → n .id ≡ id → shareAt id q ≡ n
   found id q b n h e = subst (λ (v : ℕ). shareAt v q ≡ n) e (noteUnder-in n (notesAt σ 𝓟 q) (sound-at q b .apart) h)
 
   is-noted : (id q : ℕ) → q < 𝓟 .servers → (n : Note) → In n (notesAt σ 𝓟 q) → n .id ≡ id → Noted id q

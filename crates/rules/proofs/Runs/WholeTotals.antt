@@ -31,7 +31,7 @@ use Rattle.rules.proofs.Histories.ClosingBytes.{small-sum}
 use Rattle.rules.proofs.Runs.JoinedTotals.{few-ids, count-is, joins, totals}
 
 -- equal at each member
-map-same : (f g : ℕ → ℕ) (xs : List ℕ) → ((x : ℕ) → In x xs → f x ≡ g x) → map f xs ≡ map g xs
+pub map-same : (f g : ℕ → ℕ) (xs : List ℕ) → ((x : ℕ) → In x xs → f x ≡ g x) → map f xs ≡ map g xs
 map-same f g [] h = refl
 map-same f g (x ∷ xs) h = λ t. h x (inl refl) t ∷ map-same f g xs (λ z k. h z (inr k)) t
 

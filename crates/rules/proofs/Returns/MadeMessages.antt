@@ -1,0 +1,168 @@
+-- What making writes is S share messages of one length, so each stands at its own place and is read back: kind, id, server
+-- and share. Where making is not refused the values are legal and the random elements below p, so the shares add up to the
+-- encoding with its proof. Assumes nothing.
+use mathlib.Core.Path.{_≡_, refl, ap, _∙_}
+use mathlib.Core.Bool.{true, _&&_}
+use mathlib.Core.List.{List, _++_}
+use Prim.Native.Nat.{ℕ, zero, suc, _+_, _*_, _≤_, _<_}
+use native.Mathlib.Nat.{mul-comm, zero-add}
+use native.Mathlib.Omega.{arith}
+use borrow.Author.Tests.{eqb-true, eq-eqb}
+use lib.Dec.{eqb}
+use lib.ListN.{length, getD}
+use Rattle.algebra.specs.Lists.{All}
+use Rattle.algebra.specs.Modulo.{modulo}
+use Rattle.algebra.proofs.Members.{and-left, and-right}
+use Rattle.algebra.proofs.Sums.{sum-ext}
+use Rattle.algebra.proofs.Tables.{length-tabulate}
+use Rattle.words.specs.Bytes.{part, elementsOf, allBelow}
+use Rattle.words.proofs.Elements.{elements-whole}
+use Rattle.words.proofs.Below.{all-of-below, below-of-all}
+use Rattle.records.proofs.Outcome.{or-zero}
+use Rattle.rules.specs.Settings.{Setting, Facts}
+use Rattle.rules.specs.Columns.{Column, check, within, sheetFault, columnsOf, serversFault}
+use Rattle.rules.specs.Values.{legalValues, encoding}
+use Rattle.rules.specs.Judging.{addedUp}
+use Rattle.rules.specs.Making.{madeWhole, shareMessage, shareLength, randomCount, madeFrom, valuesFault}
+use Rattle.rules.specs.Making.{randomFault, makeRefusal, makeBytes}
+use Rattle.rules.specs.Messages.{idIn, shareElements, headerFault, elementsFault}
+use Rattle.rules.specs.Made.{madePart, shareMade, elementRead, MadeReturn}
+use Rattle.rules.proofs.Circuits.Limits.{within-both}
+use Rattle.rules.proofs.Circuits.Refusals.{sheet-limits}
+use Rattle.rules.proofs.Circuits.Encoding.{entry-below-modulus}
+use Rattle.rules.proofs.Returns.Shares.{Made, made, added-is-whole}
+use Rattle.rules.proofs.Histories.MessageBytes.{width-positive, oneByOne, length-one-by-one, part-one-by-one}
+use Rattle.rules.proofs.Histories.ShareBytes.{length-share, share-kind, share-id, share-server, share-elements}
+use Rattle.rules.proofs.Histories.Checks.{check-passed}
+
+-- what is known where making is not refused
+pub record Makes (σ : Setting) (sheet : List ℕ) (servers : ℕ) (values random : List ℕ) : Type 0 where
+  pub is-read : sheetFault sheet ≡ 0
+  pub several : (2 ≤ servers) × (servers ≤ 8)
+  pub legal : legalValues (columnsOf sheet) (elementsOf 4 values) ≡ true
+  pub enough : length (elementsOf (σ .width) random) ≡ randomCount servers (columnsOf sheet)
+  pub below : allBelow (σ .modulus) (elementsOf (σ .width) random) ≡ true
+
+module _ (σ : Setting) (facts : Facts σ) (sheet : List ℕ) (servers : ℕ) (values random : List ℕ) where
+  abbrev cs : List Column
+  cs = columnsOf sheet
+
+  pub makes : (room : ℕ) → makeRefusal σ sheet servers values random room ≡ 0 → Makes σ sheet servers values random
+  unfolding makeRefusal valuesFault randomFault
+  makes room e =
+      let w = σ .width in
+      let zs = elementsOf w random in
+      let c₁ = or-zero (sheetFault sheet) _ e in
+      let c₂ = or-zero (serversFault servers) _ (c₁ .1) in
+      let c₃ = or-zero (check (eqb (length values) (4 * length cs) && legalValues cs (elementsOf 4 values)) 5) _ (c₂ .1) in
+      let c₄ = or-zero (check (eqb (length random) (w * randomCount servers cs) && allBelow (σ .modulus) zs) 6) _ (c₃ .1) in
+      let good = check-passed _ 4 (c₃ .0) in
+      let fresh = check-passed _ 5 (c₄ .0) in
+      let long : length random ≡ w * randomCount servers cs =
+      eqb-true _ _ (and-left (eqb (length random) (w * randomCount servers cs)) (allBelow (σ .modulus) zs) fresh) in
+      record {
+        is-read = c₁ .0;
+        several = within-both 2 8 servers (check-passed (within 2 8 servers) 1 (c₂ .0));
+        legal = and-right (eqb (length values) (4 * length cs)) (legalValues cs (elementsOf 4 values)) good;
+        enough =
+            ap length (elements-whole w (width-positive σ facts) random (randomCount servers cs) long)
+            ∙ length-tabulate _ (randomCount servers cs);
+        below = and-right (eqb (length random) (w * randomCount servers cs)) (allBelow (σ .modulus) zs) fresh;
+      }
+
+  module _ (id : ℕ) (m : Makes σ sheet servers values random) where
+    abbrev vs : List ℕ
+    vs = elementsOf 4 values
+
+    abbrev zs : List ℕ
+    zs = elementsOf (σ .width) random
+
+    abbrev shares : ℕ → List ℕ
+    shares i = shareMade σ sheet servers id values random i
+
+    abbrev messages : ℕ → List ℕ
+    messages i = shareMessage σ id i (shares i)
+
+    abbrev read : ℕ → List ℕ
+    read i = madePart σ sheet servers id values random i
+
+    some : 0 < servers
+    some = omega (arith, m .several .0)
+
+    random-below : All (λ z. z < σ .modulus) zs
+    random-below = all-of-below (σ .modulus) zs (m .below)
+
+    shared : Made σ cs servers vs zs
+    shared = made σ facts cs servers vs zs some random-below
+
+    entries-below : (e : ℕ) → getD (encoding cs vs) e 0 < σ .modulus
+    entries-below = entry-below-modulus σ facts cs vs (sheet-limits sheet (m .is-read) .in-limits) (m .legal)
+
+    -- the messages one after another
+    from-is : (i n : ℕ) → madeFrom σ cs servers vs zs id i n ≡ oneByOne messages i n
+    unfolding madeFrom oneByOne
+    from-is i zero = refl
+    from-is i (suc n) = ap (λ (l : List ℕ). messages i ++ l) (from-is (suc i) n)
+
+    bytes-are : makeBytes σ sheet servers id values random ≡ oneByOne messages 0 servers
+    unfolding makeBytes
+    bytes-are = from-is 0 servers
+
+    message-length : (i : ℕ) → length (messages i) ≡ shareLength σ cs
+    unfolding shareLength
+    message-length i = length-share σ id i (shares i) ∙ ap (λ k. 6 + σ .width * k) (shared .share-length i)
+
+    at-place : (i : ℕ) → i < servers → read i ≡ messages i
+    at-place i l =
+        ap (λ (v : List ℕ). part (shareLength σ cs * i) (shareLength σ cs) v) bytes-are
+        ∙ part-one-by-one messages (shareLength σ cs) 0 servers i (λ k h. message-length k) l
+        ∙ ap messages (zero-add i)
+
+    share-read : (i : ℕ) → i < servers → shareElements σ (read i) ≡ shares i
+    share-read i l = ap (shareElements σ) (at-place i l) ∙ share-elements σ id i (shares i) facts (shared .share-below i)
+
+    header-passes : (i : ℕ) → i < servers → headerFault σ cs i (read i) ≡ 0
+    unfolding headerFault
+    header-passes i l =
+        rw (
+          at-place i l,
+          eq-eqb _ _ (message-length i),
+          eq-eqb _ _ (share-kind σ id i (shares i)),
+          eq-eqb _ _ (share-server σ id i (shares i)),
+        )
+
+    elements-pass : (i : ℕ) → i < servers → elementsFault σ (read i) ≡ 0
+    unfolding elementsFault
+    elements-pass i l = rw (share-read i l, below-of-all (σ .modulus) (shares i) (shared .share-below i))
+
+    -- what is read adds up as what was made does
+    read-adds : (e : ℕ) → addedUp (modulo (σ .modulus)) σ cs servers (elementRead σ sheet servers id values random) e
+        ≡ addedUp (modulo (σ .modulus)) σ cs servers (λ i e. getD (shares i) e 0) e
+    unfolding addedUp
+    read-adds e = sum-ext (modulo (σ .modulus)) servers _ _ (λ i l. ap (λ (v : List ℕ). getD v e 0) (share-read i l))
+
+    whole-adds : (e : ℕ) → addedUp (modulo (σ .modulus)) σ cs servers (elementRead σ sheet servers id values random) e
+        ≡ getD (madeWhole σ cs servers vs zs) e 0
+    whole-adds e = read-adds e ∙ added-is-whole σ facts cs servers vs zs some random-below entries-below e
+
+    pub made-return : MadeReturn σ sheet servers id values random
+    made-return = record {
+      length-is =
+          ap length bytes-are
+          ∙ length-one-by-one messages (shareLength σ cs) 0 servers (λ k h. message-length k)
+          ∙ mul-comm (shareLength σ cs) servers;
+      message-is = at-place;
+      id-is = λ fits i l. ap idIn (at-place i l) ∙ share-id σ id i (shares i) fits;
+      header-sound = header-passes;
+      elements-sound = elements-pass;
+      share-is = share-read;
+      several = m .several;
+      adds-up = whole-adds;
+      entries-add-up = λ e l. whole-adds e ∙ shared .parts-are .entry-is e l;
+    }
+
+-- wherever making is not refused
+pub makes-return : (σ : Setting) → Facts σ → (sheet : List ℕ) (servers id : ℕ) (values random : List ℕ) (room : ℕ)
+    → makeRefusal σ sheet servers values random room ≡ 0 → MadeReturn σ sheet servers id values random
+makes-return σ facts sheet servers id values random room e =
+    made-return σ facts sheet servers values random id (makes σ facts sheet servers values random room e)

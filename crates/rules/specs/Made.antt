@@ -1,0 +1,97 @@
+-- Document 01, "A return" and "Whole runs": what is promised of the bytes that making writes, and of the totals of returns
+-- that making wrote. `makes-return`, `taken-whole` and `encoded-totals` in proofs prove it. Assumes nothing.
+use mathlib.Core.Path.{_≡_}
+use mathlib.Core.Bool.{Bool, cond}
+use mathlib.Core.List.{List, [], _∷_, _++_, map}
+use Prim.Native.Nat.{ℕ, suc, _+_, _*_, _≤_, _<_}
+use lib.Dec.{eqb}
+use lib.ListN.{length, getD}
+use Rattle.algebra.specs.Lists.{In, sumOver}
+use Rattle.algebra.specs.Modulo.{modulo}
+use Rattle.words.specs.Bytes.{part, elementsOf}
+use Rattle.rules.specs.Settings.{Setting}
+use Rattle.rules.specs.Columns.{Column, yesNo, choice, number, entriesIn, publishedIn, publishedFrom, columnsOf}
+use Rattle.rules.specs.Values.{encoding}
+use Rattle.rules.specs.Judging.{addedUp}
+use Rattle.rules.specs.Making.{madeWhole, madeShare, shareMessage, shareLength, makeBytes}
+use Rattle.rules.specs.Messages.{idIn, shareElements, headerFault, elementsFault}
+use Rattle.rules.specs.Joining.{joinTotals}
+use Rattle.rules.specs.Ledger.{Call, share, empty, noteOf, refusalOf, runLedger}
+use Rattle.rules.specs.WholeRun.{Pool, columns, openedAt, notesAt, DeliveredWhole, closings}
+
+-- ---- a return that making wrote, where making is not refused
+module _ (σ : Setting) (sheet : List ℕ) (servers id : ℕ) (values random : List ℕ) where
+  -- server i's part of the bytes that making writes
+  abbrev pub madePart : ℕ → List ℕ
+  madePart i =
+      part (shareLength σ (columnsOf sheet) * i) (shareLength σ (columnsOf sheet)) (makeBytes σ sheet servers id values random)
+
+  -- server i's share of the values and the random elements that were handed to making
+  abbrev pub shareMade : ℕ → List ℕ
+  shareMade = madeShare σ (columnsOf sheet) servers (elementsOf 4 values) (elementsOf (σ .width) random)
+
+  -- element e of what server i reads
+  abbrev pub elementRead : ℕ → ℕ → ℕ
+  elementRead i e = getD (shareElements σ (madePart i)) e 0
+
+  pub record MadeReturn : Type 0 where
+    -- "Making writes the S share messages one after another in server order, all with the id it is given."
+    pub length-is : length (makeBytes σ sheet servers id values random) ≡ servers * shareLength σ (columnsOf sheet)
+    pub message-is : (i : ℕ) → i < servers → madePart i ≡ shareMessage σ id i (shareMade i)
+    pub id-is : id < 4294967296 → (i : ℕ) → i < servers → idIn (madePart i) ≡ id
+    -- server i finds nothing at fault in its part, and reads its share from it: "7: share of the wrong kind byte, length or
+    -- server. 8: share element not below p."
+    pub header-sound : (i : ℕ) → i < servers → headerFault σ (columnsOf sheet) i (madePart i) ≡ 0
+    pub elements-sound : (i : ℕ) → i < servers → elementsFault σ (madePart i) ≡ 0
+    pub share-is : (i : ℕ) → i < servers → shareElements σ (madePart i) ≡ shareMade i
+    -- "Shares of S servers (2 to 8) add up modulo p": to the entries, which are the encoding of the values, and their proof
+    pub several : (2 ≤ servers) × (servers ≤ 8)
+    pub adds-up : (e : ℕ)
+        → addedUp (modulo (σ .modulus)) σ (columnsOf sheet) servers elementRead e
+        ≡ getD (madeWhole σ (columnsOf sheet) servers (elementsOf 4 values) (elementsOf (σ .width) random)) e 0
+    pub entries-add-up : (e : ℕ) → e < entriesIn (columnsOf sheet)
+        → addedUp (modulo (σ .modulus)) σ (columnsOf sheet) servers elementRead e
+        ≡ getD (encoding (columnsOf sheet) (elementsOf 4 values)) e 0
+
+-- ---- in a pool
+-- how many members pass t
+unfoldable pub howMany : (ℕ → Bool) → List ℕ → ℕ
+howMany t [] = 0
+howMany t (x ∷ s) = cond (t x) (suc (howMany t s)) (howMany t s)
+
+module _ (σ : Setting) (𝓟 : Pool σ) where
+  -- server i's ledger has noted the share message m, with some pair
+  abbrev pub NotedFrom : ℕ → List ℕ → Type 0
+  NotedFrom i m = (r : ℕ) × (s : ℕ) × In (noteOf σ (openedAt σ 𝓟 i) m r s) (notesAt σ 𝓟 i)
+
+  -- server i took the share message m: a call of its list that is not refused
+  pub record Took (i : ℕ) (m : List ℕ) : Type 0 where
+    pub before : List Call
+    pub after : List Call
+    pub r : ℕ
+    pub s : ℕ
+    pub room : ℕ
+    pub among : 𝓟 .calls i ≡ before ++ (share m r s room ∷ after)
+    pub not-refused : refusalOf σ (openedAt σ 𝓟 i) (runLedger σ (openedAt σ 𝓟 i) empty before) (share m r s room) ≡ 0
+
+  -- the return id is delivered whole, and was made of the values vs
+  abbrev pub MadeOf : ℕ → List ℕ → Type 0
+  MadeOf id vs = (w : DeliveredWhole σ 𝓟 id) × (w .values ≡ vs)
+
+  abbrev pub joined : List ℕ
+  joined = joinTotals σ (𝓟 .servers) (𝓟 .sheet) (closings σ 𝓟)
+
+  -- The joined totals of a closed pool where each accepted id was made of the values `values id`
+  pub record EncodedTotals (ids : List ℕ) (values : ℕ → List ℕ) : Type 0 where
+    -- for each published entry, the sum of that entry of the encodings: a sum of whole numbers, not modulo p
+    pub totals : joined
+        ≡ map (λ e. sumOver (λ id. getD (encoding (columns σ 𝓟) (values id)) e 0) ids) (publishedFrom 0 (columns σ 𝓟))
+    -- behind the columns `before`: a yes/no column's total is the number of accepted returns that say yes
+    pub yes-total : (before after : List Column) → columns σ 𝓟 ≡ before ++ (yesNo ∷ after)
+        → getD joined (publishedIn before) 0 ≡ howMany (λ id. eqb (getD (values id) (length before) 0) 1) ids
+    -- an option's total is the number of those that chose it
+    pub option-total : (before after : List Column) (n i : ℕ) → columns σ 𝓟 ≡ before ++ (choice n ∷ after) → i < n
+        → getD joined (publishedIn before + i) 0 ≡ howMany (λ id. eqb (getD (values id) (length before) 0) i) ids
+    -- a number's total is the sum of the numbers
+    pub number-total : (before after : List Column) (n : ℕ) → columns σ 𝓟 ≡ before ++ (number n ∷ after)
+        → getD joined (publishedIn before) 0 ≡ sumOver (λ id. getD (values id) (length before) 0) ids

@@ -1,6 +1,6 @@
 -- Document 01, "Judging", "Whole runs" and "Who can cause which refusal": a server's table by rows that compute. First
--- the tables within the limits and those past them, then calls on the tables of two servers, then the order of a share's
--- refusals. Assumes nothing.
+-- the tables within the limits and those past them, then calls on the tables of two servers, the order of a share's
+-- refusals, and what is kept of a return. Assumes nothing.
 use mathlib.Core.Bool.{Bool, _&&_, _||_, not}
 use mathlib.Core.List.{List, [], _∷_, _++_}
 use Prim.Native.Nat.{ℕ, _+_, _-_, _*_}
@@ -9,7 +9,7 @@ use lib.ListN.{length, set, take, drop, replicate}
 use Rattle.algebra.specs.Lists.{every, countFrom, tabulate}
 use Rattle.words.specs.Bytes.{bytesOf, bytesOfAll, splice}
 use Rattle.rules.specs.Making.{shareMessage}
-use Rattle.rules.specs.Table.{tableSound, openBytes, shareRefused, shareTable, shareBytes, oneRefused, oneTable, oneBytes}
+use Rattle.rules.specs.Table.{keptIn, tableSound, openBytes, shareRefused, shareTable, shareBytes, oneRefused, oneTable, oneBytes}
 use Rattle.rules.specs.Table.{twoRefused, twoVerdict, twoTable, dropRefused, dropTable, closeRefused, closeTable, closeBytes}
 use Rattle.rules.specs.Joining.{joinRefusal, joinCount, joinTotals}
 use Rattle.rules.specs.Examples.{Row, row, P, σ, same, honest, cheat}
@@ -182,4 +182,18 @@ inOrder =
     ∷ row "9: r = M" (eqb (shareRefused σ (first 0) share79 1 9 13) 9)
     ∷ row "14: room for 13 bytes" (eqb (shareRefused σ (first 0) share79 2 9 13) 14)
     ∷ row "taken" (eqb (shareRefused σ (first 0) share79 2 9 14) 0)
+    ∷ []
+
+-- the bytes kept for a return that waits are 64: its id, six numbers and nine elements. Where none waits they are all 0
+abbrev nothingKept : List ℕ → Bool
+nothingKept T = same (keptIn σ T) (replicate 64 0)
+
+unfoldable pub erasures : List Row
+erasures =
+    row "a fresh table" (nothingKept (fresh 0))
+    ∷ row "a return that waits is kept" (not (nothingKept (waiting 0) || nothingKept (summedUp fresh honest 77 4 0)))
+    ∷ row "nothing but its id after it was accepted" (nothingKept (first 0) && nothingKept (first 1))
+    ∷ row "nor after another was rejected" (nothingKept (second 0) && nothingKept (second 1))
+    ∷ row "nor after a drop" (nothingKept (afterDrop 0) && nothingKept (dropTable σ (summedUp fresh honest 77 4 1)))
+    ∷ row "nor after the close" (nothingKept (closeTable σ (second 0)) && nothingKept (closeTable σ (second 1)))
     ∷ []

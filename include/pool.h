@@ -33,6 +33,15 @@
  * be written a second time. Never go back to an older copy of a table: a share judged twice with two pairs shows more of
  * the return than it may.
  *
+ * What a table holds. At every stage S, the own number, N, the sheet, the counts, the ids decided and the server's shares
+ * of the totals. While a return waits also its id, its whole share, r, s and the numbers of the rounds; idle and closed,
+ * zeros in their place. Of a decided return there stay its id and, if it was accepted, what its share added to the totals.
+ *
+ * Secrecy. While a return waits, a table is as secret as the share: keep copies, swap and logs of it as you keep a share.
+ * The library erases in the table that it is lent; older copies and the share message are the host's to erase. Two copies,
+ * from before and after one accepted return, show the published entries of its share. The shares of the totals stay in a
+ * table until the host erases it; those of S closed tables, added up modulo p, are the published totals.
+ *
  * Dropping. A return that cannot be finished is dropped at every server. Do not drop one whose round-two message has been
  * sent: another server may have accepted it, and then the totals do not fit together.
  *
@@ -163,14 +172,16 @@ uint32_t pool_round_one(uint8_t *table, size_t table_len, const uint8_t *joined,
                         uint8_t *out, size_t out_len, size_t *written);
 
 /*
- * Takes the S joined round-two messages and decides: *accepted is 1 or 0. The table is idle again.
+ * Takes the S joined round-two messages and decides: *accepted is 1 or 0. The return's bytes are erased from the table,
+ * which is idle again.
  * Refusals: 11, 12.
  */
 uint32_t pool_round_two(uint8_t *table, size_t table_len, const uint8_t *joined, size_t joined_len,
                         uint32_t *accepted);
 
 /*
- * Drops the return that waits. It is decided and its id stays used. The table is idle again.
+ * Drops the return that waits. It is decided and its id stays used; its bytes are erased from the table, which is idle
+ * again.
  * Refusals: 11.
  */
 uint32_t pool_drop(uint8_t *table, size_t table_len);

@@ -5,5 +5,5 @@
 // add up what they accept (Table), and publish totals (Join).
 //
 // The program that uses the package carries the messages. It encrypts what it sends, knows who is at the other end, and
-// gives each return an id of its own.
+// gives each return an id of its own. It keeps a table as it keeps a share while a return waits, copies of it included.
 package pool

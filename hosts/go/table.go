@@ -10,6 +10,9 @@ import "bytes"
 //
 // A Table holds nothing but bytes: MarshalBinary and UnmarshalBinary carry it over a restart. Use it from one goroutine
 // at a time.
+//
+// While a return waits, the bytes hold its whole share and are as secret. When it is decided it is erased, all but its
+// id and, if it was accepted, what it added to the server's shares of the totals. These stay, after Close too.
 type Table struct {
 	bytes []byte
 }
@@ -49,7 +52,7 @@ func (t *Table) RoundOne(messages [][]byte) ([]byte, error) {
 	return out[:n], nil
 }
 
-// RoundTwo takes the round-two messages of all servers and decides the return.
+// RoundTwo takes the round-two messages of all servers and decides the return, whose share is erased from the table.
 func (t *Table) RoundTwo(messages [][]byte) (accepted bool, err error) {
 	verdict, number := coreRoundTwo(t.bytes, bytes.Join(messages, nil))
 	if number != 0 {
@@ -58,7 +61,7 @@ func (t *Table) RoundTwo(messages [][]byte) (accepted bool, err error) {
 	return verdict == 1, nil
 }
 
-// Drop drops the return that waits. Its id stays used.
+// Drop drops the return that waits and erases its share from the table. Its id stays used.
 func (t *Table) Drop() error { return answer("drop", coreDrop(t.bytes)) }
 
 // Close closes the table and gives the server's totals message.
@@ -71,7 +74,7 @@ func (t *Table) Close() ([]byte, error) {
 	return out[:n:n], nil
 }
 
-// MarshalBinary gives a copy of the table's bytes.
+// MarshalBinary gives a copy of the table's bytes. It is the caller's to erase: later calls do not reach it.
 func (t *Table) MarshalBinary() ([]byte, error) { return append([]byte(nil), t.bytes...), nil }
 
 // UnmarshalBinary makes the table the one whose bytes are given. Bytes that are no sound table are refused (Stage) by

@@ -227,6 +227,58 @@ func TestCheatAndDrop(t *testing.T) {
 	refused(t, all[0].Drop(), Stage)
 }
 
+// A return that is decided leaves zeros where it waited, however it was decided.
+func TestErased(t *testing.T) {
+	sheet := sheetOf(t, YesNo(), Number(8))
+	client := Client{Sheet: sheet, Servers: 2}
+	all := openAll(t, 2, sheet, 4)
+	// The last bytes of a table are those of the return that waits: its id, six numbers, the share's elements.
+	holds := func(stage string, want bool) {
+		t.Helper()
+		for own, table := range all {
+			b, err := table.MarshalBinary()
+			if err != nil {
+				t.Fatal(err)
+			}
+			waiting := b[len(b)-28-(sheet.shareBytes()-6):]
+			if got := !bytes.Equal(waiting, make([]byte, len(waiting))); got != want {
+				t.Errorf("%s, server %d: a return in the table: %v, want %v", stage, own, got, want)
+			}
+		}
+	}
+	drop := func() {
+		t.Helper()
+		all.each(t, func(_ int, table *Table) ([]byte, error) { return nil, table.Drop() })
+	}
+	var shares [4][][]byte
+	for id := range shares {
+		shares[id], _ = client.Make(uint32(id), []uint32{1, 40})
+	}
+	entry := shares[1][0][6:]
+	binary.LittleEndian.PutUint32(entry, (binary.LittleEndian.Uint32(entry)+7)%prime)
+
+	holds("opened", false)
+	if !all.judge(t, sheet, shares[0]) {
+		t.Error("an honest return is rejected")
+	}
+	holds("accepted", false)
+	if all.judge(t, sheet, shares[1]) {
+		t.Error("a false return is accepted")
+	}
+	holds("rejected", false)
+	all.start(t, sheet, shares[2])
+	holds("awaits round one", true)
+	drop()
+	holds("dropped before round one", false)
+	ones := all.start(t, sheet, shares[3])
+	all.each(t, func(_ int, table *Table) ([]byte, error) { return table.RoundOne(ones) })
+	holds("awaits round two", true)
+	drop()
+	holds("dropped before round two", false)
+	all.closeAndJoin(t, sheet, 4)
+	holds("closed", false)
+}
+
 // A table goes on after a restart, at each of its stages.
 func TestRestart(t *testing.T) {
 	sheet := sheetOf(t, Choice(3))

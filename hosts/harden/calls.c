@@ -3,6 +3,7 @@
 #include "calls.h"
 
 #include <signal.h>
+#include <stdbool.h>
 #include <stdio.h>
 #include <stdlib.h>
 #include <string.h>
@@ -10,6 +11,7 @@
 #include <unistd.h>
 
 enum { SLOTS = 6, PAGE = 4096, SLOT_PAGES = 19 };
+enum { IDLE = 0, CLOSED = 3 }; /* stages, in byte 1 of a table */
 
 char calls_note[128];
 
@@ -229,6 +231,38 @@ static void take(int k, const struct result_size *written, uint32_t answer, stru
         memcpy(out->at, l->at, out->len);
 }
 
+/*
+ * Whether a table holds zeros where a return would wait. The place follows from the table's header and sheet; the layout
+ * stands at the head of crates/rules/specs/Table.antt. What is no whole table does not.
+ */
+static bool holds_no_return(const struct run *table)
+{
+    const uint8_t *t = table->at;
+    uint32_t columns, entries, multiplications, published;
+    if (table->len < 12)
+        return false;
+    size_t returns = t[4] | (size_t)t[5] << 8, sheet_len = t[10] | (size_t)t[11] << 8;
+    if (table->len < 12 + sheet_len ||
+        pool_read_sheet(t + 12, sheet_len, &columns, &entries, &multiplications, &published) != 0)
+        return false;
+    size_t end = POOL_TABLE_BYTES(sheet_len, entries, multiplications, published, returns);
+    size_t at = end - 28 - 4 * POOL_SHARE_ELEMENTS(entries, multiplications);
+    if (table->len < end)
+        return false;
+    while (at < end && t[at] == 0)
+        at++;
+    return at == end;
+}
+
+/* A table after a call that leaves it idle or closed. */
+static void erased(const struct run *table, uint8_t stage)
+{
+    if (table->at[1] != stage)
+        fail("a stage that the call does not lead to");
+    if (!holds_no_return(table))
+        fail("bytes of a return stay in the table");
+}
+
 /* A table after a call: changed by one that is done, else as it was. */
 static void take_table(int k, uint32_t answer, struct run *table)
 {
@@ -323,6 +357,8 @@ uint32_t call_open(uint32_t servers, uint32_t own, const struct run *sheet, uint
     answered(answer, SHEET | MAY(POOL_WRAP) | MAY(POOL_ROOM));
     kept(s);
     take(t, &w, answer, table);
+    if (answer == 0)
+        erased(table, IDLE);
     return end(answer);
 }
 
@@ -366,6 +402,7 @@ uint32_t call_round_two(struct run *table, size_t extra, const struct run *joine
         if (a.value > 1)
             fail("a verdict that is neither 0 nor 1");
         *accepted = a.value;
+        erased(table, IDLE);
     }
     return end(answer);
 }
@@ -377,18 +414,23 @@ uint32_t call_drop(struct run *table, size_t extra)
     uint32_t answer = pool_drop(LENT(t));
     answered(answer, MAY(POOL_STAGE));
     take_table(t, answer, table);
+    if (answer == 0)
+        erased(table, IDLE);
     return end(answer);
 }
 
 uint32_t call_close(struct run *table, size_t extra, size_t room, struct run *out)
 {
     begin("pool_close");
+    bool held_none = holds_no_return(table); /* an idle table that calls have made does */
     int t = lend_both(table, extra), o = lend_room(room);
     struct result_size w = RESULT_SIZE;
     uint32_t answer = pool_close(LENT(t), LENT(o), &w.value);
     answered(answer, MAY(POOL_STAGE) | MAY(POOL_ROOM));
     take_table(t, answer, table);
     take(o, &w, answer, out);
+    if (answer == 0 && held_none)
+        erased(table, CLOSED);
     return end(answer);
 }
 

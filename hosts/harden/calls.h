@@ -2,8 +2,8 @@
  * calls.h: the C functions of the pool, each called on buffers of exactly the lent size and watched.
  *
  * A call fails the run where it touches a byte outside the buffers, changes what it was only lent to read, answers
- * with a refusal that its place in pool.h does not name, changes anything although it is refused, or changes a byte
- * past what it says to have written.
+ * with a refusal that its place in pool.h does not name, changes anything although it is refused, changes a byte past
+ * what it says to have written, or leaves anything of a return in a table in which none waits.
  *
  * Memory outside is watched in one of two ways. GUARDED: a buffer ends right before, or begins right after, a page that
  * can not be touched. HEAP: a buffer is a block of malloc, for valgrind and for the sanitizers' own malloc. The library

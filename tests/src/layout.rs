@@ -117,6 +117,11 @@ pub fn sound(slice: &[u8]) -> Option<Table> {
     good.then_some(table)
 }
 
+/// Whether a slice starts with a sound table that has zeros where a return would wait.
+pub fn holds_no_return(slice: &[u8]) -> bool {
+    sound(slice).is_some_and(|table| slice[table.at.wait..table.at.length].iter().all(|&byte| byte == 0))
+}
+
 /// The bytes of a table that was just opened.
 pub fn opened(servers: u32, own: u32, bytes: &[u8], sheet: &Sheet, returns: u32) -> Vec<u8> {
     let mut table = vec![0; places(bytes.len(), sheet, returns as usize).length];

@@ -4,6 +4,7 @@
 mod c;
 mod calls;
 mod circuits;
+mod decided;
 mod examples;
 mod faults;
 mod fixture;
@@ -53,7 +54,7 @@ const REFUSALS: [(Function, &[u32]); 11] = [
 type Test = fn(&mut Suite) -> Verdict;
 
 /// Named tests without a seed of their own.
-const NAMED: [(&str, Test); 35] = [
+const NAMED: [(&str, Test); 37] = [
     ("header: constants", sizes::constants),
     ("header: sizes", sizes::lengths),
     ("examples: sheets", examples::sheets),
@@ -85,6 +86,8 @@ const NAMED: [(&str, Test); 35] = [
     ("tables: totals and waiting numbers", tables::numbers),
     ("tables: sheets", tables::sheets),
     ("tables: what is free", tables::free),
+    ("decided: the bytes of a share", decided::bytes),
+    ("decided: tables added up", decided::sums),
     ("pools: the largest sheets", pools::large),
     ("pools: 1,024 returns", pools::many),
     ("pools: the highest totals", pools::highest),

@@ -193,12 +193,13 @@ fn round_two(call: &Call) -> Outcome {
     Ok(Done { numbers: vec![u64::from(accepted)], bytes: Vec::new(), table: after })
 }
 
-/// The return that waits is decided: its id is noted and the table is idle.
+/// The return that waits is decided: its id is noted, all else of it is erased, and the table is idle.
 fn decide(table: &Table, after: &mut [u8], accepted: usize) {
     let id = word(after, table.at.wait);
     put_word(after, table.at.ids + 4 * table.decided, id);
     put_short(after, 6, table.decided + 1);
     put_short(after, 8, table.accepted + accepted);
+    after[table.at.wait..table.at.length].fill(0);
     after[1] = layout::IDLE;
 }
 

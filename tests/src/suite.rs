@@ -6,7 +6,8 @@ use std::sync::atomic::{AtomicPtr, AtomicU64, Ordering};
 
 use second::gen::Rng;
 
-use crate::calls::{Call, Function, Outcome};
+use crate::calls::{Call, Done, Function, Outcome};
+use crate::layout::holds_no_return;
 use crate::reference;
 use crate::tell::told;
 
@@ -52,6 +53,9 @@ impl Suite {
         CURRENT.store(null_mut(), Ordering::Relaxed);
         self.calls += 1;
         match actual {
+            Ok(Ok(done)) if !erased(call, &done) => {
+                Err(self.failure(call, &format!("{}\nmust hold no return", told(&Ok(done)))))
+            }
             Ok(actual) if actual == expected => {
                 let number = expected.as_ref().err().copied().unwrap_or(0);
                 *self.seen.entry((call.function, number)).or_insert(0) += 1;
@@ -93,6 +97,17 @@ impl Suite {
         for (key, count) in other.seen {
             *self.seen.entry(key).or_insert(0) += count;
         }
+    }
+}
+
+/// Whether a call that is done and leaves its table idle or closed has left zeros where a return would wait. Closing
+/// leaves what stood there: zeros, but where a test wrote something else.
+fn erased(call: &Call, done: &Done) -> bool {
+    match call.function {
+        Function::Open => holds_no_return(&done.bytes),
+        Function::RoundTwo | Function::Drop => holds_no_return(&done.table),
+        Function::Close => holds_no_return(&done.table) || !holds_no_return(&call.table),
+        _ => true,
     }
 }
 

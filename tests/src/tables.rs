@@ -251,6 +251,7 @@ pub fn free(suite: &mut Suite) -> Verdict {
             suite.number(&call, 0)?;
         }
         decided_twice(suite, &fixture)?;
+        not_waiting(suite, &fixture)?;
     }
     Ok(())
 }
@@ -269,4 +270,19 @@ fn decided_twice(suite: &mut Suite, fixture: &Fixture) -> Verdict {
     let mut drop = Call { table: fixture.second.clone(), ..Call::of(Function::Drop) };
     put_word(&mut drop.table, read.at.ids, id);
     suite.number(&drop, 0)
+}
+
+/// Where no return waits, anything may stand in its place: a share is taken over it, and closing leaves it.
+fn not_waiting(suite: &mut Suite, fixture: &Fixture) -> Verdict {
+    for call in [fixture.share(), fixture.close()] {
+        let Some(read) = sound(&call.table) else {
+            return Err("a table that the library wrote is not sound".to_string());
+        };
+        for byte in [1, 127, 255] {
+            let mut table = call.table.clone();
+            table[read.at.wait..].fill(byte);
+            suite.number(&Call { table, ..call.clone() }, 0)?;
+        }
+    }
+    Ok(())
 }

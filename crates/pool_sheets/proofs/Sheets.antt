@@ -5,7 +5,7 @@ use mathlib.Core.List.{List}
 use Prim.Native.Nat.{ℕ, _≤_}
 use native.Mathlib.Omega.{arith}
 use borrow.Author.Tests.{ne-eqb}
-use Rattle.rules.specs.Columns.{sheetFault, columnsOf}
+use Rattle.rules.specs.Columns.{columnsOf}
 use Rattle.rules.proofs.Circuits.Refusals.{sheet-fault}
 use Rattle.rules.proofs.Circuits.Limits.{limits}
 use Rattle.columns.specs.declared.Counts.{Counts}

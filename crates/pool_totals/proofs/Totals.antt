@@ -15,7 +15,7 @@ use Rattle.joining.specs.declared.Joined.{Joined}
 use Rattle.joining.specs.declared.Joined.the-variants as answer
 use Rattle.joining.specs.Calls.{joinedOf}
 use Rattle.joining.specs.Calls as call
-use Rattle.records.specs.Answers.{Writes, ifDone}
+use Rattle.records.specs.Answers.{ifDone}
 use Rattle.pool_totals.specs.Calls.{Joins}
 
 module _ (f count written : ℕ) where

@@ -1,0 +1,6 @@
+-- Laws of C calls: one that writes, any one, a list of them, what a list hands over, S lists.
+pub mod Writing
+pub mod OneCall
+pub mod ManyCalls
+pub mod Handing
+pub mod WholeCalls

@@ -1,0 +1,102 @@
+-- DEMAND 3 of the C functions: what every list of C calls at S servers comes to. The calls hand back what the ledger tells,
+-- so what is proved of the pool is proved of them; joining is handed the closing messages, and its promise says the rest.
+-- Assumes the promises of the calls.
+use mathlib.Core.Path.{_≡_, refl, sym, ap, ap₂, _∙_, subst}
+use mathlib.Core.List.{List, _++_}
+use Prim.Native.Nat.{ℕ, zero, suc, _+_, _*_, _≤_, _<_}
+use native.Mathlib.Omega.{arith}
+use lib.ListN.{length, take}
+use Rattle.algebra.specs.Lists.{In}
+use Rattle.algebra.proofs.Tables.{length-tabulate}
+use Rattle.words.specs.Bytes.{bytesOfAll}
+use Rattle.words.proofs.Elements.{length-bytes-all}
+use Rattle.rules.specs.Settings.{document01}
+use Rattle.rules.specs.Columns.{publishedIn, columnsOf}
+use Rattle.rules.specs.Messages.{placeIn}
+use Rattle.rules.specs.Joining.{joinRefusal, joinCount, joinTotals, joinBytes}
+use Rattle.rules.specs.Ledger.{Answer, wrote, isClosed, closingMessage, empty}
+use Rattle.rules.specs.WholeRun.{openedAt, ledgerAt, Conditions, Closed, closingsFrom, closings}
+use Rattle.rules.proofs.Runs.WholeRuns.{document01-whole-run}
+use Rattle.pool_totals.specs.Calls.{Joins}
+use Rattle.calls.specs.Calls.{Tells}
+use Rattle.calls.specs.Servers.{Servers, over, closingsIn, inOrder, poolOf, CConditions, Totals, WholeCalls}
+use Rattle.calls.proofs.Writing.{reads, number-done}
+use Rattle.calls.proofs.ManyCalls.{calls-tell}
+use Rattle.calls.proofs.Handing.{rounds-same, closings-same}
+
+join-long : (servers : ℕ) (sheet joined : List ℕ)
+    → length (joinBytes document01 servers sheet joined) ≡ 4 * publishedIn (columnsOf sheet)
+unfolding joinBytes joinTotals
+join-long servers sheet joined =
+    length-bytes-all 4 (joinTotals document01 servers sheet joined)
+    ∙ ap (λ (k : ℕ). 4 * k) (length-tabulate _ (publishedIn (columnsOf sheet)))
+
+module _ (𝓢 : Servers) where
+  told : (i : ℕ) → i < 𝓢 .servers → Tells (𝓢 .servers) i (𝓢 .sheet) (𝓢 .returns) (𝓢 .log i)
+  told i h = calls-tell (𝓢 .servers) i (𝓢 .sheet) (𝓢 .returns) (𝓢 .log i) (𝓢 .serves i h)
+
+  closes : (i : ℕ) → i < 𝓢 .servers → (m : List ℕ) → In m (over closingsIn (𝓢 .log i .calls))
+      → (ledgerAt document01 (poolOf 𝓢) i .progress ≡ isClosed)
+      × (m ≡ closingMessage document01 (openedAt document01 (poolOf 𝓢) i) (ledgerAt document01 (poolOf 𝓢) i))
+  closes i h m k = closings-same (openedAt document01 (poolOf 𝓢) i) empty (𝓢 .log i .calls) (told i h .by-ledger) m k
+
+  conditions : CConditions 𝓢 → Conditions document01 (poolOf 𝓢)
+  conditions 𝓒 = record {
+    unaltered = λ i j h k joined q.
+        let o = openedAt document01 (poolOf 𝓢) i in
+        let rounds = rounds-same o empty (𝓢 .log i .calls) (told i h .by-ledger) in
+        subst (λ (xs : List Answer). In (wrote (placeIn document01 joined j)) xs) (told j k .by-ledger)
+        (𝓒 .unaltered i j h k joined (subst (λ (xs : List (List ℕ)). In joined xs) (sym rounds) q));
+    same-drops = 𝓒 .same-drops;
+  }
+
+  module _ (𝓒 : CConditions 𝓢) (m : ℕ → List ℕ)
+      (written-by : (i : ℕ) → i < 𝓢 .servers → In (m i) (over closingsIn (𝓢 .log i .calls))) where
+    closings-are : (i n : ℕ) → i + n ≤ 𝓢 .servers → inOrder m i n ≡ closingsFrom document01 (poolOf 𝓢) i n
+    unfolding inOrder closingsFrom
+    closings-are i zero h = refl
+    closings-are i (suc n) h =
+        let l : i < 𝓢 .servers = omega arith in
+        let k : suc i + n ≤ 𝓢 .servers = omega arith in
+        ap₂ (λ (a b : List ℕ). a ++ b) (closes i l (m i) (written-by i l) .1) (closings-are (suc i) n k)
+
+    joined-are : inOrder m 0 (𝓢 .servers) ≡ closings document01 (poolOf 𝓢)
+    joined-are = closings-are 0 (𝓢 .servers) (omega arith)
+
+    closed : Closed document01 (poolOf 𝓢)
+    closed = document01-whole-run (poolOf 𝓢) .closed (conditions 𝓒) (λ i h. closes i h (m i) (written-by i h) .0)
+
+    joins : (out : List ℕ) (accepted written a : ℕ) (out' : List ℕ) (accepted' written' : ℕ)
+        → Joins (𝓢 .servers) (𝓢 .sheet) (𝓢 .returns) (inOrder m 0 (𝓢 .servers)) out accepted written a out' accepted' written'
+        → Totals 𝓢 out a out' accepted' written'
+    unfolding joinBytes
+    joins out accepted written a out' accepted' written' j =
+        let S = 𝓢 .servers in
+        let joined = inOrder m 0 S in
+        let f : ℕ = joinRefusal document01 S (𝓢 .sheet) (𝓢 .returns) joined (length out) in
+        let none : a ≡ 0 → f ≡ 0 = λ z. sym (j .totals .answer-is) ∙ z in
+        let bytes : a ≡ 0 → take written' out' ≡ bytesOfAll 4 (joinTotals document01 S (𝓢 .sheet) (closings document01 (poolOf 𝓢))) =
+        λ z. reads f (joinBytes document01 S (𝓢 .sheet) joined) _ out written a out' written' (j .totals)
+        (λ q. join-long S (𝓢 .sheet) joined) (none z)
+        ∙ ap (λ (x : List ℕ). bytesOfAll 4 (joinTotals document01 S (𝓢 .sheet) x)) joined-are in
+        record {
+          ids = closed .ids;
+          distinct = closed .distinct;
+          same-ids = closed .same-ids;
+          number =
+              j .totals .answer-is
+              ∙ ap (λ (x : List ℕ). joinRefusal document01 S (𝓢 .sheet) (𝓢 .returns) x (length out)) joined-are
+              ∙ closed .joins (length out);
+          count = λ z. number-done f _ accepted accepted' (j .accepted-is) (none z) ∙ ap joinCount joined-are ∙ closed .count;
+          totals = λ z. bytes z ∙ ap (bytesOfAll 4) (closed .totals);
+          whole = λ k z. bytes z ∙ ap (bytesOfAll 4) (closed .whole k);
+        }
+
+  pub whole-calls : WholeCalls 𝓢
+  whole-calls = record {
+    tells = told;
+    whole = document01-whole-run (poolOf 𝓢);
+    conditions = conditions;
+    closes = closes;
+    joins = joins;
+  }

@@ -1,0 +1,3 @@
+-- Lists of C calls. Read Calls, then Servers.
+pub mod Calls
+pub mod Servers

@@ -1,0 +1,113 @@
+-- Demand 3 of the C functions: S servers, each with its own list of C calls, and joining at the end. The pool of the rules
+-- whose calls these are is told, so that what is claimed of it is claimed of the C calls.
+-- Assumes nothing.
+use mathlib.Core.Path.{_≡_, sym}
+use mathlib.Core.Bool.{cond}
+use mathlib.Core.List.{List, [], _∷_, _++_, map}
+use Prim.Native.Nat.{ℕ, zero, suc, _*_, _%_, _<_}
+use lib.Dec.{eqb, leb}
+use lib.ListN.{length, take}
+use Rattle.algebra.specs.Lists.{In, Distinct, Rearranged, sumOver}
+use Rattle.words.specs.Bytes.{bytesOfAll}
+use Rattle.rules.specs.Settings.{document01}
+use Rattle.rules.specs.Columns.{check, publishedIn, publishedFrom}
+use Rattle.rules.specs.Messages.{placeIn}
+use Rattle.rules.specs.Ledger.{wrote, isClosed, closingMessage}
+use Rattle.rules.specs.WholeRun.{Bytes, Pool, columns, openedAt, ledgerAt, acceptedAt, droppedAt, addedEntry, KeepsForm}
+use Rattle.rules.specs.WholeRun.{Conditions, WholeRun}
+use Rattle.pool_totals.specs.Calls.{Joins}
+use Rattle.calls.specs.Calls.{CCall, pool-share, pool-round-one, pool-round-two, pool-drop, pool-close, callOf, answerOf}
+use Rattle.calls.specs.Calls.{Log, Serves, Tells}
+
+-- "Servers are opened alike when S, sheet and N are the same and their numbers are 0 to S - 1, one each."
+pub record Servers : Type 0 where
+  pub servers : ℕ
+  pub sheet : List ℕ
+  pub returns : ℕ
+  pub log : ℕ → Log
+  pub some-server : 0 < servers
+  pub sheet-bytes : Bytes sheet
+  pub serves : (i : ℕ) → i < servers → Serves servers i sheet returns (log i)
+
+-- the joined messages of the round calls that returned 0
+abbrev pub roundsIn : CCall → List (List ℕ)
+roundsIn (pool-share T m r s out w a T' out' w') = []
+roundsIn (pool-round-one T joined out w a T' out' w') = cond (eqb a 0) (joined ∷ []) []
+roundsIn (pool-round-two T joined v a T' v') = cond (eqb a 0) (joined ∷ []) []
+roundsIn (pool-drop T a T') = []
+roundsIn (pool-close T out w a T' out' w') = []
+
+-- the bytes that pool_close wrote where it returned 0
+abbrev pub closingsIn : CCall → List (List ℕ)
+closingsIn (pool-share T m r s out w a T' out' w') = []
+closingsIn (pool-round-one T joined out w a T' out' w') = []
+closingsIn (pool-round-two T joined v a T' v') = []
+closingsIn (pool-drop T a T') = []
+closingsIn (pool-close T out w a T' out' w') = cond (eqb a 0) (take w' out' ∷ []) []
+
+unfoldable pub over : (CCall → List (List ℕ)) → List CCall → List (List ℕ)
+over f [] = []
+over f (c ∷ cs) = f c ++ over f cs
+
+-- messages one after another in server order
+unfoldable pub inOrder : (ℕ → List ℕ) → ℕ → ℕ → List ℕ
+inOrder m i zero = []
+inOrder m i (suc n) = m i ++ inOrder m (suc i) n
+
+module _ (𝓢 : Servers) where
+  -- the pool whose calls are what the C calls asked
+  abbrev pub poolOf : Pool document01
+  poolOf = record {
+    servers = 𝓢 .servers;
+    sheet = 𝓢 .sheet;
+    returns = 𝓢 .returns;
+    buffers = λ i. 𝓢 .log i .buffer;
+    calls = λ i. map callOf (𝓢 .log i .calls);
+    sheet-bytes = 𝓢 .sheet-bytes;
+    buffer-bytes = λ i h. 𝓢 .serves i h .buffer-bytes;
+    call-bytes = λ i h. 𝓢 .serves i h .call-bytes;
+    some-server = 𝓢 .some-server;
+    opens = λ i h. sym (𝓢 .serves i h .opens .answer-is);
+  }
+
+  -- "Round messages are unaltered when each one in a round call that is not refused is the one that the named server wrote
+  -- for that id and round." "Drops are in the same order when no id dropped at one server is accepted at another."
+  pub record CConditions : Type 0 where
+    pub unaltered : (i j : ℕ) → i < 𝓢 .servers → j < 𝓢 .servers → (joined : List ℕ) → In joined (over roundsIn (𝓢 .log i .calls))
+        → In (wrote (placeIn document01 joined j)) (map answerOf (𝓢 .log j .calls))
+    pub same-drops : (i j : ℕ) → i < 𝓢 .servers → j < 𝓢 .servers → (id : ℕ) → In id (droppedAt document01 poolOf i)
+        → In id (acceptedAt document01 poolOf j) → ⊥
+
+  -- what pool_join returned and left, handed the closing messages
+  pub record Totals (out : List ℕ) (a : ℕ) (out' : List ℕ) (accepted' written' : ℕ) : Type 0 where
+    -- the accepted ids, the same at each server
+    pub ids : List ℕ
+    pub distinct : Distinct ids
+    pub same-ids : (i : ℕ) → i < 𝓢 .servers → Rearranged (acceptedAt document01 poolOf i) ids
+    -- it is refused 14 at most; else their number stands behind `accepted`
+    pub number : a ≡ check (leb (4 * publishedIn (columns document01 poolOf)) (length out)) 14
+    pub count : a ≡ 0 → accepted' ≡ length ids
+    -- and the bytes written are, for each published entry, the sum modulo p of the added-up entry over these ids
+    pub totals : a ≡ 0 → take written' out'
+        ≡ bytesOfAll 4 (map (λ e. sumOver (λ id. addedEntry document01 poolOf id e) ids % document01 .modulus)
+        (publishedFrom 0 (columns document01 poolOf)))
+    -- where every accepted return keeps its form the sum itself
+    pub whole : ((id : ℕ) → In id ids → KeepsForm document01 poolOf id) → a ≡ 0 → take written' out'
+        ≡ bytesOfAll 4 (map (λ e. sumOver (λ id. addedEntry document01 poolOf id e) ids) (publishedFrom 0 (columns document01 poolOf)))
+
+  -- CLAIM, DEMAND 3: what every list of C calls at S servers comes to
+  pub record WholeCalls : Type 0 where
+    -- what the calls handed back is what the ledger tells, and the table in the end what its fold tells
+    pub tells : (i : ℕ) → i < 𝓢 .servers → Tells (𝓢 .servers) i (𝓢 .sheet) (𝓢 .returns) (𝓢 .log i)
+    -- demand 3 of the pool, and its conditions by what the C calls were handed and wrote
+    pub whole : WholeRun document01 poolOf
+    pub conditions : CConditions → Conditions document01 poolOf
+    -- a server is closed where its pool_close returned 0, and the bytes that it wrote are the closing message
+    pub closes : (i : ℕ) → i < 𝓢 .servers → (m : List ℕ) → In m (over closingsIn (𝓢 .log i .calls))
+        → (ledgerAt document01 poolOf i .progress ≡ isClosed)
+        × (m ≡ closingMessage document01 (openedAt document01 poolOf i) (ledgerAt document01 poolOf i))
+    -- pool_join, handed the bytes that pool_close wrote at each server, in server order
+    pub joins : CConditions → (m : ℕ → List ℕ) → ((i : ℕ) → i < 𝓢 .servers → In (m i) (over closingsIn (𝓢 .log i .calls)))
+        → (out : List ℕ) (accepted written a : ℕ) (out' : List ℕ) (accepted' written' : ℕ)
+        → Joins (𝓢 .servers) (𝓢 .sheet) (𝓢 .returns) (inOrder m 0 (𝓢 .servers)) out accepted written a out' accepted' written'
+        → Totals out a out' accepted' written'

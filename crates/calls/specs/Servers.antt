@@ -111,3 +111,12 @@ module _ (𝓢 : Servers) where
         → (out : List ℕ) (accepted written a : ℕ) (out' : List ℕ) (accepted' written' : ℕ)
         → Joins (𝓢 .servers) (𝓢 .sheet) (𝓢 .returns) (inOrder m 0 (𝓢 .servers)) out accepted written a out' accepted' written'
         → Totals out a out' accepted' written'
+
+-- CLAIM: there are such lists of C calls for everything that can be asked
+pub record AskedBy (𝓟 : Pool document01) : Type 0 where
+  pub 𝓢 : Servers
+  pub servers-are : 𝓢 .servers ≡ 𝓟 .servers
+  pub sheet-is : 𝓢 .sheet ≡ 𝓟 .sheet
+  pub returns-are : 𝓢 .returns ≡ 𝓟 .returns
+  pub buffers-are : (i : ℕ) → 𝓢 .log i .buffer ≡ 𝓟 .buffers i
+  pub calls-are : (i : ℕ) → map callOf (𝓢 .log i .calls) ≡ 𝓟 .calls i

@@ -78,20 +78,21 @@ module _ (σ : Setting) (𝓟 : Pool σ) where
   abbrev pub MadeOf : ℕ → List ℕ → Type 0
   MadeOf id vs = (w : DeliveredWhole σ 𝓟 id) × (w .values ≡ vs)
 
-  abbrev pub joined : List ℕ
-  joined = joinTotals σ (𝓟 .servers) (𝓟 .sheet) (closings σ 𝓟)
+  -- what joining the closing messages gives
+  abbrev pub joinedTotals : List ℕ
+  joinedTotals = joinTotals σ (𝓟 .servers) (𝓟 .sheet) (closings σ 𝓟)
 
-  -- The joined totals of a closed pool where each accepted id was made of the values `values id`
+  -- The joined totals of a closed pool where each of the accepted ids was made of the values `values id`
   pub record EncodedTotals (ids : List ℕ) (values : ℕ → List ℕ) : Type 0 where
     -- for each published entry, the sum of that entry of the encodings: a sum of whole numbers, not modulo p
-    pub totals : joined
+    pub totals : joinedTotals
         ≡ map (λ e. sumOver (λ id. getD (encoding (columns σ 𝓟) (values id)) e 0) ids) (publishedFrom 0 (columns σ 𝓟))
     -- behind the columns `before`: a yes/no column's total is the number of accepted returns that say yes
     pub yes-total : (before after : List Column) → columns σ 𝓟 ≡ before ++ (yesNo ∷ after)
-        → getD joined (publishedIn before) 0 ≡ howMany (λ id. eqb (getD (values id) (length before) 0) 1) ids
+        → getD joinedTotals (publishedIn before) 0 ≡ howMany (λ id. eqb (getD (values id) (length before) 0) 1) ids
     -- an option's total is the number of those that chose it
     pub option-total : (before after : List Column) (n i : ℕ) → columns σ 𝓟 ≡ before ++ (choice n ∷ after) → i < n
-        → getD joined (publishedIn before + i) 0 ≡ howMany (λ id. eqb (getD (values id) (length before) 0) i) ids
+        → getD joinedTotals (publishedIn before + i) 0 ≡ howMany (λ id. eqb (getD (values id) (length before) 0) i) ids
     -- a number's total is the sum of the numbers
     pub number-total : (before after : List Column) (n : ℕ) → columns σ 𝓟 ≡ before ++ (number n ∷ after)
-        → getD joined (publishedIn before) 0 ≡ sumOver (λ id. getD (values id) (length before) 0) ids
+        → getD joinedTotals (publishedIn before) 0 ≡ sumOver (λ id. getD (values id) (length before) 0) ids

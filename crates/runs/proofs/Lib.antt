@@ -1,5 +1,6 @@
 -- Whole runs that antt computes, and that meet the conditions of the theorem on whole runs.
 pub mod Tests
 pub mod TwoServers
+pub mod Premises
 pub mod ThreeServers
 pub mod SecondProgram

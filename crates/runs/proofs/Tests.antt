@@ -1,12 +1,13 @@
 -- Tests that compute, for runs that are given: whether numbers make a pool, whether it meets the conditions of whole runs,
--- whether an id has one pair, whether all servers have closed. Each is proved to say what it tests. Assumes nothing.
+-- whether an id has one pair, whether all servers have closed, whether a return is delivered whole, whether servers are
+-- ready for one. Each is proved to say what it tests. Assumes nothing.
 use mathlib.Core.Path.{_≡_, refl, ap}
 use mathlib.Core.Logic.{_⊎_, ⊎-elim, inl, inr}
 use mathlib.Core.Bool.{Bool, true, false, not, _&&_, _||_, false≢true}
 use mathlib.Core.List.{List, [], _∷_}
 use Prim.Native.Nat.{ℕ, _<_}
-use borrow.Author.Tests.{eqb-true, eqb-false, ltb-true, not-true}
-use lib.Dec.{eqb, ltb}
+use borrow.Author.Tests.{eqb-true, eqb-false, ltb-true, leb-true, not-true}
+use lib.Dec.{eqb, ltb, leb}
 use lib.ListN.{length}
 use Rattle.algebra.specs.Lists.{In, every, countFrom}
 use Rattle.algebra.proofs.Members.{and-left, and-right, every-all, all-in, all-map}
@@ -14,13 +15,17 @@ use Rattle.words.specs.Bytes.{allBelow, sameBytes}
 use Rattle.words.proofs.Below.{all-of-below}
 use Rattle.words.proofs.Same.{same-equal}
 use Rattle.rules.specs.Settings.{Setting}
-use Rattle.rules.specs.Messages.{placeIn}
+use Rattle.rules.specs.Values.{legalValues}
+use Rattle.rules.specs.Judging.{shareSize, allowedPair}
+use Rattle.rules.specs.Making.{madeShare, randomCount}
+use Rattle.rules.specs.Messages.{placeIn, roundLength}
 use Rattle.rules.specs.Server.{isMember}
 use Rattle.rules.specs.Table.{openRefusal}
 use Rattle.rules.specs.Ledger.{Call, share, roundOne, roundTwo, drop, close, Answer, refused, wrote, judged, done, Note}
-use Rattle.rules.specs.Ledger.{Progress, isIdle, waitsOne, waitsTwo, isClosed, empty}
-use Rattle.rules.specs.WholeRun.{BytesIn, Pool, openedAt, ledgerAt, answersAt, acceptedAt, droppedAt, handedIn, notesAt}
-use Rattle.rules.specs.WholeRun.{OnePair, Conditions, AllClosed}
+use Rattle.rules.specs.Ledger.{Progress, isIdle, waitsOne, waitsTwo, isClosed, empty, idsOf, notesOf}
+use Rattle.rules.specs.WholeRun.{BytesIn, Pool, columns, openedAt, ledgerAt, answersAt, acceptedAt, droppedAt, handedIn, notesAt}
+use Rattle.rules.specs.WholeRun.{noteUnder, OnePair, Conditions, AllClosed, Ready}
+use Rattle.rules.specs.Made.{MadeOf}
 use Rattle.rules.proofs.Histories.Checks.{every-at}
 use Rattle.rules.proofs.Histories.Moves.{has-not}
 
@@ -182,3 +187,93 @@ module _ (σ : Setting) (𝓟 : Pool σ) where
   unfolding allEnded
   all-closed e i l =
       is-closed (ledgerAt σ 𝓟 i .progress) (every-at (λ i. isEnded (ledgerAt σ 𝓟 i .progress)) (𝓟 .servers) e i l)
+
+  -- the shares noted under the id are those of the values and the random elements
+  abbrev wholeAt : ℕ → List ℕ → List ℕ → ℕ → Bool
+  wholeAt id values random i =
+      sameBytes (noteUnder id (notesAt σ 𝓟 i) .elements) (madeShare σ (columns σ 𝓟) (𝓟 .servers) values random i)
+
+  abbrev randomIs : List ℕ → Bool
+  randomIs random = eqb (length random) (randomCount (𝓟 .servers) (columns σ 𝓟)) && allBelow (σ .modulus) random
+
+  unfoldable pub isWhole : ℕ → List ℕ → List ℕ → Bool
+  isWhole id values random =
+      (legalValues (columns σ 𝓟) values && randomIs random) && every (wholeAt id values random) (countFrom 0 (𝓟 .servers))
+
+  pub made-of : (id : ℕ) (values random : List ℕ) → isWhole id values random ≡ true → MadeOf σ 𝓟 id values
+  unfolding isWhole
+  made-of id values random e =
+      let long : Bool = eqb (length random) (randomCount (𝓟 .servers) (columns σ 𝓟)) in
+      let low : Bool = allBelow (σ .modulus) random in
+      let fit : Bool = legalValues (columns σ 𝓟) values in
+      let all : Bool = every (wholeAt id values random) (countFrom 0 (𝓟 .servers)) in
+      let given : (fit && (long && low)) ≡ true = and-left (fit && (long && low)) all e in
+      let drawn : (long && low) ≡ true = and-right fit (long && low) given in (
+        record {
+          values = values;
+          random = random;
+          legal = and-left fit (long && low) given;
+          enough = eqb-true _ _ (and-left long low drawn);
+          below = and-right long low drawn;
+          noted = λ i l. same-equal _ _
+              (every-at (wholeAt id values random) (𝓟 .servers) (and-right (fit && (long && low)) all e) i l);
+        },
+        refl,
+      )
+
+  -- a server is ready for a return
+  unfoldable pub isFree : Progress → Bool
+  isFree isIdle = true
+  isFree (waitsOne n) = false
+  isFree (waitsTwo n d e) = false
+  isFree isClosed = false
+
+  is-free : (p : Progress) → isFree p ≡ true → p ≡ isIdle
+  unfolding isFree
+  is-free isIdle e = refl
+  is-free (waitsOne n) e = absurd (false≢true e)
+  is-free (waitsTwo n d x) e = absurd (false≢true e)
+  is-free isClosed e = absurd (false≢true e)
+
+  module _ (id : ℕ) (shares : ℕ → List ℕ) (r s room : ℕ) where
+    abbrev freeAt : ℕ → Bool
+    freeAt i = isFree (ledgerAt σ 𝓟 i .progress) && ltb (length (ledgerAt σ 𝓟 i .decided)) (𝓟 .returns)
+
+    abbrev newAt : ℕ → Bool
+    newAt i = not (isMember id (idsOf (notesOf (ledgerAt σ 𝓟 i .decided))))
+
+    abbrev soundAt : ℕ → Bool
+    soundAt i = eqb (length (shares i)) (shareSize (columns σ 𝓟)) && allBelow (σ .modulus) (shares i)
+
+    abbrev given : Bool
+    given = ltb id 4294967296 && (allowedPair σ (columns σ 𝓟) r s && leb (roundLength σ) room)
+
+    abbrev readyAt : ℕ → Bool
+    readyAt i = freeAt i && (newAt i && soundAt i)
+
+    unfoldable pub isReady : Bool
+    isReady = given && every readyAt (countFrom 0 (𝓟 .servers))
+
+    pub is-ready : isReady ≡ true → Ready σ 𝓟 id shares r s room
+    unfolding isReady
+    is-ready e =
+        let rest : Bool = allowedPair σ (columns σ 𝓟) r s && leb (roundLength σ) room in
+        let g : given ≡ true = and-left given (every readyAt (countFrom 0 (𝓟 .servers))) e in
+        let g₂ : rest ≡ true = and-right (ltb id 4294967296) rest g in
+        let at : (i : ℕ) → i < 𝓟 .servers → readyAt i ≡ true =
+        every-at readyAt (𝓟 .servers) (and-right given (every readyAt (countFrom 0 (𝓟 .servers))) e) in
+        let free : (i : ℕ) → i < 𝓟 .servers → freeAt i ≡ true = λ i l. and-left (freeAt i) _ (at i l) in
+        let sound : (i : ℕ) → i < 𝓟 .servers → soundAt i ≡ true =
+        λ i l. and-right (newAt i) (soundAt i) (and-right (freeAt i) _ (at i l)) in
+        record {
+          idle-all = λ i l. is-free _ (and-left _ (ltb (length (ledgerAt σ 𝓟 i .decided)) (𝓟 .returns)) (free i l));
+          fewer = λ i l. ltb-true _ _ (and-right (isFree (ledgerAt σ 𝓟 i .progress)) _ (free i l));
+          unused = λ i l. has-not id (idsOf (notesOf (ledgerAt σ 𝓟 i .decided)))
+              (not-true _ (and-left (newAt i) (soundAt i) (and-right (freeAt i) _ (at i l))));
+          id-fits = ltb-true _ _ (and-left (ltb id 4294967296) rest g);
+          sized = λ i l. eqb-true _ _ (and-left _ (allBelow (σ .modulus) (shares i)) (sound i l));
+          below = λ i l. all-of-below (σ .modulus) (shares i)
+              (and-right (eqb (length (shares i)) (shareSize (columns σ 𝓟))) _ (sound i l));
+          pair = and-left (allowedPair σ (columns σ 𝓟) r s) (leb (roundLength σ) room) g₂;
+          enough = leb-true _ _ (and-right (allowedPair σ (columns σ 𝓟) r s) (leb (roundLength σ) room) g₂);
+        }

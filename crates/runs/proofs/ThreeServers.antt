@@ -1,24 +1,27 @@
 -- A whole run of three servers with the sheet 17, 18 3, 19 2: two honest returns are accepted; an altered one is rejected at
 -- two servers and dropped at the third before its verdict; an id is dropped at one server alone. antt computes it. It meets
 -- the conditions, so what demand 3 says of it holds. Assumes nothing.
-use mathlib.Core.Path.{_≡_, refl}
+use mathlib.Core.Path.{_≡_, refl, subst}
+use mathlib.Core.Logic.{inl, inr}
 use mathlib.Core.Bool.{true, cond}
 use mathlib.Core.List.{List, [], _∷_, _++_, map}
 use Prim.Native.Nat.{ℕ, zero, suc, _+_, _*_, _%_}
-use lib.Dec.{eqb}
-use lib.ListN.{replicate, set}
-use Rattle.algebra.specs.Lists.{tabulate}
+use lib.Dec.{eqb, lit<}
+use lib.ListN.{getD, replicate, set}
+use Rattle.algebra.specs.Lists.{In, tabulate}
 use Rattle.rules.specs.Settings.{document01}
-use Rattle.rules.specs.Columns.{columnsOf}
+use Rattle.rules.specs.Columns.{yesNo, choice, number, columnsOf}
 use Rattle.rules.specs.Making.{madeShare}
 use Rattle.rules.specs.Ledger.{Call, roundOne, roundTwo, drop, close}
 use Rattle.rules.specs.WholeRun.{Pool, answersAt, acceptedAt, Conditions, AllClosed, closings, Closed}
+use Rattle.rules.specs.Made.{MadeOf, joinedTotals, howMany, EncodedTotals}
 use Rattle.rules.proofs.Computed.Computing.{everything}
 use Rattle.rules.proofs.Computed.Facts.{document01-facts}
 use Rattle.rules.proofs.Histories.MessageBytes.{oneByOne}
 use Rattle.runs.proofs.Tests.{bytesCall, opensAt, isPool, poolOf, hasWritten, meets, meets-conditions}
-use Rattle.runs.proofs.Tests.{isEnded, allEnded, all-closed}
+use Rattle.runs.proofs.Tests.{isEnded, allEnded, all-closed, isWhole, made-of}
 use Rattle.rules.proofs.Runs.WholeTotals.{closed-together}
+use Rattle.rules.proofs.Runs.EncodedTotals.{encoded-totals}
 use Rattle.runs.proofs.TwoServers.{ones, twos, give, short, joinResult}
 
 abbrev sheet : List ℕ
@@ -103,3 +106,39 @@ accepted-ids = refl
 join-is : joinResult 3 sheet 4 (closings document01 pool) ≡ 0 ∷ 2 ∷ 1 ∷ 0 ∷ 0 ∷ 2 ∷ 4 ∷ []
 unfolding everything joinResult calls ones twos oneByOne
 join-is = refl
+
+-- both accepted returns are delivered whole, so the totals are those of their values
+made-1 : MadeOf document01 pool 1 (1 ∷ 2 ∷ 3 ∷ [])
+unfolding everything isWhole calls ones twos oneByOne
+made-1 = made-of document01 pool 1 (1 ∷ 2 ∷ 3 ∷ []) (random 987654321) refl
+
+made-3 : MadeOf document01 pool 3 (0 ∷ 2 ∷ 1 ∷ [])
+unfolding everything isWhole calls ones twos oneByOne
+made-3 = made-of document01 pool 3 (0 ∷ 2 ∷ 1 ∷ []) (random 192837465) refl
+
+abbrev values : ℕ → List ℕ
+values id = cond (eqb id 1) (1 ∷ 2 ∷ 3 ∷ []) (0 ∷ 2 ∷ 1 ∷ [])
+
+each-made : (id : ℕ) → In id (acceptedAt document01 pool 2) → MadeOf document01 pool id (values id)
+each-made id h = go (subst (In id) accepted-ids h)
+  where
+    go : In id (1 ∷ 3 ∷ []) → MadeOf document01 pool id (values id)
+    go (inl e) = subst (λ (k : ℕ). MadeOf document01 pool k (values k)) e made-1
+    go (inr (inl e)) = subst (λ (k : ℕ). MadeOf document01 pool k (values k)) e made-3
+    go (inr (inr k)) = absurd k
+
+pub told : EncodedTotals document01 pool (acceptedAt document01 pool 2) values
+told = encoded-totals document01 document01-facts pool meets-them ended 2 (lit< tt) values each-made
+
+-- one says yes; two chose the last option; the numbers add up to 4
+yes-told : getD (joinedTotals document01 pool) 0 0 ≡ 1
+unfolding everything howMany calls ones twos oneByOne
+yes-told = told .yes-total [] (choice 3 ∷ number 2 ∷ []) refl
+
+option-told : getD (joinedTotals document01 pool) 3 0 ≡ 2
+unfolding everything howMany calls ones twos oneByOne
+option-told = told .option-total (yesNo ∷ []) (number 2 ∷ []) 3 2 refl (lit< tt)
+
+number-told : getD (joinedTotals document01 pool) 4 0 ≡ 4
+unfolding everything calls ones twos oneByOne
+number-told = told .number-total (yesNo ∷ choice 3 ∷ []) [] 2 refl

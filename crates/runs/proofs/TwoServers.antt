@@ -56,22 +56,22 @@ joinResult servers sheet returns messages =
     ∷ joinTotals document01 servers sheet messages
 
 -- ---- two servers, the sheet 17, at most three returns
-abbrev sheet : List ℕ
+abbrev pub sheet : List ℕ
 sheet = 17 ∷ []
 
 -- u_0, v_0, a, b, and server 1's share
-abbrev random : List ℕ
+abbrev pub random : List ℕ
 random =
     2 ∷ 3 ∷ 5 ∷ 7 ∷ 10 ∷ 2000 ∷ 300000 ∷ 40000000 ∷ 2147483646 ∷ 60 ∷ 7 ∷ 888888888 ∷ 99 ∷ []
 
 -- yes; and the false entry 2
-abbrev honest : ℕ → List ℕ
+abbrev pub honest : ℕ → List ℕ
 honest = madeShare document01 (columnsOf sheet) 2 (1 ∷ []) random
 
 abbrev wholeFalse : List ℕ
 wholeFalse = 2 ∷ 2 ∷ 3 ∷ 6 ∷ 0 ∷ 2147483645 ∷ 5 ∷ 7 ∷ 35 ∷ []
 
-abbrev false-return : ℕ → List ℕ
+abbrev pub false-return : ℕ → List ℕ
 false-return i = tabulate (shareOf (modulo 2147483647) 2 (λ k. getD wholeFalse k 0) (λ j k. getD random (4 + k) 0) i) 9
 
 -- joined messages of two servers in the wrong order

@@ -1,7 +1,8 @@
 -- Where every accepted return is delivered whole, its added-up entries are the encoding of its values, so it keeps its form
 -- and the joined totals are sums of encodings, as whole numbers. Column by column these are numbers of returns, or sums of
--- values. Assumes what a closed pool is promised.
+-- values. Assumes the conditions of whole runs.
 use mathlib.Core.Path.{_≡_, refl, sym, ap, _∙_}
+use mathlib.Core.Logic.{inl, inr}
 use mathlib.Core.Bool.{Bool, true, false, cond}
 use mathlib.Core.List.{List, [], _∷_, _++_, map}
 use Prim.Native.Nat.{ℕ, zero, suc, _+_, _<_}
@@ -9,19 +10,20 @@ use native.Mathlib.Nat.{mod-eq-of-lt, zero-add, add-zero}
 use native.Mathlib.Omega.{arith}
 use lib.Dec.{eqb}
 use lib.ListN.{length, getD}
-use Rattle.algebra.specs.Lists.{In, sumOver}
+use Rattle.algebra.specs.Lists.{In, Rearranged, none, keep, swap, chain, sumOver}
 use Rattle.algebra.specs.Modulo.{modulo}
 use Rattle.algebra.proofs.Members.{all-in}
 use Rattle.algebra.proofs.Sums.{sum-ext}
-use Rattle.algebra.proofs.Rearrangement.{sum-cong}
+use Rattle.algebra.proofs.Rearrangement.{rearranged-sym, rearranged-sum, sum-cong}
 use Rattle.words.proofs.Below.{all-of-below}
 use Rattle.rules.specs.Settings.{Setting, Facts}
 use Rattle.rules.specs.Columns.{Column, yesNo, choice, number, publishedOf, valuesOf, entriesIn, publishedIn}
 use Rattle.rules.specs.Columns.{publishedFrom}
 use Rattle.rules.specs.Values.{encoded, legalValues, encoding}
 use Rattle.rules.specs.Judging.{addedUp}
-use Rattle.rules.specs.WholeRun.{Pool, columns, addedEntry, KeepsForm, DeliveredWhole, Closed}
-use Rattle.rules.specs.Made.{howMany, MadeOf, joined, EncodedTotals}
+use Rattle.rules.specs.WholeRun.{Pool, columns, acceptedAt, addedEntry, KeepsForm, DeliveredWhole, Conditions}
+use Rattle.rules.specs.WholeRun.{AllClosed, Closed}
+use Rattle.rules.specs.Made.{howMany, MadeOf, joinedTotals, EncodedTotals}
 use Rattle.rules.proofs.Circuits.Legal.{sheet-tests-say-legal}
 use Rattle.rules.proofs.Circuits.Encoding.{entry-below-modulus}
 use Rattle.rules.proofs.Circuits.Limits.{published-few-of}
@@ -30,7 +32,7 @@ use Rattle.rules.proofs.Tables.Invariant.{sum-below}
 use Rattle.rules.proofs.Returns.OnSheets.{sheet-entries-add-up}
 use Rattle.rules.proofs.Histories.PoolOpened.{is-read, limited}
 use Rattle.rules.proofs.Histories.ClosingBytes.{getD-map}
-use Rattle.rules.proofs.Runs.WholeTotals.{map-same}
+use Rattle.rules.proofs.Runs.WholeTotals.{map-same, closed-together}
 
 -- ones and zeros added up are a number of members
 ones-count : (t : ℕ → Bool) (s : List ℕ) → sumOver (λ x. cond (t x) 1 0) s ≡ howMany t s
@@ -48,6 +50,16 @@ yes-is-one : (v : ℕ) → v < 2 → v ≡ cond (eqb v 1) 1 0
 yes-is-one zero l = refl
 yes-is-one (suc zero) l = refl
 yes-is-one (suc (suc v)) l = absurd (omega arith)
+
+-- a member stays one
+rearranged-in : {s t : List ℕ} → Rearranged s t → (x : ℕ) → In x s → In x t
+rearranged-in none x h = h
+rearranged-in (keep y p) x (inl e) = inl e
+rearranged-in (keep y p) x (inr h) = inr (rearranged-in p x h)
+rearranged-in (swap y z s) x (inl e) = inr (inl e)
+rearranged-in (swap y z s) x (inr (inl e)) = inl e
+rearranged-in (swap y z s) x (inr (inr h)) = inr (inr h)
+rearranged-in (chain p q) x h = rearranged-in q x (rearranged-in p x h)
 
 -- ---- a return that is delivered whole
 module _ (σ : Setting) (facts : Facts σ) (𝓟 : Pool σ) (id : ℕ) (w : DeliveredWhole σ 𝓟 id) where
@@ -76,14 +88,14 @@ module _ (σ : Setting) (facts : Facts σ) (𝓟 : Pool σ) (id : ℕ) (w : Deli
         entries-are = λ i l. entry-is-code i l ∙ sym (mod-eq-of-lt (below i));
       })
 
--- ---- the totals
-module _ (σ : Setting) (facts : Facts σ) (𝓟 : Pool σ) (closed : Closed σ 𝓟) (values : ℕ → List ℕ)
-    (made : (id : ℕ) → In id (closed .ids) → MadeOf σ 𝓟 id (values id)) where
+-- ---- the totals, over the ids that server i accepted
+module _ (σ : Setting) (facts : Facts σ) (𝓟 : Pool σ) (closed : Closed σ 𝓟) (i : ℕ) (l : i < 𝓟 .servers) (values : ℕ → List ℕ)
+    (made : (id : ℕ) → In id (acceptedAt σ 𝓟 i) → MadeOf σ 𝓟 id (values id)) where
   abbrev cs : List Column
   cs = columns σ 𝓟
 
   abbrev ids : List ℕ
-  ids = closed .ids
+  ids = acceptedAt σ 𝓟 i
 
   -- the sum of entry e of the encodings
   abbrev coded : ℕ → ℕ
@@ -98,13 +110,16 @@ module _ (σ : Setting) (facts : Facts σ) (𝓟 : Pool σ) (closed : Closed σ 
       entry-is-code σ facts 𝓟 id (made id h .0) e (all-in e (publishedFrom 0 cs) (limited σ 𝓟 .published-below) k)
       ∙ ap (λ (v : List ℕ). getD (encoding cs v) e 0) (made id h .1)
 
-  whole-totals : joined σ 𝓟 ≡ map coded (publishedFrom 0 cs)
+  whole-totals : joinedTotals σ 𝓟 ≡ map coded (publishedFrom 0 cs)
   whole-totals =
-      closed .whole (λ id h. keeps-form σ facts 𝓟 id (made id h .0))
-      ∙ map-same _ _ (publishedFrom 0 cs) (λ e k. sum-cong _ _ ids (λ id h. entry-coded id h e k))
+      let same : Rearranged (closed .ids) ids = rearranged-sym (closed .same-ids i l) in
+      closed .whole (λ id h. keeps-form σ facts 𝓟 id (made id (rearranged-in same id h) .0))
+      ∙ map-same _ _ (publishedFrom 0 cs) (λ e k.
+      rearranged-sum (λ id. addedEntry σ 𝓟 id e) same
+      ∙ sum-cong _ _ ids (λ id h. entry-coded id h e k))
 
-  -- the total of published entry i of a column
-  module _ (before after : List Column) (c : Column) (i : ℕ) (is : cs ≡ before ++ (c ∷ after)) (l : i < publishedOf c) where
+  -- the total of published entry k of a column
+  module _ (before after : List Column) (c : Column) (k : ℕ) (is : cs ≡ before ++ (c ∷ after)) (low : k < publishedOf c) where
     abbrev chosen : ℕ → ℕ
     chosen id = getD (values id) (length before) 0
 
@@ -114,41 +129,47 @@ module _ (σ : Setting) (facts : Facts σ) (𝓟 : Pool σ) (closed : Closed σ 
     value-below : (id : ℕ) → In id ids → chosen id < valuesOf c
     value-below id h = value-behind c after before (values id) (legal-here id h)
 
-    place-within : publishedIn before + i < length (publishedFrom 0 cs)
+    place-within : publishedIn before + k < length (publishedFrom 0 cs)
     place-within =
-        let most : publishedIn before + i < publishedIn (before ++ (c ∷ after)) = published-within c after i l before in
+        let most : publishedIn before + k < publishedIn (before ++ (c ∷ after)) = published-within c after k low before in
         let same : publishedIn (before ++ (c ∷ after)) ≡ publishedIn cs = ap publishedIn (sym is) in
         omega (arith, limited σ 𝓟 .published-count)
 
-    place-is : getD (publishedFrom 0 cs) (publishedIn before + i) 0 ≡ entriesIn before + i
+    place-is : getD (publishedFrom 0 cs) (publishedIn before + k) 0 ≡ entriesIn before + k
     place-is =
-        ap (λ (v : List Column). getD (publishedFrom 0 v) (publishedIn before + i) 0) is
-        ∙ published-behind c after i l before 0
-        ∙ zero-add (entriesIn before + i)
+        ap (λ (v : List Column). getD (publishedFrom 0 v) (publishedIn before + k) 0) is
+        ∙ published-behind c after k low before 0
+        ∙ zero-add (entriesIn before + k)
 
-    code-is : (id : ℕ) → In id ids → getD (encoding cs (values id)) (entriesIn before + i) 0 ≡ encoded c (chosen id) i
+    code-is : (id : ℕ) → In id ids → getD (encoding cs (values id)) (entriesIn before + k) 0 ≡ encoded c (chosen id) k
     code-is id h =
-        ap (λ (v : List Column). getD (encoding v (values id)) (entriesIn before + i) 0) is
-        ∙ entry-behind c after i (omega (arith, published-few-of c)) before (values id) (legal-here id h)
+        ap (λ (v : List Column). getD (encoding v (values id)) (entriesIn before + k) 0) is
+        ∙ entry-behind c after k (omega (arith, published-few-of c)) before (values id) (legal-here id h)
 
-    column-total : getD (joined σ 𝓟) (publishedIn before + i) 0 ≡ sumOver (λ id. encoded c (chosen id) i) ids
+    column-total : getD (joinedTotals σ 𝓟) (publishedIn before + k) 0 ≡ sumOver (λ id. encoded c (chosen id) k) ids
     column-total =
-        ap (λ (v : List ℕ). getD v (publishedIn before + i) 0) whole-totals
-        ∙ getD-map coded (publishedFrom 0 cs) (publishedIn before + i) place-within
+        ap (λ (v : List ℕ). getD v (publishedIn before + k) 0) whole-totals
+        ∙ getD-map coded (publishedFrom 0 cs) (publishedIn before + k) place-within
         ∙ ap coded place-is
         ∙ sum-cong _ _ ids code-is
 
-  pub encoded-totals : EncodedTotals σ 𝓟 (closed .ids) values
+  each-total : EncodedTotals σ 𝓟 (acceptedAt σ 𝓟 i) values
   unfolding encoded publishedOf valuesOf
-  encoded-totals = record {
+  each-total = record {
     totals = whole-totals;
     yes-total = λ before after is.
-        ap (λ k. getD (joined σ 𝓟) k 0) (sym (add-zero (publishedIn before)))
+        ap (λ k. getD (joinedTotals σ 𝓟) k 0) (sym (add-zero (publishedIn before)))
         ∙ column-total before after yesNo 0 is (omega arith)
         ∙ sum-cong _ _ ids (λ id h. yes-is-one _ (value-below before after yesNo 0 is (omega arith) id h))
         ∙ ones-count _ ids;
-    option-total = λ before after n i is l. column-total before after (choice n) i is l ∙ ones-count _ ids;
+    option-total = λ before after n k is low. column-total before after (choice n) k is low ∙ ones-count _ ids;
     number-total = λ before after n is.
-        ap (λ k. getD (joined σ 𝓟) k 0) (sym (add-zero (publishedIn before)))
+        ap (λ k. getD (joinedTotals σ 𝓟) k 0) (sym (add-zero (publishedIn before)))
         ∙ column-total before after (number n) 0 is (omega arith);
   }
+
+-- under the conditions, when all servers have closed
+pub encoded-totals : (σ : Setting) → Facts σ → (𝓟 : Pool σ) → Conditions σ 𝓟 → AllClosed σ 𝓟 → (i : ℕ) → i < 𝓟 .servers
+    → (values : ℕ → List ℕ) → ((id : ℕ) → In id (acceptedAt σ 𝓟 i) → MadeOf σ 𝓟 id (values id))
+    → EncodedTotals σ 𝓟 (acceptedAt σ 𝓟 i) values
+encoded-totals σ facts 𝓟 𝓒 ended = each-total σ facts 𝓟 (closed-together σ facts 𝓟 𝓒 ended)

@@ -1,0 +1,180 @@
+-- Each premise of the theorem on whole runs, and of those on made returns, is met: in the run of two servers the honest
+-- return's messages are the bytes that making wrote, and after its first ten calls both servers are ready for another
+-- return. antt computes the premises, and the theorems are applied. Assumes nothing.
+use mathlib.Core.Path.{_≡_, refl, sym, ap, _∙_, subst}
+use mathlib.Core.Logic.{inl, inr}
+use mathlib.Core.Bool.{Bool, true, false, cond}
+use mathlib.Core.List.{List, [], _∷_, map}
+use Prim.Native.Nat.{ℕ, _<_}
+use borrow.Author.Tests.{eqb-true}
+use lib.Dec.{eqb, lit<}
+use lib.ListN.{getD, take, drop, replicate}
+use Rattle.algebra.specs.Lists.{In, every, countFrom}
+use Rattle.words.specs.Bytes.{bytesOfAll, elementsOf}
+use Rattle.rules.specs.Settings.{document01}
+use Rattle.rules.specs.Columns.{columnsOf}
+use Rattle.rules.specs.Judging.{letsIn}
+use Rattle.rules.specs.Making.{shareMessage, madeShare, makeRefusal}
+use Rattle.rules.specs.Ledger.{Call, share, empty, accepted, rejected, Decided, isAccepted, refusalOf, runLedger, ledgerAnswers}
+use Rattle.rules.specs.WholeRun.{Pool, openedAt, ledgerAt, acceptedAt, returnOf, Ready, threeCalls, WholeRun}
+use Rattle.rules.specs.Made.{madePart, MadeReturn, Took, MadeOf, joinedTotals, howMany, EncodedTotals}
+use Rattle.rules.proofs.Computed.Computing.{everything}
+use Rattle.rules.proofs.Computed.Facts.{document01-facts}
+use Rattle.rules.proofs.Histories.MessageBytes.{oneByOne}
+use Rattle.rules.proofs.Histories.Checks.{every-at}
+use Rattle.rules.proofs.Returns.MadeMessages.{makes-return}
+use Rattle.rules.proofs.Runs.WholeRuns.{document01-whole-run}
+use Rattle.rules.proofs.Runs.Delivered.{taken-whole}
+use Rattle.rules.proofs.Runs.EncodedTotals.{encoded-totals}
+use Rattle.runs.proofs.Tests.{bytesCall, opensAt, isPool, poolOf, isFree, isReady, is-ready}
+use Rattle.runs.proofs.TwoServers.{ones, twos, short, sheet, random, honest, false-return, calls, pool, meets-them, ended}
+use Rattle.runs.proofs.TwoServers.{pair-77, pair-78}
+
+-- ---- making: yes, and the random elements, as bytes
+abbrev valueBytes : List ℕ
+valueBytes = bytesOfAll 4 (1 ∷ [])
+
+abbrev randomBytes : List ℕ
+randomBytes = bytesOfAll 4 random
+
+-- not refused, where 84 bytes are lent
+not-refused : makeRefusal document01 sheet 2 valueBytes randomBytes 84 ≡ 0
+unfolding everything
+not-refused = refl
+
+pub made-77 : MadeReturn document01 sheet 2 77 valueBytes randomBytes
+made-77 = makes-return document01 document01-facts sheet 2 77 valueBytes randomBytes 84 not-refused
+
+-- both servers took their parts of the bytes
+abbrev partAt : ℕ → List ℕ
+partAt = madePart document01 sheet 2 77 valueBytes randomBytes
+
+values-read : elementsOf 4 valueBytes ≡ 1 ∷ []
+unfolding everything
+values-read = refl
+
+random-read : elementsOf 4 randomBytes ≡ random
+unfolding everything
+random-read = refl
+
+part-is : (i : ℕ) → i < 2 → shareMessage document01 77 i (honest i) ≡ partAt i
+part-is i l =
+    sym (made-77 .message-is i l
+    ∙ λ t. shareMessage document01 77 i (madeShare document01 (columnsOf sheet) 2 (values-read t) (random-read t) i))
+
+-- taken as the first call
+abbrev taken : ℕ → Bool
+taken i = eqb (refusalOf document01 (openedAt document01 pool i) empty (share (shareMessage document01 77 i (honest i)) 4 9 14)) 0
+
+both-taken : every taken (countFrom 0 2) ≡ true
+unfolding everything
+both-taken = refl
+
+took : (i : ℕ) → i < 2 → Took document01 pool i (partAt i)
+unfolding runLedger calls
+took i l = record {
+  before = [];
+  after = drop 1 (calls i);
+  r = 4;
+  s = 9;
+  room = 14;
+  among = ap (λ (m : List ℕ). share m 4 9 14 ∷ drop 1 (calls i)) (part-is i l);
+  not-refused =
+      ap (λ (m : List ℕ). refusalOf document01 (openedAt document01 pool i) empty (share m 4 9 14)) (sym (part-is i l))
+      ∙ eqb-true _ 0 (every-at taken 2 both-taken i l);
+}
+
+pub whole-77 : MadeOf document01 pool 77 (elementsOf 4 valueBytes)
+whole-77 = taken-whole document01 document01-facts pool 77 valueBytes randomBytes 84 not-refused (lit< tt) took
+
+-- ---- verdicts at server 1: the honest return is let in by its pair, the false one is not
+whole-run : WholeRun document01 pool
+whole-run = document01-whole-run pool
+
+abbrev accepted-77 : Decided
+accepted-77 = record { note = record { id = 77; elements = honest 1; r = 4; s = 9 }; decision = accepted }
+
+abbrev rejected-78 : Decided
+rejected-78 = record { note = record { id = 78; elements = false-return 1; r = 3; s = 9 }; decision = rejected }
+
+in-77 : In accepted-77 (ledgerAt document01 pool 1 .decided)
+unfolding everything calls ones twos oneByOne
+in-77 = inl refl
+
+in-78 : In rejected-78 (ledgerAt document01 pool 1 .decided)
+unfolding everything calls ones twos oneByOne
+in-78 = inr (inl refl)
+
+lets-77 : letsIn document01 (columnsOf sheet) 2 (returnOf document01 pool 77) 4 9 ≡ true
+lets-77 = sym (whole-run .verdict meets-them 1 (lit< tt) accepted-77 in-77 refl 4 9 pair-77)
+
+lets-78 : letsIn document01 (columnsOf sheet) 2 (returnOf document01 pool 78) 3 9 ≡ false
+lets-78 = sym (whole-run .verdict meets-them 1 (lit< tt) rejected-78 in-78 refl 3 9 pair-78)
+
+honest-77 : isAccepted (accepted-77 .decision) ≡ true
+honest-77 = whole-run .honest meets-them 1 (lit< tt) accepted-77 in-77 refl 4 9 pair-77 (whole-77 .0)
+
+-- ---- totals: every accepted return is delivered whole, and one said yes
+accepted-0 : acceptedAt document01 pool 0 ≡ 77 ∷ []
+unfolding everything calls ones twos oneByOne
+accepted-0 = refl
+
+each-made : (id : ℕ) → In id (acceptedAt document01 pool 0) → MadeOf document01 pool id (elementsOf 4 valueBytes)
+each-made id h = go (subst (In id) accepted-0 h)
+  where
+    go : In id (77 ∷ []) → MadeOf document01 pool id (elementsOf 4 valueBytes)
+    go (inl e) = subst (λ (k : ℕ). MadeOf document01 pool k (elementsOf 4 valueBytes)) e whole-77
+    go (inr k) = absurd k
+
+totals-77 : EncodedTotals document01 pool (acceptedAt document01 pool 0) (λ id. elementsOf 4 valueBytes)
+totals-77 = encoded-totals document01 document01-facts pool meets-them ended 0 (lit< tt) _ each-made
+
+one-yes : getD (joinedTotals document01 pool) 0 0 ≡ 1
+unfolding everything howMany calls ones twos oneByOne
+one-yes = totals-77 .yes-total [] [] refl
+
+-- ---- the first ten calls: 77 is accepted, and both servers are idle
+abbrev early : ℕ → List Call
+early i = take 10 (calls i)
+
+is-early : isPool document01 2 sheet 3 (λ i. replicate 200 0) early ≡ true
+unfolding everything isPool opensAt bytesCall calls ones twos oneByOne
+is-early = refl
+
+abbrev earlyPool : Pool document01
+earlyPool = poolOf document01 2 sheet 3 (λ i. replicate 200 0) early is-early
+
+ready-honest : Ready document01 earlyPool 78 honest 4 9 14
+unfolding everything isReady isFree calls ones twos oneByOne
+ready-honest = is-ready document01 earlyPool 78 honest 4 9 14 refl
+
+ready-false : Ready document01 earlyPool 78 false-return 3 9 14
+unfolding everything isReady isFree calls ones twos oneByOne
+ready-false = is-ready document01 earlyPool 78 false-return 3 9 14 refl
+
+-- the answers of each server to the three calls, in short
+answered : (ℕ → List ℕ) → ℕ → ℕ → ℕ → List ℕ
+answered shares r s i =
+    map short (ledgerAnswers document01 (openedAt document01 earlyPool i) (ledgerAt document01 earlyPool i)
+    (threeCalls document01 earlyPool 78 shares r s 14 i))
+
+-- from what the pair says
+answers-are : (shares : ℕ → List ℕ) (r s : ℕ) → Ready document01 earlyPool 78 shares r s 14 → (b : Bool)
+    → letsIn document01 (columnsOf sheet) 2 (λ j e. getD (shares j) e 0) r s ≡ b
+    → (i : ℕ) → i < 2 → answered shares r s i ≡ 100 ∷ 100 ∷ cond b 200 300 ∷ []
+unfolding answered short
+answers-are shares r s ready b e i l =
+    ap (map short) (document01-whole-run earlyPool .handled 78 shares r s 14 ready i l)
+    ∙ ap (λ (v : Bool). 100 ∷ 100 ∷ cond v 200 300 ∷ []) e
+
+handled-honest : (i : ℕ) → i < 2 → answered honest 4 9 i ≡ 100 ∷ 100 ∷ 200 ∷ []
+handled-honest = answers-are honest 4 9 ready-honest true let-in
+  where
+    let-in : letsIn document01 (columnsOf sheet) 2 (λ j e. getD (honest j) e 0) 4 9 ≡ true
+    let-in = unfold everything in refl
+
+handled-false : (i : ℕ) → i < 2 → answered false-return 3 9 i ≡ 100 ∷ 100 ∷ 300 ∷ []
+handled-false = answers-are false-return 3 9 ready-false false kept-out
+  where
+    kept-out : letsIn document01 (columnsOf sheet) 2 (λ j e. getD (false-return j) e 0) 3 9 ≡ false
+    kept-out = unfold everything in refl

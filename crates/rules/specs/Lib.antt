@@ -1,5 +1,6 @@
 -- Document 01 as definitions, in the order of the paper: settings, columns, circuit, run, values, a return, judging,
--- messages, one server, its table, joining, recount, and the ledger of whole runs.
+-- messages, one server, its table, joining, recount, the ledger of whole runs, and what is promised of whole runs and of
+-- returns that making wrote.
 pub mod Settings
 pub mod Columns
 pub mod Circuit

@@ -2,7 +2,7 @@
 -- and share. Where making is not refused the values are legal and the random elements below p, so the shares add up to the
 -- encoding with its proof. Assumes nothing.
 use mathlib.Core.Path.{_≡_, refl, ap, _∙_}
-use mathlib.Core.Bool.{true, _&&_}
+use mathlib.Core.Bool.{true}
 use mathlib.Core.List.{List, _++_}
 use Prim.Native.Nat.{ℕ, zero, suc, _+_, _*_, _≤_, _<_}
 use native.Mathlib.Nat.{mul-comm, zero-add}
@@ -20,7 +20,7 @@ use Rattle.words.proofs.Elements.{elements-whole}
 use Rattle.words.proofs.Below.{all-of-below, below-of-all}
 use Rattle.records.proofs.Outcome.{or-zero}
 use Rattle.rules.specs.Settings.{Setting, Facts}
-use Rattle.rules.specs.Columns.{Column, check, within, sheetFault, columnsOf, serversFault}
+use Rattle.rules.specs.Columns.{Column, within, sheetFault, columnsOf, serversFault}
 use Rattle.rules.specs.Values.{legalValues, encoding}
 use Rattle.rules.specs.Judging.{addedUp}
 use Rattle.rules.specs.Making.{madeWhole, shareMessage, shareLength, randomCount, madeFrom, valuesFault}
@@ -47,27 +47,35 @@ module _ (σ : Setting) (facts : Facts σ) (sheet : List ℕ) (servers : ℕ) (v
   abbrev cs : List Column
   cs = columnsOf sheet
 
+  -- what each of its checks says
+  values-legal : valuesFault cs values ≡ 0 → legalValues cs (elementsOf 4 values) ≡ true
+  unfolding valuesFault
+  values-legal e = and-right (eqb (length values) (4 * length cs)) _ (check-passed _ 4 e)
+
+  random-enough : randomFault σ servers cs random ≡ 0 → length (elementsOf (σ .width) random) ≡ randomCount servers cs
+  unfolding randomFault
+  random-enough e =
+      let long : length random ≡ σ .width * randomCount servers cs = eqb-true _ _ (and-left _ _ (check-passed _ 5 e)) in
+      ap length (elements-whole (σ .width) (width-positive σ facts) random (randomCount servers cs) long)
+      ∙ length-tabulate _ (randomCount servers cs)
+
+  random-low : randomFault σ servers cs random ≡ 0 → allBelow (σ .modulus) (elementsOf (σ .width) random) ≡ true
+  unfolding randomFault
+  random-low e = and-right (eqb (length random) (σ .width * randomCount servers cs)) _ (check-passed _ 5 e)
+
   pub makes : (room : ℕ) → makeRefusal σ sheet servers values random room ≡ 0 → Makes σ sheet servers values random
-  unfolding makeRefusal valuesFault randomFault
+  unfolding makeRefusal
   makes room e =
-      let w = σ .width in
-      let zs = elementsOf w random in
       let c₁ = or-zero (sheetFault sheet) _ e in
       let c₂ = or-zero (serversFault servers) _ (c₁ .1) in
-      let c₃ = or-zero (check (eqb (length values) (4 * length cs) && legalValues cs (elementsOf 4 values)) 5) _ (c₂ .1) in
-      let c₄ = or-zero (check (eqb (length random) (w * randomCount servers cs) && allBelow (σ .modulus) zs) 6) _ (c₃ .1) in
-      let good = check-passed _ 4 (c₃ .0) in
-      let fresh = check-passed _ 5 (c₄ .0) in
-      let long : length random ≡ w * randomCount servers cs =
-      eqb-true _ _ (and-left (eqb (length random) (w * randomCount servers cs)) (allBelow (σ .modulus) zs) fresh) in
+      let c₃ = or-zero (valuesFault cs values) _ (c₂ .1) in
+      let c₄ = or-zero (randomFault σ servers cs random) _ (c₃ .1) in
       record {
         is-read = c₁ .0;
         several = within-both 2 8 servers (check-passed (within 2 8 servers) 1 (c₂ .0));
-        legal = and-right (eqb (length values) (4 * length cs)) (legalValues cs (elementsOf 4 values)) good;
-        enough =
-            ap length (elements-whole w (width-positive σ facts) random (randomCount servers cs) long)
-            ∙ length-tabulate _ (randomCount servers cs);
-        below = and-right (eqb (length random) (w * randomCount servers cs)) (allBelow (σ .modulus) zs) fresh;
+        legal = values-legal (c₃ .0);
+        enough = random-enough (c₄ .0);
+        below = random-low (c₄ .0);
       }
 
   module _ (id : ℕ) (m : Makes σ sheet servers values random) where

@@ -1,7 +1,7 @@
 -- Document 01, "A return" and "Whole runs": what is promised of the bytes that making writes, and of the totals of returns
--- that making wrote. `makes-return`, `taken-whole` and `encoded-totals` in proofs prove it. Assumes nothing.
+-- that making wrote. `makes-return`, `taken-whole`, `made-accepted` and `encoded-totals` in proofs prove it. Assumes nothing.
 use mathlib.Core.Path.{_≡_}
-use mathlib.Core.Bool.{Bool, cond}
+use mathlib.Core.Bool.{Bool, true, cond}
 use mathlib.Core.List.{List, [], _∷_, _++_, map}
 use Prim.Native.Nat.{ℕ, suc, _+_, _*_, _≤_, _<_}
 use lib.Dec.{eqb}
@@ -12,12 +12,15 @@ use Rattle.words.specs.Bytes.{part, elementsOf}
 use Rattle.rules.specs.Settings.{Setting}
 use Rattle.rules.specs.Columns.{Column, yesNo, choice, number, entriesIn, publishedIn, publishedFrom, columnsOf}
 use Rattle.rules.specs.Values.{encoding}
-use Rattle.rules.specs.Judging.{addedUp}
+use Rattle.rules.specs.Judging.{addedUp, allowedPair}
 use Rattle.rules.specs.Making.{madeWhole, madeShare, shareMessage, shareLength, makeBytes}
-use Rattle.rules.specs.Messages.{idIn, shareElements, headerFault, elementsFault}
+use Rattle.rules.specs.Messages.{idIn, shareElements, headerFault, elementsFault, roundLength}
+use Rattle.rules.specs.Server.{messageOne, messageTwo}
 use Rattle.rules.specs.Joining.{joinTotals}
-use Rattle.rules.specs.Ledger.{Call, share, empty, noteOf, refusalOf, runLedger}
-use Rattle.rules.specs.WholeRun.{Pool, columns, openedAt, notesAt, DeliveredWhole, closings}
+use Rattle.rules.specs.Ledger.{Call, share, roundOne, roundTwo, wrote, judged, isIdle, empty, idsOf, notesOf}
+use Rattle.rules.specs.Ledger.{noteOf, refusalOf, runLedger, ledgerAnswers}
+use Rattle.rules.specs.WholeRun.{Pool, columns, openedAt, ledgerAt, notesAt, DeliveredWhole, closings}
+use Rattle.rules.specs.WholeRun.{firstWait, firsts, secondWait, seconds}
 
 -- ---- a return that making wrote, where making is not refused
 module _ (σ : Setting) (sheet : List ℕ) (servers id : ℕ) (values random : List ℕ) where
@@ -77,6 +80,31 @@ module _ (σ : Setting) (𝓟 : Pool σ) where
   -- the return id is delivered whole, and was made of the values vs
   abbrev pub MadeOf : ℕ → List ℕ → Type 0
   MadeOf id vs = (w : DeliveredWhole σ 𝓟 id) × (w .values ≡ vs)
+
+  -- servers that can take a return under the id with the pair r and s: as in `Ready`, with no word of its shares
+  pub record CanTake (id r s room : ℕ) : Type 0 where
+    pub idle-all : (i : ℕ) → i < 𝓟 .servers → ledgerAt σ 𝓟 i .progress ≡ isIdle
+    pub fewer : (i : ℕ) → i < 𝓟 .servers → length (ledgerAt σ 𝓟 i .decided) < 𝓟 .returns
+    pub unused : (i : ℕ) → i < 𝓟 .servers → In id (idsOf (notesOf (ledgerAt σ 𝓟 i .decided))) → ⊥
+    pub id-fits : id < 4294967296
+    pub pair : allowedPair σ (columns σ 𝓟) r s ≡ true
+    pub enough : roundLength σ ≤ room
+
+  -- such servers accept a return that making wrote: each is handed its part of the bytes, and both rounds' messages as they
+  -- were written; it writes two messages and accepts
+  abbrev pub MadeAccepted : ℕ → List ℕ → List ℕ → ℕ → ℕ → ℕ → Type 0
+  MadeAccepted id values random r s room =
+      let shares = shareMade σ (𝓟 .sheet) (𝓟 .servers) id values random in
+      (i : ℕ) → i < 𝓟 .servers
+      → ledgerAnswers σ (openedAt σ 𝓟 i) (ledgerAt σ 𝓟 i)
+      (share (madePart σ (𝓟 .sheet) (𝓟 .servers) id values random i) r s room
+      ∷ roundOne (firsts σ 𝓟 id shares r s) room
+      ∷ roundTwo (seconds σ 𝓟 id shares r s)
+      ∷ [])
+      ≡ wrote (messageOne σ (openedAt σ 𝓟 i) (firstWait σ 𝓟 id shares r s i))
+      ∷ wrote (messageTwo σ (openedAt σ 𝓟 i) (secondWait σ 𝓟 id shares r s i))
+      ∷ judged true
+      ∷ []
 
   -- what joining the closing messages gives
   abbrev pub joinedTotals : List ℕ

@@ -5,26 +5,30 @@ use mathlib.Core.Path.{_≡_, refl, sym, ap, _∙_, subst}
 use mathlib.Core.Logic.{inl, inr}
 use mathlib.Core.Bool.{Bool, true, false, cond}
 use mathlib.Core.List.{List, [], _∷_, map}
-use Prim.Native.Nat.{ℕ, _<_}
+use Prim.Native.Nat.{ℕ, suc, _+_, _-_, _*_, _≤_, _<_, max}
+use native.Mathlib.Omega.{arith}
 use borrow.Author.Tests.{eqb-true}
 use lib.Dec.{eqb, lit<}
 use lib.ListN.{getD, take, drop, replicate}
-use Rattle.algebra.specs.Lists.{In, every, countFrom}
+use Rattle.algebra.specs.Lists.{all∷, In, every, countFrom}
+use Rattle.algebra.specs.Count.{countPairs}
 use Rattle.words.specs.Bytes.{bytesOfAll, elementsOf}
 use Rattle.rules.specs.Settings.{document01}
 use Rattle.rules.specs.Columns.{columnsOf}
+use Rattle.rules.specs.Circuit.{gatesIn, testsIn}
 use Rattle.rules.specs.Judging.{letsIn}
 use Rattle.rules.specs.Making.{shareMessage, madeShare, makeRefusal}
 use Rattle.rules.specs.Ledger.{Call, share, empty, accepted, rejected, Decided, isAccepted, refusalOf, runLedger, ledgerAnswers}
-use Rattle.rules.specs.WholeRun.{Pool, openedAt, ledgerAt, acceptedAt, returnOf, Ready, threeCalls, WholeRun}
-use Rattle.rules.specs.Made.{madePart, MadeReturn, Took, MadeOf, joinedTotals, howMany, EncodedTotals}
+use Rattle.rules.specs.WholeRun.{Pool, openedAt, ledgerAt, acceptedAt, returnOf, KeepsForm, Ready, threeCalls, WholeRun}
+use Rattle.rules.specs.Made.{madePart, MadeReturn, Took, MadeOf, CanTake, MadeAccepted, joinedTotals, howMany, EncodedTotals}
 use Rattle.rules.proofs.Computed.Computing.{everything}
 use Rattle.rules.proofs.Computed.Facts.{document01-facts}
 use Rattle.rules.proofs.Histories.MessageBytes.{oneByOne}
 use Rattle.rules.proofs.Histories.Checks.{every-at}
 use Rattle.rules.proofs.Returns.MadeMessages.{makes-return}
 use Rattle.rules.proofs.Runs.WholeRuns.{document01-whole-run}
-use Rattle.rules.proofs.Runs.Delivered.{taken-whole}
+use Rattle.rules.proofs.Runs.Delivered.{taken-whole, made-accepted}
+use Rattle.rules.proofs.Runs.FewReturns.{few-for-return}
 use Rattle.rules.proofs.Runs.EncodedTotals.{encoded-totals}
 use Rattle.runs.proofs.Tests.{bytesCall, opensAt, isPool, poolOf, isFree, isReady, is-ready}
 use Rattle.runs.proofs.TwoServers.{ones, twos, short, sheet, random, honest, false-return, calls, pool, meets-them, ended}
@@ -114,6 +118,18 @@ lets-78 = sym (whole-run .verdict meets-them 1 (lit< tt) rejected-78 in-78 refl 
 honest-77 : isAccepted (accepted-77 .decision) ≡ true
 honest-77 = whole-run .honest meets-them 1 (lit< tt) accepted-77 in-77 refl 4 9 pair-77 (whole-77 .0)
 
+-- the false return does not keep its form, so at most p × 3 pairs let it in
+broken-78 : KeepsForm document01 pool 78 → ⊥
+unfolding everything calls ones twos oneByOne
+broken-78 (all∷ e es) = omega arith
+
+few-78 : countPairs 2147483647 2147483647 (letsIn document01 (columnsOf sheet) 2 (returnOf document01 pool 78)) ≤ 2147483647 * 3
+few-78 = subst (λ (k : ℕ). countPairs 2147483647 2147483647 (letsIn document01 (columnsOf sheet) 2 (returnOf document01 pool 78))
+    ≤ 2147483647 * k) most (few-for-return document01 document01-facts pool 78 broken-78)
+  where
+    most : max (suc (gatesIn (columnsOf sheet) + gatesIn (columnsOf sheet))) (testsIn (columnsOf sheet) - 1) ≡ 3
+    most = unfold everything in refl
+
 -- ---- totals: every accepted return is delivered whole, and one said yes
 accepted-0 : acceptedAt document01 pool 0 ≡ 77 ∷ []
 unfolding everything calls ones twos oneByOne
@@ -151,6 +167,21 @@ ready-honest = is-ready document01 earlyPool 78 honest 4 9 14 refl
 ready-false : Ready document01 earlyPool 78 false-return 3 9 14
 unfolding everything isReady isFree calls ones twos oneByOne
 ready-false = is-ready document01 earlyPool 78 false-return 3 9 14 refl
+
+-- they accept a return that making wrote
+can-take : CanTake document01 earlyPool 78 4 9 14
+can-take = record {
+  idle-all = ready-honest .idle-all;
+  fewer = ready-honest .fewer;
+  unused = ready-honest .unused;
+  id-fits = ready-honest .id-fits;
+  pair = ready-honest .pair;
+  enough = ready-honest .enough;
+}
+
+accepted-78 : MadeAccepted document01 earlyPool 78 valueBytes randomBytes 4 9 14
+accepted-78 =
+    made-accepted document01 document01-facts earlyPool 78 valueBytes randomBytes 84 not-refused 4 9 14 can-take
 
 -- the answers of each server to the three calls, in short
 answered : (ℕ → List ℕ) → ℕ → ℕ → ℕ → List ℕ

@@ -1,23 +1,33 @@
 -- A return whose messages are those that making wrote, each taken at its server, is delivered whole: a share that is taken
--- stays noted to the end, ids in a ledger differ, and each part of making's bytes is read back as the share. Assumes nothing.
+-- stays noted to the end, ids in a ledger differ, and each part of making's bytes is read back as the share. Idle servers
+-- take such messages and accept: the shares are sound, and every allowed pair lets them in. Assumes nothing.
 use mathlib.Core.Path.{_≡_, refl, sym, ap, _∙_, subst}
 use mathlib.Core.Logic.{inl, inr}
+use mathlib.Core.Bool.{Bool, true}
 use mathlib.Core.List.{List, [], _∷_, _++_}
 use Prim.Native.Nat.{ℕ, _<_}
+use lib.ListN.{getD}
 use Rattle.algebra.specs.Lists.{All, all∷, In}
 use Rattle.algebra.proofs.Members.{all-right, append-in}
 use Rattle.words.specs.Bytes.{elementsOf}
+use Rattle.words.proofs.Below.{all-of-below}
 use Rattle.rules.specs.Settings.{Setting, Facts}
+use Rattle.rules.specs.Judging.{letsIn}
 use Rattle.rules.specs.Making.{makeRefusal}
-use Rattle.rules.specs.Server.{Opened}
-use Rattle.rules.specs.Ledger.{Call, share, Note, waitsOne, Ledger, empty, notesOf, noteOf, refusalOf, ledgerAfter}
-use Rattle.rules.specs.Ledger.{ledgerStep, runLedger}
-use Rattle.rules.specs.WholeRun.{BytesIn, Pool, openedAt, waitingNote, notesIn, notesAt}
-use Rattle.rules.specs.Made.{madePart, MadeReturn, NotedFrom, Took, MadeOf}
+use Rattle.rules.specs.Server.{Opened, messageOne, messageTwo}
+use Rattle.rules.specs.Ledger.{Call, share, roundOne, roundTwo, wrote, judged, Note, waitsOne, Ledger, empty, notesOf}
+use Rattle.rules.specs.Ledger.{noteOf, refusalOf, ledgerAfter, ledgerStep, runLedger, ledgerAnswers}
+use Rattle.rules.specs.WholeRun.{BytesIn, Pool, columns, openedAt, ledgerAt, waitingNote, notesIn, notesAt, Ready}
+use Rattle.rules.specs.WholeRun.{firstWait, firsts, secondWait, seconds}
+use Rattle.rules.specs.Made.{madePart, shareMade, MadeReturn, NotedFrom, Took, MadeOf, CanTake, MadeAccepted}
+use Rattle.rules.proofs.Returns.Shares.{Made, made}
+use Rattle.rules.proofs.Returns.OnSheets.{sheet-honest-let-in}
 use Rattle.rules.proofs.Returns.MadeMessages.{Makes, makes, made-return}
 use Rattle.rules.proofs.Histories.Moves.{history, at}
 use Rattle.rules.proofs.Histories.NotesGrow.{keeps-notes}
+use Rattle.rules.proofs.Histories.PoolOpened.{is-read}
 use Rattle.rules.proofs.Runs.Agreement.{found}
+use Rattle.rules.proofs.Runs.Handled.{handled}
 
 -- ---- a share that is taken is noted
 module _ (σ : Setting) (o : Opened) where
@@ -59,7 +69,7 @@ module _ (σ : Setting) (𝓟 : Pool σ) where
 
 -- ---- a return that making wrote
 module _ (σ : Setting) (facts : Facts σ) (𝓟 : Pool σ) (id : ℕ) (values random : List ℕ) (room : ℕ)
-    (done : makeRefusal σ (𝓟 .sheet) (𝓟 .servers) values random room ≡ 0) (fits : id < 4294967296) where
+    (done : makeRefusal σ (𝓟 .sheet) (𝓟 .servers) values random room ≡ 0) where
   abbrev message : ℕ → List ℕ
   message = madePart σ (𝓟 .sheet) (𝓟 .servers) id values random
 
@@ -70,8 +80,9 @@ module _ (σ : Setting) (facts : Facts σ) (𝓟 : Pool σ) (id : ℕ) (values r
   whole-of = made-return σ facts (𝓟 .sheet) (𝓟 .servers) values random id known
 
   -- where each server's ledger has noted what its part says
-  pub noted-whole : ((i : ℕ) → i < 𝓟 .servers → NotedFrom σ 𝓟 i (message i)) → MadeOf σ 𝓟 id (elementsOf 4 values)
-  noted-whole noted = (
+  pub noted-whole : id < 4294967296 → ((i : ℕ) → i < 𝓟 .servers → NotedFrom σ 𝓟 i (message i))
+      → MadeOf σ 𝓟 id (elementsOf 4 values)
+  noted-whole fits noted = (
     record {
       values = elementsOf 4 values;
       random = elementsOf (σ .width) random;
@@ -86,6 +97,45 @@ module _ (σ : Setting) (facts : Facts σ) (𝓟 : Pool σ) (id : ℕ) (values r
   )
 
   -- where each server took its part
-  pub taken-whole : ((i : ℕ) → i < 𝓟 .servers → Took σ 𝓟 i (message i)) → MadeOf σ 𝓟 id (elementsOf 4 values)
-  taken-whole took =
-      noted-whole (λ i l. (took i l .r, took i l .s, took-noted σ 𝓟 i l (message i) (took i l)))
+  pub taken-whole : id < 4294967296 → ((i : ℕ) → i < 𝓟 .servers → Took σ 𝓟 i (message i))
+      → MadeOf σ 𝓟 id (elementsOf 4 values)
+  taken-whole fits took =
+      noted-whole fits (λ i l. (took i l .r, took i l .s, took-noted σ 𝓟 i l (message i) (took i l)))
+
+  -- where the servers are idle and can take it
+  module _ (r s lent : ℕ) (free : CanTake σ 𝓟 id r s lent) where
+    abbrev shares : ℕ → List ℕ
+    shares = shareMade σ (𝓟 .sheet) (𝓟 .servers) id values random
+
+    drawn : All (λ z. z < σ .modulus) (elementsOf (σ .width) random)
+    drawn = all-of-below (σ .modulus) (elementsOf (σ .width) random) (known .below)
+
+    sound : Made σ (columns σ 𝓟) (𝓟 .servers) (elementsOf 4 values) (elementsOf (σ .width) random)
+    sound =
+        made σ facts (columns σ 𝓟) (𝓟 .servers) (elementsOf 4 values) (elementsOf (σ .width) random) (𝓟 .some-server) drawn
+
+    pub made-ready : Ready σ 𝓟 id shares r s lent
+    made-ready = record {
+      idle-all = free .idle-all;
+      fewer = free .fewer;
+      unused = free .unused;
+      id-fits = free .id-fits;
+      sized = λ i l. sound .share-length i;
+      below = λ i l. sound .share-below i;
+      pair = free .pair;
+      enough = free .enough;
+    }
+
+    let-in : letsIn σ (columns σ 𝓟) (𝓟 .servers) (λ j e. getD (shares j) e 0) r s ≡ true
+    let-in =
+        sheet-honest-let-in σ facts (𝓟 .sheet) (columns σ 𝓟) (is-read σ 𝓟) (𝓟 .servers) (𝓟 .some-server)
+        (elementsOf 4 values) (elementsOf (σ .width) random) (known .legal) drawn r s (free .pair)
+
+    pub made-accepted : MadeAccepted σ 𝓟 id values random r s lent
+    made-accepted i l =
+        let o = openedAt σ 𝓟 i in
+        let rest : List Call = roundOne (firsts σ 𝓟 id shares r s) lent ∷ roundTwo (seconds σ 𝓟 id shares r s) ∷ [] in
+        ap (λ (m : List ℕ). ledgerAnswers σ o (ledgerAt σ 𝓟 i) (share m r s lent ∷ rest)) (whole-of .message-is i l)
+        ∙ handled σ facts 𝓟 id shares r s lent made-ready i l
+        ∙ ap (λ (b : Bool). wrote (messageOne σ o (firstWait σ 𝓟 id shares r s i))
+        ∷ wrote (messageTwo σ o (secondWait σ 𝓟 id shares r s i)) ∷ judged b ∷ []) let-in

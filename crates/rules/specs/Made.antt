@@ -77,7 +77,7 @@ module _ (σ : Setting) (𝓟 : Pool σ) where
     pub among : 𝓟 .calls i ≡ before ++ (share m r s room ∷ after)
     pub not-refused : refusalOf σ (openedAt σ 𝓟 i) (runLedger σ (openedAt σ 𝓟 i) empty before) (share m r s room) ≡ 0
 
-  -- the return id is delivered whole, and was made of the values vs
+  -- "delivered whole when each server noted the share that making wrote for it": so is the return id, made of the values vs
   abbrev pub MadeOf : ℕ → List ℕ → Type 0
   MadeOf id vs = (w : DeliveredWhole σ 𝓟 id) × (w .values ≡ vs)
 
@@ -110,7 +110,8 @@ module _ (σ : Setting) (𝓟 : Pool σ) where
   abbrev pub joinedTotals : List ℕ
   joinedTotals = joinTotals σ (𝓟 .servers) (𝓟 .sheet) (closings σ 𝓟)
 
-  -- The joined totals of a closed pool where each of the accepted ids was made of the values `values id`
+  -- "joining gives their number and the sums of the added-up published entries": the joined totals of a closed pool where
+  -- each of the accepted ids was made of the values `values id`
   pub record EncodedTotals (ids : List ℕ) (values : ℕ → List ℕ) : Type 0 where
     -- for each published entry, the sum of that entry of the encodings: a sum of whole numbers, not modulo p
     pub totals : joinedTotals

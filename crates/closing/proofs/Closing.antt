@@ -16,6 +16,7 @@ use Rattle.words.proofs.Below.{all-take, all-drop}
 use Rattle.words.proofs.Loops.{sets-splice}
 use Rattle.records.specs.Outcome.{orElse}
 use Rattle.records.specs.Answers.{answered, onlyIf}
+use Rattle.records.proofs.Outcome.{or-first}
 use Rattle.records.specs.declared.Written.the-variants as written
 use Rattle.message.specs.Totals.{totalsHeader}
 use Rattle.rules.specs.Settings.{document01}
@@ -55,9 +56,9 @@ module _ (T out : List ℕ) where
       let f = ne-eqb n 0 z in
       record { answer-is = rw (r, f); table-is = rw (r, f); out-is = rw (r, f) }
 
-  pub close-unsound : foundIn T ≡ answer.Unsound → Closes T out (written.Refused 11) T out
-  unfolding closeRefused orElse
-  close-unsound e = refused 11 (rw (unsound T e)) (λ z. omega arith)
+  pub close-unsound : (n : ℕ) → foundIn T ≡ answer.Refused n → Closes T out (written.Refused n) T out
+  unfolding closeRefused
+  close-unsound n e = let u = unsound T n e in refused n (rw (u .0) (or-first n _ (u .1))) (u .1)
 
   -- where the table is sound
   module _ (f : tableFault document01 T ≡ 0) where

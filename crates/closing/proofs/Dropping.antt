@@ -4,8 +4,10 @@ use mathlib.Core.Bool.{true, false, cond}
 use mathlib.Core.List.{List}
 use Prim.Native.Nat.{ℕ}
 use native.Mathlib.Omega.{arith}
+use borrow.Author.Tests.{ne-eqb}
 use Rattle.words.specs.Bytes.{valueOf, part}
 use Rattle.records.specs.Outcome.{orElse}
+use Rattle.records.proofs.Outcome.{or-first}
 use Rattle.rules.specs.Settings.{document01}
 use Rattle.rules.specs.Columns.{within}
 use Rattle.rules.specs.Server.{dropRefusal}
@@ -23,17 +25,17 @@ use Rattle.table.proofs.Answers.{unsound}
 use Rattle.closing.proofs.Stages.{none-waits, one-waits}
 
 module _ (T : List ℕ) where
-  refused : dropRefused document01 T ≡ 11 → Drops T 11 T
+  refused : (n : ℕ) → dropRefused document01 T ≡ n → (n ≡ 0 → ⊥) → Drops T n T
   unfolding onlyIf
-  refused r = record { answer-is = sym r; table-is = rw r }
+  refused n r z = record { answer-is = sym r; table-is = rw (r, ne-eqb n 0 z) }
 
-  pub drop-unsound : foundIn T ≡ answer.Unsound → Drops T 11 T
-  unfolding dropRefused orElse
-  drop-unsound e = refused (rw (unsound T e))
+  pub drop-unsound : (n : ℕ) → foundIn T ≡ answer.Refused n → Drops T n T
+  unfolding dropRefused
+  drop-unsound n e = let u = unsound T n e in refused n (rw (u .0) (or-first n _ (u .1))) (u .1)
 
   quiet-at : tableFault document01 T ≡ 0 → within 1 2 (tableOf T .stage) ≡ false → Drops T 11 T
   unfolding dropRefused orElse dropRefusal tableState stageIn tableOf
-  quiet-at f w = refused (rw f (none-waits (stageByte document01 T) (waitingIn document01 T) w))
+  quiet-at f w = refused 11 (rw f (none-waits (stageByte document01 T) (waitingIn document01 T) w)) (λ z. omega arith)
 
   done-at : tableFault document01 T ≡ 0 → within 1 2 (tableOf T .stage) ≡ true
       → Drops T 0 (decidedAs (tableOf T) 0 (valueOf (part (waitAt (tableOf T .sheet) (tableOf T .published) (tableOf T .returns)) 4 T)) T)

@@ -15,7 +15,7 @@ pub fn drop(table: &mut [u8]) -> u32
     ensures { λ r. ⌜ Drops (now (table .entry)) r (now (table .exit)) ⌝ }
 {
     match read(table) {
-        Found::Unsound => 11,
+        Found::Refused(fault) => fault,
         Found::Table(k) => {
             if !waits(k.stage) {
                 return 11;
@@ -32,7 +32,7 @@ pub fn close(table: &mut [u8], out: &mut [u8]) -> Written
     ensures { λ r. ⌜ Closes (now (table .entry)) (now (out .entry)) r (now (table .exit)) (now (out .exit)) ⌝ }
 {
     match read(table) {
-        Found::Unsound => Written::Refused(11),
+        Found::Refused(fault) => Written::Refused(fault),
         Found::Table(k) => {
             if k.stage != 0 {
                 return Written::Refused(11);

@@ -143,9 +143,9 @@ module _ (T joined out : List ℕ) where
       let r : eqb f 0 ≡ false = ne-eqb f 0 n in
       record { answer-is = rw (e, r); table-is = rw (e, r); out-is = rw (e, r) }
 
-  pub first-unsound : foundIn T ≡ found.Unsound → RoundOne T joined out (answer.Refused 11) T out
-  unfolding oneRefused orElse
-  first-unsound e = refused-by 11 (rw (unsound T e)) (λ z. omega arith)
+  pub first-unsound : (n : ℕ) → foundIn T ≡ found.Refused n → RoundOne T joined out (answer.Refused n) T out
+  unfolding oneRefused
+  first-unsound n e = let u = unsound T n e in refused-by n (rw (u .0) (or-first n _ (u .1))) (u .1)
 
   module _ (k : Table) (s : Sound T k) where
     pub first-stage : (k .stage ≡ 1 → ⊥) → RoundOne T joined out (answer.Refused 11) T out

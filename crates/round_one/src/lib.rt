@@ -66,7 +66,7 @@ pub fn round_one(table: &mut [u8], joined: &[u8], out: &mut [u8]) -> Written
         (now (table .exit)) (now (out .exit)) ⌝ }
 {
     match read(table) {
-        Found::Unsound => Written::Refused(11),
+        Found::Refused(fault) => Written::Refused(fault),
         Found::Table(k) => {
             if k.stage != 1 {
                 return Written::Refused(11);

@@ -7,9 +7,8 @@ use native.Mathlib.Omega.{arith}
 use borrow.Author.Tests.{ne-eqb}
 use lib.Dec.{eqb}
 use lib.ListN.{length}
-use Rattle.records.specs.Outcome.{orElse}
 use Rattle.records.specs.Answers.{onlyIf}
-use Rattle.records.proofs.Outcome.{or-none}
+use Rattle.records.proofs.Outcome.{or-none, or-first}
 use Rattle.rules.specs.Settings.{document01}
 use Rattle.rules.specs.Columns.{within}
 use Rattle.rules.specs.Messages.{roundFault, roundMessage, firstSum, secondSum, bothZero}
@@ -139,9 +138,9 @@ module _ (T joined : List ℕ) where
       let r : eqb f 0 ≡ false = ne-eqb f 0 n in
       record { answer-is = rw (e, r); table-is = rw (e, r) }
 
-  pub second-unsound : foundIn T ≡ found.Unsound → RoundTwo T joined (answer.Refused 11) T
-  unfolding twoRefused orElse
-  second-unsound e = refused-by 11 (rw (unsound T e)) (λ z. omega arith)
+  pub second-unsound : (n : ℕ) → foundIn T ≡ found.Refused n → RoundTwo T joined (answer.Refused n) T
+  unfolding twoRefused
+  second-unsound n e = let u = unsound T n e in refused-by n (rw (u .0) (or-first n _ (u .1))) (u .1)
 
   module _ (k : Table) (s : Sound T k) where
     pub second-stage : (k .stage ≡ 2 → ⊥) → RoundTwo T joined (answer.Refused 11) T

@@ -66,7 +66,7 @@ pub fn round_two(table: &mut [u8], joined: &[u8]) -> Verdict
     ensures { λ r. ⌜ RoundTwo (now (table .entry)) (now (joined .entry)) r (now (table .exit)) ⌝ }
 {
     match read(table) {
-        Found::Unsound => Verdict::Refused(11),
+        Found::Refused(fault) => Verdict::Refused(fault),
         Found::Table(k) => {
             if k.stage != 2 {
                 return Verdict::Refused(11);

@@ -4,16 +4,14 @@ use mathlib.Core.Path.{_≡_, sym, _∙_}
 use mathlib.Core.Bool.{true, not, _&&_}
 use mathlib.Core.List.{List}
 use Prim.Native.Nat.{ℕ, _*_, _≤_, _<_}
-use native.Mathlib.Omega.{arith}
 use borrow.Author.Tests.{ne-eqb, ltb-true, leb-true}
 use lib.Dec.{ltb, leb}
 use lib.ListN.{length}
 use Rattle.algebra.proofs.Members.{and-left, and-right}
 use Rattle.words.specs.Bytes.{part, elementsOf, allBelow, splice}
 use Rattle.records.specs.Answers.{answered, onlyIf}
-use Rattle.records.specs.Outcome.{orElse}
 use Rattle.records.specs.declared.Written.the-variants as written
-use Rattle.records.proofs.Outcome.{or-none, or-zero}
+use Rattle.records.proofs.Outcome.{or-none, or-first, or-zero}
 use Rattle.rules.specs.Settings.{document01}
 use Rattle.rules.specs.Columns.{check}
 use Rattle.rules.specs.Messages.{idIn, shareElements, elementsFault}
@@ -42,9 +40,9 @@ module _ (T m : List ℕ) (r s : ℕ) (out : List ℕ) where
     out-is = rw (e, ne-eqb x 0 n);
   }
 
-  pub share-unsound : foundIn T ≡ found.Unsound → Shares T m r s out (written.Refused 11) T out
-  unfolding shareRefused orElse
-  share-unsound e = refused-as 11 (rw (unsound T e)) (λ z. omega arith)
+  pub share-unsound : (n : ℕ) → foundIn T ≡ found.Refused n → Shares T m r s out (written.Refused n) T out
+  unfolding shareRefused
+  share-unsound n e = let u = unsound T n e in refused-as n (rw (u .0) (or-first n _ (u .1))) (u .1)
 
   module _ (k : Table) (h : Sound T k) (x : ℕ) (e : x ≡ shareRefusal document01 (tableState document01 T) m r s (length out)) where
     refusal-is : shareRefused document01 T m r s (length out) ≡ x

@@ -70,7 +70,7 @@ pub fn share(table: &mut [u8], m: &[u8], r: u64, s: u64, out: &mut [u8]) -> Writ
     ensures { λ a. ⌜ Shares (now (table .entry)) (now (m .entry)) r s (now (out .entry)) a (now (table .exit)) (now (out .exit)) ⌝ }
 {
     match read(table) {
-        Found::Unsound => Written::Refused(11),
+        Found::Refused(fault) => Written::Refused(fault),
         Found::Table(k) => {
             let refusal = share_refusal(table, k, m, r, s, out.len());
             if refusal != 0 {

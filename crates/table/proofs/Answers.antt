@@ -18,7 +18,7 @@ use Rattle.words.proofs.Splice.{length-part}
 use Rattle.words.proofs.Elements.{elements-whole}
 use Rattle.message.proofs.Parts.{part-of-part}
 use Rattle.rules.specs.Settings.{document01}
-use Rattle.rules.specs.Columns.{within, sheetFault, totalsFit}
+use Rattle.rules.specs.Columns.{check, within, sheetFault, totalsFit}
 use Rattle.rules.specs.Judging.{shareSize, allowedPair}
 use Rattle.rules.specs.Table.{sheetSize, sheetIn, columnsIn, totalsIn, waits, tableLength}
 use Rattle.rules.specs.Table.{totalsPlace, waitPlace, sharePlace}
@@ -29,17 +29,21 @@ use Rattle.layout.specs.Numbers.{lengthOf, Whole}
 use Rattle.layout.specs.declared.Table.{Table}
 use Rattle.table.specs.Reading.{tableOf, headIn, foundIn, startSound, pairSound}
 use Rattle.table.specs.Reading.{countsSoundAt, totalsSoundAt, waitingSoundAt, Headed, Sound}
+use Rattle.table.specs.declared.Found.{Found}
 use Rattle.table.specs.declared.Found.the-variants as answer
 use Rattle.table.proofs.Header.{start-facts, header-is}
 
 -- ---- a choice between a table and none
-table-of : (b : Bool) (x k : Table) → cond b (answer.Table x) answer.Unsound ≡ answer.Table k → (b ≡ true) × (k ≡ x)
+abbrev pub foundBy : Bool → Table → Found
+foundBy b x = cond b (answer.Table x) (answer.Refused (check b 11))
+
+table-of : (b : Bool) (x k : Table) → foundBy b x ≡ answer.Table k → (b ≡ true) × (k ≡ x)
 table-of true x k e = (refl, cc)
 table-of false x k e = let z : _≡_ {A = ℕ} 0 1 = cc in absurd (omega arith)
 
-none-of : (b : Bool) (x : Table) → cond b (answer.Table x) answer.Unsound ≡ answer.Unsound → b ≡ false
-none-of true x e = let z : _≡_ {A = ℕ} 0 1 = cc in absurd (omega arith)
-none-of false x e = refl
+none-of : (b : Bool) (x : Table) (n : ℕ) → foundBy b x ≡ answer.Refused n → (b ≡ false) × (n ≡ 11)
+none-of true x n e = let z : _≡_ {A = ℕ} 0 1 = cc in absurd (omega arith)
+none-of false x n e = (refl, cc)
 
 -- ---- the header
 headed-at : (T : List ℕ) → headerSound document01 T ≡ true → Headed T (tableOf T)
@@ -118,35 +122,35 @@ whole T k h e = record { limited = h .limited; long = counts-long k T e .0 }
 
 -- ---- what is found
 module _ (T : List ℕ) where
-  pub found-headless : headIn T ≡ answer.Unsound → answer.Unsound ≡ foundIn T
-  unfolding headIn foundIn tableSound
-  found-headless e = rw (none-of (headerSound document01 T) (tableOf T) e)
+  pub found-headless : (n : ℕ) → headIn T ≡ answer.Refused n → answer.Refused n ≡ foundIn T
+  unfolding headIn foundIn tableSound tableFault
+  found-headless n e = let b = none-of (headerSound document01 T) (tableOf T) n e in rw (b .0, b .1)
 
   module _ (h : headerSound document01 T ≡ true) where
-    counts-at : countsSoundAt (tableOf T) T ≡ false → answer.Unsound ≡ foundIn T
-    unfolding foundIn tableSound
+    counts-at : countsSoundAt (tableOf T) T ≡ false → answer.Refused 11 ≡ foundIn T
+    unfolding foundIn tableSound tableFault
     counts-at c = rw (h, counts-is T, c)
 
     module _ (c : countsSoundAt (tableOf T) T ≡ true) where
-      totals-at : totalsSoundAt (tableOf T) T ≡ false → answer.Unsound ≡ foundIn T
-      unfolding foundIn tableSound
+      totals-at : totalsSoundAt (tableOf T) T ≡ false → answer.Refused 11 ≡ foundIn T
+      unfolding foundIn tableSound tableFault
       totals-at t = rw (h, counts-is T, c, totals-is T, t)
 
       module _ (t : totalsSoundAt (tableOf T) T ≡ true) where
         quiet-at : within 1 2 (tableOf T .stage) ≡ false → answer.Table (tableOf T) ≡ foundIn T
-        unfolding foundIn tableSound tableOf
+        unfolding foundIn tableSound tableFault tableOf
         quiet-at w = rw (h, counts-is T, c, totals-is T, t, w)
 
         waits-at : within 1 2 (tableOf T .stage) ≡ true
-            → cond (waitingSoundAt (tableOf T) T) (answer.Table (tableOf T)) answer.Unsound ≡ foundIn T
-        unfolding foundIn tableSound tableOf
+            → foundBy (waitingSoundAt (tableOf T) T) (tableOf T) ≡ foundIn T
+        unfolding foundIn tableSound tableFault tableOf
         waits-at w = rw (h, counts-is T, c, totals-is T, t, w, waiting-is T (counts-long (tableOf T) T c .0))
 
 module _ (T : List ℕ) (k : Table) (h : Headed T k) where
-  pub found-counts : countsSoundAt k T ≡ false → answer.Unsound ≡ foundIn T
+  pub found-counts : countsSoundAt k T ≡ false → answer.Refused 11 ≡ foundIn T
   found-counts = rw (h .says) (counts-at T (h .header))
 
-  pub found-totals : countsSoundAt k T ≡ true → totalsSoundAt k T ≡ false → answer.Unsound ≡ foundIn T
+  pub found-totals : countsSoundAt k T ≡ true → totalsSoundAt k T ≡ false → answer.Refused 11 ≡ foundIn T
   found-totals = rw (h .says) (totals-at T (h .header))
 
   pub found-quiet : countsSoundAt k T ≡ true → totalsSoundAt k T ≡ true → within 1 2 (k .stage) ≡ false
@@ -154,7 +158,7 @@ module _ (T : List ℕ) (k : Table) (h : Headed T k) where
   found-quiet = rw (h .says) (quiet-at T (h .header))
 
   pub found-waiting : countsSoundAt k T ≡ true → totalsSoundAt k T ≡ true → within 1 2 (k .stage) ≡ true
-      → cond (waitingSoundAt k T) (answer.Table k) answer.Unsound ≡ foundIn T
+      → foundBy (waitingSoundAt k T) k ≡ foundIn T
   found-waiting = rw (h .says) (waits-at T (h .header))
 
 -- ---- a sound table
@@ -177,9 +181,9 @@ sound-at T e =
     }
 
 pub sound : (T : List ℕ) (k : Table) → foundIn T ≡ answer.Table k → Sound T k
-unfolding foundIn
+unfolding foundIn tableFault
 sound T k e = let b = table-of (tableSound document01 T) (tableOf T) k e in rw (b .1) (sound-at T (b .0))
 
-pub unsound : (T : List ℕ) → foundIn T ≡ answer.Unsound → tableFault document01 T ≡ 11
+pub unsound : (T : List ℕ) (n : ℕ) → foundIn T ≡ answer.Refused n → (tableFault document01 T ≡ n) × (n ≡ 0 → ⊥)
 unfolding foundIn tableFault
-unsound T e = rw (none-of (tableSound document01 T) (tableOf T) e)
+unsound T n e = let b = none-of (tableSound document01 T) (tableOf T) n e in (rw (b .0, b .1), λ z. omega (arith, b .1))

@@ -97,7 +97,7 @@ module _ (T : List ℕ) where
 
 -- ---- the sheet's answer
 module _ (T : List ℕ) where
-  pub head-not-started : startSound T ≡ false → answer.Unsound ≡ headIn T
+  pub head-not-started : startSound T ≡ false → answer.Refused 11 ≡ headIn T
   unfolding headIn
   head-not-started e = rw (header-is T, e)
 
@@ -106,7 +106,7 @@ module _ (T : List ℕ) where
     the-sheet : take (12 + r - 12) (drop 12 T) ≡ sheetIn document01 T
     the-sheet = let l : 12 + r - 12 ≡ valueOf (part 10 2 T) = omega arith in rw l
 
-    pub head-refused : (n : ℕ) → readingOf (take (12 + r - 12) (drop 12 T)) ≡ sheet.Refused n → answer.Unsound ≡ headIn T
+    pub head-refused : (n : ℕ) → readingOf (take (12 + r - 12) (drop 12 T)) ≡ sheet.Refused n → answer.Refused 11 ≡ headIn T
     unfolding headIn
     head-refused n h =
         let o = reading-refused (sheetIn document01 T) n (rw the-sheet at h) in

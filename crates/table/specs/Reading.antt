@@ -8,10 +8,10 @@ use lib.Dec.{eqb, ltb, leb}
 use lib.ListN.{length, getD}
 use Rattle.words.specs.Bytes.{valueOf, part, elementsOf, allBelow}
 use Rattle.rules.specs.Settings.{document01}
-use Rattle.rules.specs.Columns.{within, entriesIn, publishedIn, sheetFault, totalsFit}
+use Rattle.rules.specs.Columns.{check, within, entriesIn, publishedIn, sheetFault, totalsFit}
 use Rattle.rules.specs.Circuit.{gatesIn, testsIn}
 use Rattle.rules.specs.Table.{stageByte, serversIn, ownIn, returnsIn, decidedIn, acceptedIn, sheetSize, sheetIn, columnsIn}
-use Rattle.rules.specs.Table.{headerSound, tableSound}
+use Rattle.rules.specs.Table.{headerSound, tableSound, tableFault}
 use Rattle.layout.specs.Places.{totalsAt, waitAt, sizeOf}
 use Rattle.layout.specs.Numbers.{lengthOf, Limited}
 use Rattle.layout.specs.declared.Table.{Table}
@@ -36,12 +36,13 @@ tableOf T =
       tests = testsIn (columnsIn document01 T);
     }
 
--- what the reader answers, and what it has once the header and the sheet are sound
+-- what the reader answers: what a sound table says, or rules' refusal of the table
 unfoldable pub foundIn : List ℕ → Found
-foundIn T = cond (tableSound document01 T) (answer.Table (tableOf T)) answer.Unsound
+foundIn T = cond (tableSound document01 T) (answer.Table (tableOf T)) (answer.Refused (tableFault document01 T))
 
+-- what it has once the header and the sheet are sound
 unfoldable pub headIn : List ℕ → Found
-headIn T = cond (headerSound document01 T) (answer.Table (tableOf T)) answer.Unsound
+headIn T = cond (headerSound document01 T) (answer.Table (tableOf T)) (answer.Refused (check (headerSound document01 T) 11))
 
 -- ---- the parts of the judgement: the header before the sheet is read
 unfoldable pub startSound : List ℕ → Bool

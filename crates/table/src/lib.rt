@@ -16,10 +16,13 @@ use layout::places::totals_place;
 use layout::places::wait_place;
 use sheet::Reading;
 
-// What the reader finds.
+// The refusal of a table that breaks the limits.
+const UNSOUND: u32 = 11;
+
+// What the reader finds: what a sound table says, or the number of the refusal.
 pub enum Found {
     Table(Table),
-    Unsound,
+    Refused(u32),
 }
 
 fn wide(x: u8) -> u32
@@ -100,12 +103,12 @@ fn head(t: &[u8]) -> Found
     ensures { λ r. ⌜ r ≡ headIn (now (t .entry)) ⌝ }
 {
     if !start_sound(t) {
-        return Found::Unsound;
+        return Found::Refused(UNSOUND);
     }
     let n = words::read_u16(t, 10) as usize;
     let end = 12 + n;
     match sheet::read(&t[12..end]) {
-        Reading::Refused(_) => Found::Unsound,
+        Reading::Refused(_) => Found::Refused(UNSOUND),
         Reading::Counts(counts) => Found::Table(Table {
             stage: wide(t[1]),
             servers: wide(t[2]),
@@ -198,19 +201,19 @@ pub fn read(t: &[u8]) -> Found
     ensures { λ r. ⌜ r ≡ foundIn (now (t .entry)) ⌝ }
 {
     match head(t) {
-        Found::Unsound => Found::Unsound,
+        Found::Refused(fault) => Found::Refused(fault),
         Found::Table(k) => {
             if !counts_sound(t, k) {
-                return Found::Unsound;
+                return Found::Refused(UNSOUND);
             }
             if !totals_sound(t, k) {
-                return Found::Unsound;
+                return Found::Refused(UNSOUND);
             }
             if !waits(k.stage) {
                 return Found::Table(k);
             }
             if !waiting_sound(t, k) {
-                return Found::Unsound;
+                return Found::Refused(UNSOUND);
             }
             Found::Table(k)
         }

@@ -25,8 +25,8 @@ sound-table u = sound (bytes u) _ (sym (u .before .before .read .ensures) ∙ u 
 read-requires : tie.Need-read-requires
 read-requires c κs = search needs
 
-enum-told : tie.Need-enum-told
-enum-told c = search needs
+enum-known-fault : tie.Need-enum-known-fault
+enum-known-fault c = search needs
 
 enum-known-k : tie.Need-enum-known-k
 enum-known-k c = search needs
@@ -71,8 +71,10 @@ same-length-3 c = search needs
 
 returns-3 : tie.Need-returns-3
 returns-3 c =
-    let a = c .before .before .before .before .before .before .args in
-    close-unsound (a .table .now) (a .out .now) (sym (c .before .before .read .ensures) ∙ c .enum-told .given .1)
+    let u = c .before in
+    let r = u .before .before in
+    let a = r .before .before .before .before .args in
+    close-unsound (a .table .now) (a .out .now) _ (sym (r .read .ensures) ∙ u .fault .given .1)
 
 same-length-4 : tie.Need-same-length-4
 same-length-4 c = search needs
@@ -96,7 +98,7 @@ close-spec =
     tie.close
     (tie.spec
     read-requires
-    enum-told
+    enum-known-fault
     enum-known-k
     same-length
     returns

@@ -35,8 +35,8 @@ one-waits c = sym (c .before .waits .ensures) ∙ not-false _ (c .if1 .left)
 read-requires : tie.Need-read-requires
 read-requires c κs = search needs
 
-enum-told : tie.Need-enum-told
-enum-told c = search needs
+enum-known-fault : tie.Need-enum-known-fault
+enum-known-fault c = search needs
 
 enum-known-k : tie.Need-enum-known-k
 enum-known-k c = search needs
@@ -74,8 +74,9 @@ same-length-2 c = search needs
 
 returns-2 : tie.Need-returns-2
 returns-2 c =
-    drop-unsound (c .before .before .before .before .before .args .table .now)
-    (sym (c .before .before .read .ensures) ∙ c .enum-told .given .1)
+    let u = c .before in
+    let r = u .before .before in
+    drop-unsound (r .before .before .before .args .table .now) _ (sym (r .read .ensures) ∙ u .fault .given .1)
 
 same-length-3 : tie.Need-same-length-3
 same-length-3 c = search needs
@@ -92,7 +93,7 @@ drop-spec =
     tie.close
     (tie.spec
     read-requires
-    enum-told
+    enum-known-fault
     enum-known-k
     waits-requires
     same-length

@@ -10,8 +10,8 @@ use Rattle.round_one.proofs.round_one.Tie as tie
 read-requires : tie.Need-read-requires
 read-requires c κs = search needs
 
-enum-told : tie.Need-enum-told
-enum-told c = search needs
+enum-known-fault : tie.Need-enum-known-fault
+enum-known-fault c = search needs
 
 enum-known-k : tie.Need-enum-known-k
 enum-known-k c = search needs
@@ -92,9 +92,10 @@ same-length-3 c = search needs
 
 returns-3 : tie.Need-returns-3
 returns-3 c =
-    let r = c .before .before in
+    let u = c .before in
+    let r = u .before .before in
     let a = r .before .before .before .before .before in
-    first-unsound (a .args .table .now) (a .args .joined .now) (a .args .out .now) (sym (r .read .ensures) ∙ c .enum-told .given .1)
+    first-unsound (a .args .table .now) (a .args .joined .now) (a .args .out .now) _ (sym (r .read .ensures) ∙ u .fault .given .1)
 
 same-length-4 : tie.Need-same-length-4
 same-length-4 c = search needs
@@ -123,7 +124,7 @@ round-one-spec =
     tie.close
     (tie.spec
     read-requires
-    enum-told
+    enum-known-fault
     enum-known-k
     same-length
     returns

@@ -12,8 +12,8 @@ use Rattle.round_two.proofs.round_two.Tie as tie
 read-requires : tie.Need-read-requires
 read-requires c κs = search needs
 
-enum-told : tie.Need-enum-told
-enum-told c = search needs
+enum-known-fault : tie.Need-enum-known-fault
+enum-known-fault c = search needs
 
 enum-known-k : tie.Need-enum-known-k
 enum-known-k c = search needs
@@ -106,9 +106,10 @@ same-length-4 c = search needs
 
 returns-4 : tie.Need-returns-4
 returns-4 c =
-    let r = c .before .before in
+    let u = c .before in
+    let r = u .before .before in
     let a = r .before .before .before .before in
-    second-unsound (a .args .table .now) (a .args .joined .now) (sym (r .read .ensures) ∙ c .enum-told .given .1)
+    second-unsound (a .args .table .now) (a .args .joined .now) _ (sym (r .read .ensures) ∙ u .fault .given .1)
 
 same-length-5 : tie.Need-same-length-5
 same-length-5 c = search needs
@@ -133,7 +134,7 @@ round-two-spec =
     tie.close
     (tie.spec
     read-requires
-    enum-told
+    enum-known-fault
     enum-known-k
     same-length
     returns

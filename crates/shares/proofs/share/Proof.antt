@@ -12,8 +12,8 @@ use Rattle.shares.proofs.share.Tie as tie
 read-requires : tie.Need-read-requires
 read-requires c κs = search needs
 
-enum-told : tie.Need-enum-told
-enum-told c = search needs
+enum-known-fault : tie.Need-enum-known-fault
+enum-known-fault c = search needs
 
 enum-known-k : tie.Need-enum-known-k
 enum-known-k c = search needs
@@ -70,8 +70,10 @@ same-length-2 c = search needs
 
 returns-2 : tie.Need-returns-2
 returns-2 c =
-    let a = c .before .before .before .before .before .before .before .args in
-    share-unsound (a .table .now) (a .m .now) (a .r) (a .s) (a .out .now) (sym (c .before .before .read .ensures) ∙ c .enum-told .given .1)
+    let u = c .before in
+    let x = u .before .before in
+    let a = x .before .before .before .before .before .args in
+    share-unsound (a .table .now) (a .m .now) (a .r) (a .s) (a .out .now) _ (sym (x .read .ensures) ∙ u .fault .given .1)
 
 same-length-3 : tie.Need-same-length-3
 same-length-3 c = search needs
@@ -96,7 +98,7 @@ share-spec =
     tie.close
     (tie.spec
     read-requires
-    enum-told
+    enum-known-fault
     enum-known-k
     share-refusal-requires
     same-length

@@ -1,14 +1,13 @@
 -- `table::read` meets its contract: the header's facts are what the parts of the judgement ask for, and the first
 -- part that fails, or none, decides what is found (`found-counts` and so on). Assumes nothing.
 use mathlib.Core.Path.{_≡_, sym, _∙_}
-use mathlib.Core.Bool.{true, cond}
+use mathlib.Core.Bool.{true}
 use mathlib.Core.List.{List}
 use Prim.Native.Nat.{ℕ}
 use borrow.Author.Tests.{not-true, not-false}
 use Rattle.layout.specs.declared.Table.{Table}
 use Rattle.table.specs.Reading.{countsSoundAt, totalsSoundAt, waitingSoundAt, Headed, foundIn}
-use Rattle.table.specs.declared.Found.the-variants as answer
-use Rattle.table.proofs.Answers.{headed, whole, found-headless, found-counts, found-totals, found-quiet, found-waiting}
+use Rattle.table.proofs.Answers.{foundBy, headed, whole, found-headless, found-counts, found-totals, found-quiet, found-waiting}
 use borrow.Author.Needs.{needs}
 use Rattle.table.proofs.read.Statement.{statement}
 use Rattle.table.proofs.read.Tie as tie
@@ -39,7 +38,7 @@ abbrev third : tie.Else3 → tie.Else2
 third c = c .before .before
 
 one-waits : (c : tie.Else3) → let u = first (second (third c)) in
-    cond (waitingSoundAt (table u) (bytes u)) (answer.Table (table u)) answer.Unsound ≡ foundIn (bytes u)
+    foundBy (waitingSoundAt (table u) (bytes u)) (table u) ≡ foundIn (bytes u)
 one-waits c =
     let two = third c in
     let one = second two in
@@ -50,8 +49,8 @@ one-waits c =
 head-requires : tie.Need-head-requires
 head-requires c κs = search needs
 
-enum-told : tie.Need-enum-told
-enum-told c = search needs
+enum-known-fault : tie.Need-enum-known-fault
+enum-known-fault c = search needs
 
 enum-known-k : tie.Need-enum-known-k
 enum-known-k c = search needs
@@ -93,8 +92,9 @@ returns-4 c =
 
 returns-5 : tie.Need-returns-5
 returns-5 c =
-    found-headless (c .before .before .before .before .args .t .now)
-    (sym (c .before .before .head .ensures) ∙ c .enum-told .given .1)
+    let u = c .before in
+    let h = u .before .before in
+    found-headless (h .before .before .args .t .now) _ (sym (h .head .ensures) ∙ u .fault .given .1)
 
 returns-6 : tie.Need-returns-6
 returns-6 c =
@@ -105,7 +105,7 @@ read-spec =
     tie.close
     (tie.spec
     head-requires
-    enum-told
+    enum-known-fault
     enum-known-k
     counts-sound-requires
     returns

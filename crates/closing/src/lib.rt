@@ -2,7 +2,6 @@
 // are those of the crate rules, at document 01's setting, and of specs/. A refusal leaves the table and the buffer as
 // they were.
 ghost use Rattle.closing.specs.Calls.{Drops, Closes};
-use layout::places::wait_place;
 use layout::writing::decide;
 use layout::writing::write_closing;
 use records::Written;
@@ -20,7 +19,7 @@ pub fn drop(table: &mut [u8]) -> u32
             if !waits(k.stage) {
                 return 11;
             }
-            let id = words::read_u32(table, wait_place(k.sheet, k.published, k.returns));
+            let id = words::read_u32(table, k.wait_place());
             decide(table, k, 0, id);
             0
         }

@@ -1,38 +1,27 @@
-// The places of a table, by plain numbers: the length of the sheet, the published entries and N.
+// The places of a table: by what it says, and by plain numbers for a table that is not yet written.
 ghost use mathlib.Core.Path.{_≡_};
-ghost use Prim.Native.Nat.{_≤_};
+ghost use Prim.Native.Nat.{_+_, _≤_};
+ghost use lib.ListN.{length};
+ghost use Rattle.words.specs.Bytes.{part};
 ghost use Rattle.layout.specs.Places.{totalsAt, idsAt, waitAt, shareAt, keptAt, lengthAt, sizeOf, Small};
+ghost use Rattle.layout.specs.Numbers.{lengthOf, Limited};
+use crate::Table;
 
-// The totals stand behind the sheet.
-pub fn totals_place(n: usize) -> usize
-    requires { ⌜ n ≤ 256 ⌝ }
-    ensures { λ r. ⌜ r ≡ totalsAt n ⌝ }
+// The sheet of a table, n bytes long, as that part of the table.
+pub fn sheet_part<'a>(t: &'a [u8], n: usize) -> &'a [u8]
+    requires { ⌜ 12 + n ≤ length (now t) ⌝ }
+    ensures { λ r. ⌜ now r ≡ part 12 n (now (t .entry)) ⌝ }
 {
-    12 + n
+    let end = 12 + n;
+    &t[12..end]
 }
 
-// Then the ids decided.
-pub fn ids_place(n: usize, published: usize) -> usize
-    requires { ⌜ (n ≤ 256) × (published ≤ 256) ⌝ }
-    ensures { λ r. ⌜ r ≡ idsAt n published ⌝ }
-{
-    12 + n + 4 * published
-}
-
-// Then the return that waits: its id and six numbers.
-pub fn wait_place(n: usize, published: usize, returns: u32) -> usize
+// Behind sheet, totals and ids decided: the return that waits.
+fn wait_at(n: usize, published: usize, returns: u32) -> usize
     requires { ⌜ Small n published returns ⌝ }
     ensures { λ r. ⌜ r ≡ waitAt n published returns ⌝ }
 {
     12 + n + 4 * published + 4 * (returns as usize)
-}
-
-// Then its share.
-pub fn share_place(n: usize, published: usize, returns: u32) -> usize
-    requires { ⌜ Small n published returns ⌝ }
-    ensures { λ r. ⌜ r ≡ shareAt n published returns ⌝ }
-{
-    wait_place(n, published, returns) + 4 + 24
 }
 
 // The elements of a share.
@@ -43,18 +32,68 @@ pub fn share_size(entries: usize, gates: usize) -> usize
     entries + (gates + gates) + 6
 }
 
-// The bytes kept for a return that waits: its id, six numbers and its share.
-pub fn kept_length(size: usize) -> usize
-    requires { ⌜ size ≤ 774 ⌝ }
-    ensures { λ r. ⌜ r ≡ keptAt size ⌝ }
-{
-    28 + 4 * size
-}
-
-// The table's length.
+// The bytes of a table whose shares have `size` elements: the id and six numbers of the return that waits, then its share.
 pub fn table_length(n: usize, published: usize, returns: u32, size: usize) -> usize
     requires { ⌜ Small n published returns × (size ≤ 774) ⌝ }
     ensures { λ r. ⌜ r ≡ lengthAt n published returns size ⌝ }
 {
-    share_place(n, published, returns) + 4 * size
+    wait_at(n, published, returns) + 28 + 4 * size
+}
+
+impl Table {
+    // The totals stand behind the sheet.
+    pub fn totals_place(self) -> usize
+        requires { ⌜ Limited self ⌝ }
+        ensures { λ r. ⌜ r ≡ totalsAt (self .sheet) ⌝ }
+    {
+        12 + self.sheet
+    }
+
+    // Then the ids decided.
+    pub fn ids_place(self) -> usize
+        requires { ⌜ Limited self ⌝ }
+        ensures { λ r. ⌜ r ≡ idsAt (self .sheet) (self .published) ⌝ }
+    {
+        self.totals_place() + 4 * self.published
+    }
+
+    // Then the return that waits.
+    pub fn wait_place(self) -> usize
+        requires { ⌜ Limited self ⌝ }
+        ensures { λ r. ⌜ r ≡ waitAt (self .sheet) (self .published) (self .returns) ⌝ }
+    {
+        wait_at(self.sheet, self.published, self.returns)
+    }
+
+    // Behind its id and six numbers, its share.
+    pub fn share_place(self) -> usize
+        requires { ⌜ Limited self ⌝ }
+        ensures { λ r. ⌜ r ≡ shareAt (self .sheet) (self .published) (self .returns) ⌝ }
+    {
+        self.wait_place() + 28
+    }
+
+    // The elements of a share.
+    pub fn share_size(self) -> usize
+        requires { ⌜ Limited self ⌝ }
+        ensures { λ r. ⌜ r ≡ sizeOf (self .entries) (self .gates) ⌝ }
+    {
+        share_size(self.entries, self.gates)
+    }
+
+    // The bytes kept for a return that waits: its id, six numbers and its share.
+    pub fn kept_length(self) -> usize
+        requires { ⌜ Limited self ⌝ }
+        ensures { λ r. ⌜ r ≡ keptAt (sizeOf (self .entries) (self .gates)) ⌝ }
+    {
+        28 + 4 * self.share_size()
+    }
+
+    // The bytes of the table.
+    pub fn length(self) -> usize
+        requires { ⌜ Limited self ⌝ }
+        ensures { λ r. ⌜ r ≡ lengthOf self ⌝ }
+    {
+        table_length(self.sheet, self.published, self.returns, self.share_size())
+    }
 }

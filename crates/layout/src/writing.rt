@@ -6,11 +6,6 @@ ghost use Rattle.words.specs.Bytes.{splice};
 ghost use Rattle.layout.specs.Writing.{startBytes, erased, decidedAs, Decidable, closingBytes, Closable};
 ghost use Rattle.layout.specs.Numbers.{Whole};
 use crate::Table;
-use crate::places::ids_place;
-use crate::places::kept_length;
-use crate::places::share_size;
-use crate::places::totals_place;
-use crate::places::wait_place;
 
 // Clears n bytes from `at`.
 pub fn clear(t: &mut [u8], at: usize, n: usize)
@@ -44,12 +39,7 @@ fn erase(t: &mut [u8], k: Table)
     requires { ⌜ Whole (now t) k ⌝ }
     ensures { λ _. ⌜ now (t .exit) ≡ erased k (now (t .entry)) ⌝ }
 {
-    let size = share_size(k.entries, k.gates);
-    clear(
-        t,
-        wait_place(k.sheet, k.published, k.returns),
-        kept_length(size),
-    );
+    clear(t, k.wait_place(), k.kept_length());
 }
 
 // Notes that the return that waits is decided: the counts, its id, and the stage; nothing else of it is kept.
@@ -60,11 +50,7 @@ pub fn decide(t: &mut [u8], k: Table, accepted: u32, id: u32)
     let decided = k.decided;
     words::write_u16(t, 6, decided + 1);
     words::write_u16(t, 8, k.accepted + accepted);
-    words::write_u32(
-        t,
-        ids_place(k.sheet, k.published) + 4 * (decided as usize),
-        id,
-    );
+    words::write_u32(t, k.ids_place() + 4 * (decided as usize), id);
     erase(t, k);
     t[1] = 0;
 }
@@ -75,7 +61,7 @@ pub fn write_closing(t: &[u8], k: Table, out: &mut [u8])
     ensures { λ _. ⌜ now (out .exit) ≡ splice (now (out .entry)) 0 (closingBytes k (now (t .entry))) ⌝ }
 {
     message::write_totals_header(out, k.own as u8, k.accepted);
-    let start = totals_place(k.sheet);
-    let end = ids_place(k.sheet, k.published);
+    let start = k.totals_place();
+    let end = k.ids_place();
     words::copy(out, 6, &t[start..end]);
 }

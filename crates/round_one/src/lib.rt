@@ -11,7 +11,6 @@ ghost use Rattle.waiting.specs.Held.{waitsIn, Waits};
 ghost use Rattle.round_one.specs.One.{oneFaultAt, sumsStored, OneReady};
 ghost use Rattle.round_one.specs.Calls.{RoundOne};
 use layout::Table;
-use layout::places::wait_place;
 use records::Written;
 use table::Found;
 use table::read;
@@ -55,7 +54,7 @@ fn take_one(t: &mut [u8], joined: &[u8], k: Table, w: Waiting, out: &mut [u8])
     let d = message::first_sum(joined, k.servers);
     let e = message::second_sum(joined, k.servers);
     let sigma = sigma_of(t, k, w, d, e);
-    let at = wait_place(k.sheet, k.published, k.returns) + 4 + 8;
+    let at = k.wait_place() + 4 + 8;
     store_sums(t, at, d, e);
     message::write_round(out, 35, w.id, k.own as u8, sigma, w.tau);
 }

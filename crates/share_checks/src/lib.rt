@@ -8,8 +8,6 @@ ghost use Rattle.rules.specs.Table.{tableState};
 ghost use Rattle.table.specs.Reading.{Sound};
 ghost use Rattle.share_checks.specs.Checks.{startFault, messageFault, lastFault, Fitting};
 use layout::Table;
-use layout::places::ids_place;
-use layout::places::share_size;
 use records::or_else;
 use table::has_id;
 use table::pair_sound;
@@ -48,7 +46,7 @@ fn last_refusal(t: &[u8], k: Table, m: &[u8], r: u64, s: u64, room: usize) -> u3
     requires { ⌜ Fitting (now t) k (now m) ⌝ }
     ensures { λ n. ⌜ n ≡ lastFault (now (t .entry)) k (now (m .entry)) r s room ⌝ }
 {
-    let start = ids_place(k.sheet, k.published);
+    let start = k.ids_place();
     let end = start + 4 * (k.decided as usize);
     if has_id(&t[start..end], message::id_of(m)) {
         return 10;
@@ -68,7 +66,7 @@ pub fn share_refusal(t: &[u8], k: Table, m: &[u8], r: u64, s: u64, room: usize) 
     ensures { λ n. ⌜ n ≡ shareRefusal document01 (tableState document01 (now (t .entry))) (now (m .entry)) r s room ⌝ }
 {
     let first = start_refusal(k);
-    let second = message_refusal(m, share_size(k.entries, k.gates), k.own);
+    let second = message_refusal(m, k.share_size(), k.own);
     let refusal = or_else(first, second);
     if refusal != 0 {
         return refusal;

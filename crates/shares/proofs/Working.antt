@@ -1,37 +1,33 @@
 -- What is worked out from a share that is taken: the sheet that the code cuts out of a sound table is read, the elements
 -- that it reads are those of the message, and both are what judging asks for. Assumes nothing.
-use mathlib.Core.Path.{_≡_, sym, ap, _∙_}
-use mathlib.Core.Bool.{true, not, _&&_, _||_}
+use mathlib.Core.Path.{_≡_, refl, ap, _∙_}
 use mathlib.Core.List.{List}
 use Prim.Native.Nat.{ℕ, _+_, _-_, _*_}
 use native.Mathlib.Omega.{arith}
-use borrow.Author.Tests.{eqb-true}
-use lib.Dec.{eqb}
 use lib.ListN.{length, take, drop, length-drop}
-use Rattle.algebra.proofs.Members.{and-left, and-right}
-use Rattle.words.specs.Bytes.{elementsOf, allBelow}
+use Rattle.words.specs.Bytes.{part, elementsOf}
 use Rattle.words.proofs.Below.{all-of-below}
 use Rattle.records.specs.Outcome.{ok}
 use Rattle.rules.specs.Settings.{document01}
-use Rattle.rules.specs.Columns.{readSheet, columnsOf, sheetFault}
+use Rattle.rules.specs.Columns.{readSheet, columnsOf}
 use Rattle.rules.specs.Judging.{shareSize}
 use Rattle.rules.specs.Messages.{shareElements}
-use Rattle.rules.specs.Table.{sheetIn, columnsIn, totalsIn, waits, headerSound, countsSound, waitingSound, tableSound}
+use Rattle.rules.specs.Table.{sheetIn, columnsIn}
 use Rattle.message.proofs.Parts.{to-end}
 use Rattle.columns.specs.declared.Counts.{Counts}
 use Rattle.columns.specs.Counting.{countsOf}
 use Rattle.snip.specs.Judged.{Share, judgedOf}
 use Rattle.layout.specs.Places.{sizeOf}
 use Rattle.layout.specs.declared.Table.{Table}
-use Rattle.table.specs.Reading.{tableOf, startSound, Headed, Sound}
-use Rattle.table.proofs.Header.{header-is}
+use Rattle.table.specs.Reading.{tableOf, Sound}
+use Rattle.table.proofs.Answers.{headed-of}
 use Rattle.table.proofs.Judged.{cut-reads}
 use Rattle.shares.specs.Taking.{Takable}
 
 -- ---- the sheet
 -- the sheet as the code cuts it out
 abbrev pub sheetCut : List ℕ → Table → List ℕ
-sheetCut T k = take (12 + k .sheet - 12) (drop 12 T)
+sheetCut T k = part 12 (k .sheet) T
 
 -- what the sheet comes to, as the table says
 abbrev pub countsAt : Table → Counts
@@ -45,32 +41,12 @@ countsAt k =
     }
 
 module _ (T : List ℕ) (k : Table) (h : Sound T k) where
-  header-sound : headerSound document01 T ≡ true
-  unfolding tableSound
-  header-sound =
-      let last = allBelow 2147483647 (totalsIn document01 T) && (not (waits document01 T) || waitingSound document01 T) in
-      and-left (headerSound document01 T) (countsSound document01 T && last) (h .is-sound)
-
-  no-sheet-fault : sheetFault (sheetIn document01 T) ≡ 0
-  no-sheet-fault =
-      let both : startSound T && eqb (sheetFault (sheetIn document01 T)) 0 ≡ true = sym (header-is T) ∙ header-sound in
-      eqb-true (sheetFault (sheetIn document01 T)) 0 (and-right (startSound T) (eqb (sheetFault (sheetIn document01 T)) 0) both)
-
-  headed : Headed T k
-  headed = record {
-    says = h .says;
-    limited = h .limited;
-    header = header-sound;
-    sheet-long = omega (arith, h .long);
-    no-fault = no-sheet-fault;
-  }
-
-  pub sheet-cut : sheetCut T k ≡ sheetIn document01 T
+  sheet-cut : sheetCut T k ≡ sheetIn document01 T
   unfolding tableOf
-  sheet-cut = let l : 12 + k .sheet - 12 ≡ k .sheet = omega arith in rw (l, h .says)
+  sheet-cut = rw (h .says)
 
   sheet-reads : readSheet (sheetCut T k) ≡ ok (columnsOf (sheetCut T k))
-  sheet-reads = cut-reads T k headed
+  sheet-reads = cut-reads T k (headed-of T k h) (sheetCut T k) refl
 
   counts-are : countsAt k ≡ countsOf (columnsOf (sheetCut T k))
   unfolding tableOf

@@ -12,8 +12,7 @@ ghost use Rattle.shares.specs.Calls.{Shares};
 ghost use Rattle.shares.specs.Taking.{waitBytes, Takable};
 use columns::Counts;
 use layout::Table;
-use layout::places::share_size;
-use layout::places::wait_place;
+use layout::places::sheet_part;
 use records::Written;
 use share_checks::share_refusal;
 use snip::judging::Judged;
@@ -28,9 +27,8 @@ fn judged(t: &[u8], k: Table, m: &[u8], r: u32, s: u32) -> Judged
         ≡ judgedOf (columnsIn document01 (now (t .entry))) (k .own) (shareElements document01 (now (m .entry))) r s ⌝ }
 {
     let mut x = [0u32; 774];
-    let size = share_size(k.entries, k.gates);
+    let size = k.share_size();
     elements::read(&m[6..], &mut x[..size]);
-    let end = 12 + k.sheet;
     let counts = Counts {
         columns: k.columns,
         entries: k.entries,
@@ -38,7 +36,7 @@ fn judged(t: &[u8], k: Table, m: &[u8], r: u32, s: u32) -> Judged
         gates: k.gates,
         tests: k.tests,
     };
-    judge(&t[12..end], counts, k.own, &x[..size], r, s)
+    judge(sheet_part(t, k.sheet), counts, k.own, &x[..size], r, s)
 }
 
 // Writes the return that waits, but for its elements.
@@ -58,7 +56,7 @@ fn take(table: &mut [u8], k: Table, m: &[u8], r: u32, s: u32, out: &mut [u8])
 {
     let id = message::id_of(m);
     let j = judged(table, k, m, r, s);
-    let at = wait_place(k.sheet, k.published, k.returns);
+    let at = k.wait_place();
     write_waiting(table, at, id, r, s, j);
     words::copy(table, at + 28, &m[6..]);
     table[1] = 1;

@@ -180,6 +180,10 @@ sound-at T e =
       accepted-few = l .2;
     }
 
+pub headed-of : (T : List ℕ) (k : Table) → Sound T k → Headed T k
+unfolding tableSound
+headed-of T k s = rw (s .says) (headed-at T (and-left (headerSound document01 T) _ (s .is-sound)))
+
 pub sound : (T : List ℕ) (k : Table) → foundIn T ≡ answer.Table k → Sound T k
 unfolding foundIn tableFault
 sound T k e = let b = table-of (tableSound document01 T) (tableOf T) k e in rw (b .1) (sound-at T (b .0))

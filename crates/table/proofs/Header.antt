@@ -101,18 +101,18 @@ module _ (T : List ℕ) where
   unfolding headIn
   head-not-started e = rw (header-is T, e)
 
-  -- the sheet as the code cuts it out, r bytes long
-  module _ (r : ℕ) (e : r ≡ valueOf (part 10 2 T)) (s : startSound T ≡ true) where
-    the-sheet : take (12 + r - 12) (drop 12 T) ≡ sheetIn document01 T
-    the-sheet = let l : 12 + r - 12 ≡ valueOf (part 10 2 T) = omega arith in rw l
+  -- the sheet x, r bytes long
+  module _ (r : ℕ) (e : r ≡ valueOf (part 10 2 T)) (x : List ℕ) (ex : x ≡ part 12 r T) (s : startSound T ≡ true) where
+    the-sheet : x ≡ sheetIn document01 T
+    the-sheet = rw e at ex
 
-    pub head-refused : (n : ℕ) → readingOf (take (12 + r - 12) (drop 12 T)) ≡ sheet.Refused n → answer.Refused 11 ≡ headIn T
+    pub head-refused : (n : ℕ) → readingOf x ≡ sheet.Refused n → answer.Refused 11 ≡ headIn T
     unfolding headIn
     head-refused n h =
         let o = reading-refused (sheetIn document01 T) n (rw the-sheet at h) in
         rw (header-is T, s, o .0, ne-eqb n 0 (o .1))
 
-    pub head-counted : (c : Counts) → readingOf (take (12 + r - 12) (drop 12 T)) ≡ sheet.Counts c
+    pub head-counted : (c : Counts) → readingOf x ≡ sheet.Counts c
         → answer.Table (
         record {
           stage = getD T 1 0;

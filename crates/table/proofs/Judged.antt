@@ -21,17 +21,17 @@ use Rattle.layout.specs.Numbers.{lengthOf}
 use Rattle.layout.specs.declared.Table.{Table}
 use Rattle.table.specs.Reading.{tableOf, Headed, countsSoundAt, totalsSoundAt, pairSound, waitingSoundAt}
 
--- ---- the limit on N of a table's sheet, as the code cuts the sheet out
-module _ (T : List ℕ) (k : Table) (h : Headed T k) where
-  sheet-cut : take (12 + k .sheet - 12) (drop 12 T) ≡ sheetIn document01 T
+-- ---- the sheet x of a table, as the code cuts it out: it is read
+module _ (T : List ℕ) (k : Table) (h : Headed T k) (x : List ℕ) (ex : x ≡ part 12 (k .sheet) T) where
+  sheet-cut : x ≡ sheetIn document01 T
   unfolding tableOf
-  sheet-cut = let l : 12 + k .sheet - 12 ≡ k .sheet = omega arith in rw (l, h .says)
+  sheet-cut = rw (h .says) at ex
 
-  pub cut-reads : readSheet (take (12 + k .sheet - 12) (drop 12 T)) ≡ ok (columnsOf (take (12 + k .sheet - 12) (drop 12 T)))
+  pub cut-reads : readSheet x ≡ ok (columnsOf x)
   cut-reads = rw sheet-cut (sheet-read (sheetIn document01 T) (h .no-fault))
 
-  cut-fault : orElse (returnsFault (k .returns))
-      (totalsFault document01 (k .returns) (columnsOf (take (12 + k .sheet - 12) (drop 12 T))))
+  -- the limit on N
+  cut-fault : orElse (returnsFault (k .returns)) (totalsFault document01 (k .returns) (columnsOf x))
       ≡ check (totalsFit document01 (k .returns) (columnsIn document01 T)) 4
   cut-fault =
       rw (sheet-cut, within-is 1 1024 (k .returns) (h .limited .returns-some) (h .limited .returns-most), or-none)
@@ -44,16 +44,13 @@ module _ (T : List ℕ) (k : Table) (h : Headed T k) where
   unfit-of true e = absurd (e refl)
   unfit-of false e = refl
 
-  -- what the answer x of the code's check tells
-  module _ (x : ℕ)
-      (e : x
-      ≡ orElse (returnsFault (k .returns))
-      (totalsFault document01 (k .returns) (columnsOf (take (12 + k .sheet - 12) (drop 12 T))))) where
-    pub fits : x ≡ 0 → totalsFit document01 (k .returns) (columnsIn document01 T) ≡ true
+  -- what the answer n of the code's check tells
+  module _ (n : ℕ) (e : n ≡ orElse (returnsFault (k .returns)) (totalsFault document01 (k .returns) (columnsOf x))) where
+    pub fits : n ≡ 0 → totalsFit document01 (k .returns) (columnsIn document01 T) ≡ true
     fits z = fit-of _ (sym (e ∙ cut-fault) ∙ z)
 
-    pub fits-not : (x ≡ 0 → ⊥) → totalsFit document01 (k .returns) (columnsIn document01 T) ≡ false
-    fits-not n = unfit-of _ (λ z. n (e ∙ cut-fault ∙ z))
+    pub fits-not : (n ≡ 0 → ⊥) → totalsFit document01 (k .returns) (columnsIn document01 T) ≡ false
+    fits-not f = unfit-of _ (λ z. f (e ∙ cut-fault ∙ z))
 
 -- ---- counts
 module _ (k : Table) (T : List ℕ) where

@@ -9,11 +9,7 @@ ghost use Rattle.layout.specs.Numbers.{Whole};
 ghost use Rattle.table.specs.Reading.{startSound, headIn, foundIn};
 ghost use Rattle.table.specs.Reading.{countsSoundAt, totalsSoundAt, pairSound, waitingSoundAt, Headed};
 use layout::Table;
-use layout::places::ids_place;
-use layout::places::share_size;
-use layout::places::table_length;
-use layout::places::totals_place;
-use layout::places::wait_place;
+use layout::places::sheet_part;
 use sheet::Reading;
 
 // The refusal of a table that breaks the limits.
@@ -106,8 +102,7 @@ fn head(t: &[u8]) -> Found
         return Found::Refused(UNSOUND);
     }
     let n = words::read_u16(t, 10) as usize;
-    let end = 12 + n;
-    match sheet::read(&t[12..end]) {
+    match sheet::read(sheet_part(t, n)) {
         Reading::Refused(_) => Found::Refused(UNSOUND),
         Reading::Counts(counts) => Found::Table(Table {
             stage: wide(t[1]),
@@ -131,18 +126,10 @@ fn counts_sound(t: &[u8], k: Table) -> bool
     requires { ⌜ Headed (now t) k ⌝ }
     ensures { λ r. ⌜ r ≡ countsSoundAt k (now (t .entry)) ⌝ }
 {
-    let end = 12 + k.sheet;
-    if sheet::returns::returns_refusal(&t[12..end], k.returns) != 0 {
+    if sheet::returns::returns_refusal(sheet_part(t, k.sheet), k.returns) != 0 {
         return false;
     }
-    if t.len()
-        < table_length(
-            k.sheet,
-            k.published,
-            k.returns,
-            share_size(k.entries, k.gates),
-        )
-    {
+    if t.len() < k.length() {
         return false;
     }
     if k.returns < k.decided {
@@ -159,8 +146,8 @@ fn totals_sound(t: &[u8], k: Table) -> bool
     requires { ⌜ Whole (now t) k ⌝ }
     ensures { λ r. ⌜ r ≡ totalsSoundAt k (now (t .entry)) ⌝ }
 {
-    let start = totals_place(k.sheet);
-    let end = ids_place(k.sheet, k.published);
+    let start = k.totals_place();
+    let end = k.ids_place();
     elements::below(&t[start..end], field::P)
 }
 
@@ -182,7 +169,7 @@ fn waiting_sound(t: &[u8], k: Table) -> bool
     requires { ⌜ Whole (now t) k ⌝ }
     ensures { λ r. ⌜ r ≡ waitingSoundAt k (now (t .entry)) ⌝ }
 {
-    let at = wait_place(k.sheet, k.published, k.returns) + 4;
+    let at = k.wait_place() + 4;
     let r = words::read_u32(t, at);
     let s = words::read_u32(t, at + 4);
     if !pair_sound(k.gates, r as u64, s as u64) {
@@ -192,7 +179,7 @@ fn waiting_sound(t: &[u8], k: Table) -> bool
     if !elements::below(&t[at..share], field::P) {
         return false;
     }
-    let end = share + 4 * share_size(k.entries, k.gates);
+    let end = share + 4 * k.share_size();
     elements::below(&t[share..end], field::P)
 }
 

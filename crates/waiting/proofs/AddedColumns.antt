@@ -5,7 +5,7 @@ use mathlib.Core.List.{List}
 use Prim.Native.Nat.{ℕ, _+_, _-_, _*_, _≤_, _<_}
 use native.Mathlib.Nat.{zero-add}
 use native.Mathlib.Omega.{arith}
-use lib.ListN.{length, getD, take, drop}
+use lib.ListN.{length, getD, take}
 use Rattle.algebra.specs.Lists.{tabulate}
 use Rattle.algebra.proofs.Tables.{tabulate-cong}
 use Rattle.words.specs.Bytes.{valueOf, bytesOfAll, part, splice}
@@ -26,7 +26,6 @@ use Rattle.sheet.specs.declared.cursor.Step.{Step}
 use Rattle.sheet.specs.Cursor.{begin, Stands, stepAt}
 use Rattle.sheet.proofs.Cursors.{place}
 use Rattle.sheet.proofs.Walks.{Walks, walk-start, stands-by-place, walk-end, walk-done, walk-next}
-use Rattle.message.proofs.Parts.{span}
 use Rattle.layout.specs.Places.{totalsAt, shareAt}
 use Rattle.layout.specs.declared.Table.{Table}
 use Rattle.table.specs.Reading.{Sound}
@@ -82,11 +81,10 @@ module _ (T : List ℕ) (k : Table) (v : Waits T k) (t : List ℕ) (c : Cursor) 
   run-fits = omega (arith, v .sound .long, a .few)
 
   -- the sheet, as the code cuts it out
-  sheet-cut : take (12 + k .sheet - 12) (drop 12 t) ≡ sheetIn document01 T
+  sheet-cut : part 12 (k .sheet) t ≡ sheetIn document01 T
   sheet-cut =
       let run = bytesOfAll 4 (tabulate (totalWith T) (c .published)) in
-      span 12 (k .sheet) t
-      ∙ ap (λ (l : List ℕ). part 12 (k .sheet) l) (a .filled)
+      ap (λ (l : List ℕ). part 12 (k .sheet) l) (a .filled)
       ∙ part-before T start run (omega (arith, run-fits, length-run (totalWith T) (c .published))) 12 (k .sheet) (omega arith)
       ∙ ap (λ n. part 12 n T) (says T k (v .sound .says) .sheet-is)
 
@@ -95,10 +93,10 @@ module _ (T : List ℕ) (k : Table) (v : Waits T k) (t : List ℕ) (c : Cursor) 
     stands-here =
         stands-by-place (sheetIn document01 T) c (sheet-reads T k (v .sound)) (a .walks) (omega (arith, sheet-long T k (v .sound)))
 
-    pub added-stands : Stands (take (12 + k .sheet - 12) (drop 12 t)) c
+    pub added-stands : Stands (part 12 (k .sheet) t) c
     added-stands = rw sheet-cut stands-here
 
-    module _ (step : Step) (e : step ≡ stepAt (take (12 + k .sheet - 12) (drop 12 t)) (c .index)) where
+    module _ (step : Step) (e : step ≡ stepAt (part 12 (k .sheet) t) (c .index)) where
       abbrev column : Column
       column = getD (columnsIn document01 T) (c .index) yesNo
 

@@ -5,8 +5,7 @@ use mathlib.Core.Bool.{true, not, _&&_, _||_}
 use mathlib.Core.List.{List}
 use Prim.Native.Nat.{ℕ, _+_, _*_, _≤_, _<_}
 use native.Mathlib.Omega.{arith}
-use borrow.Author.Tests.{eqb-true}
-use lib.Dec.{eqb, lit<}
+use lib.Dec.{lit<}
 use lib.ListN.{length, getD}
 use Rattle.algebra.proofs.Members.{and-left, and-right}
 use Rattle.words.specs.Bytes.{valueOf, part, elementsOf, allBelow}
@@ -17,7 +16,7 @@ use Rattle.records.specs.Outcome.{ok}
 use Rattle.field.specs.Residues.{prime}
 use Rattle.field.proofs.Below.{member-below}
 use Rattle.rules.specs.Settings.{document01}
-use Rattle.rules.specs.Columns.{sheetFault, readSheet, entriesIn, publishedIn}
+use Rattle.rules.specs.Columns.{readSheet, entriesIn, publishedIn}
 use Rattle.rules.specs.Circuit.{gatesIn}
 use Rattle.rules.specs.Judging.{shareSize}
 use Rattle.rules.specs.Table.{returnsIn, sheetSize, sheetIn, columnsIn, totalsIn, waitingIn, waits, totalsPlace, sharePlace}
@@ -26,8 +25,8 @@ use Rattle.rules.proofs.Circuits.Refusals.{sheet-read}
 use Rattle.message.proofs.Parts.{part-of-part}
 use Rattle.layout.specs.Places.{totalsAt, shareAt, sizeOf}
 use Rattle.layout.specs.declared.Table.{Table}
-use Rattle.table.specs.Reading.{tableOf, startSound, Sound}
-use Rattle.table.proofs.Header.{header-is}
+use Rattle.table.specs.Reading.{tableOf, Sound}
+use Rattle.table.proofs.Answers.{headed-of}
 use Rattle.waiting.specs.Totals.{wordAt}
 
 -- ---- what a sound table says, in the numbers of code
@@ -84,12 +83,7 @@ module _ (T : List ℕ) (k : Table) (s : Sound T k) where
       (and-right (headerSound document01 T) (countsSound document01 T && (totals && last)) (s .is-sound)))))
 
   pub sheet-reads : readSheet (sheetIn document01 T) ≡ ok (columnsIn document01 T)
-  unfolding tableSound
-  sheet-reads =
-      let none = eqb (sheetFault (sheetIn document01 T)) 0 in
-      let h : startSound T && none ≡ true
-      = sym (header-is T) ∙ and-left (headerSound document01 T) _ (s .is-sound) in
-      sheet-read (sheetIn document01 T) (eqb-true (sheetFault (sheetIn document01 T)) 0 (and-right (startSound T) none h))
+  sheet-reads = sheet-read (sheetIn document01 T) (headed-of T k s .no-fault)
 
   pub sheet-long : length (sheetIn document01 T) ≡ k .sheet
   sheet-long =

@@ -5,8 +5,7 @@ ghost use Rattle.words.specs.Bytes.{bytesOfAll, splice};
 ghost use Rattle.waiting.specs.Held.{Waits};
 ghost use Rattle.waiting.specs.Totals.{wordsAdded, Addable, withPublished};
 use layout::Table;
-use layout::places::share_place;
-use layout::places::totals_place;
+use layout::places::sheet_part;
 use sheet::cursor;
 
 // Adds n words from `from` to those from `to`.
@@ -31,12 +30,11 @@ pub fn add_published(t: &mut [u8], k: Table)
     requires { ⌜ Waits (now t) k ⌝ }
     ensures { λ _. ⌜ now (t .exit) ≡ withPublished (now (t .entry)) ⌝ }
 {
-    let end = 12 + k.sheet;
-    let totals = totals_place(k.sheet);
-    let share = share_place(k.sheet, k.published, k.returns);
+    let totals = k.totals_place();
+    let share = k.share_place();
     let mut c = cursor::start();
     while c.at < k.sheet {
-        let step = cursor::next(&t[12..end], c);
+        let step = cursor::next(sheet_part(t, k.sheet), c);
         let n = step.next.published - c.published;
         add_words(t, totals + 4 * c.published, share + 4 * c.entry, n);
         c = step.next;

@@ -10,9 +10,6 @@ ghost use Rattle.rules.specs.Judging.{firstOnly, sigmaFrom};
 ghost use Rattle.message.specs.Rounds.{Placed};
 ghost use Rattle.waiting.specs.Held.{waitsIn, Waits, sigmaAt};
 use layout::Table;
-use layout::places::share_place;
-use layout::places::share_size;
-use layout::places::wait_place;
 
 // Its id; d_i and e_i in the first wait, the sums d and e in the second; r h_i(r) and tau_i.
 pub struct Waiting {
@@ -28,7 +25,7 @@ pub fn read_waiting(t: &[u8], k: Table) -> Waiting
     requires { ⌜ Waits (now t) k ⌝ }
     ensures { λ r. ⌜ r ≡ waitsIn (now (t .entry)) ⌝ }
 {
-    let at = wait_place(k.sheet, k.published, k.returns);
+    let at = k.wait_place();
     Waiting {
         id: words::read_u32(t, at),
         d: words::read_u32(t, at + 4 + 8),
@@ -65,8 +62,8 @@ pub fn sigma_of(t: &[u8], k: Table, w: Waiting, d: u32, e: u32) -> u32
     requires { ⌜ Waits (now t) k × (w ≡ waitsIn (now t)) × (d < prime) × (e < prime) ⌝ }
     ensures { λ r. ⌜ r ≡ sigmaAt (now (t .entry)) d e ⌝ }
 {
-    let place = share_place(k.sheet, k.published, k.returns);
-    let end = place + 4 * share_size(k.entries, k.gates);
+    let place = k.share_place();
+    let end = place + 4 * k.share_size();
     sigma_with(
         &t[place..end],
         k.entries + 3 + (k.gates + k.gates),

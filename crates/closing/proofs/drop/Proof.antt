@@ -53,13 +53,7 @@ returns c =
     drop-quiet (bytes u) _ (sound-table u) (sym (c .before .waits .ensures) ∙ not-true _ (c .if1 .taken))
 
 wait-place-requires : tie.Need-wait-place-requires
-wait-place-requires c κs =
-    let s = sound-table (found (c .before)) in
-    record {
-      sheet-most = s .limited .sheet-most;
-      published-most = s .limited .published-most;
-      returns-most = s .limited .returns-most;
-    }
+wait-place-requires c κs = sound-table (found (c .before)) .limited
 
 read-u32-requires : tie.Need-read-u32-requires
 read-u32-requires c κs = omega (arith, sound-table (found (c .before .before)) .long, c .wait-place .ensures)

@@ -38,56 +38,48 @@ read-requires c κs =
     let few : z .result ≤ 774 = omega (arith, z .ensures, p .pre .table .limited) in
     elements-long (p .args .m .now) _ _ (p .pre .long) (length-take-le _ _ few ∙ z .ensures)
 
-add-end : tie.Need-add-end
-add-end c = search needs
-
-sub-judge : tie.Need-sub-judge
-sub-judge c = search needs
-
-part-judge-start : tie.Need-part-judge-start
-part-judge-start c = search needs
-
-part-judge-end : tie.Need-part-judge-end
-part-judge-end c = search needs
+sheet-part-requires : tie.Need-sheet-part-requires
+sheet-part-requires c κs = search needs
 
 array-share-prefix-x : tie.Need-array-share-prefix-x
 array-share-prefix-x c =
-    let z = c .before .before .before .before .before .before .share-size in
-    let p = c .before .before .before .before .before .before .before .before .before in
+    let z = c .before .before .before .before .before .share-size in
+    let p = c .before .before .before .before .before .before .before .before in
     let few : z .result ≤ 774 = omega (arith, z .ensures, p .pre .table .limited) in
-    let x = c .before .before .before .read in
+    let x = c .before .before .read in
     let l = x .kept .1 .0 ∙ length-take-le _ _ few in
     rw (length-append, l) (omega arith)
 
 slice-aggregate-judge : tie.Need-slice-aggregate-judge
 slice-aggregate-judge c =
-    let z = c .before .before .before .before .before .before .before .share-size in
-    let p = c .before .before .before .before .before .before .before .before .before .before in
+    let z = c .before .before .before .before .before .before .share-size in
+    let p = c .before .before .before .before .before .before .before .before .before in
     let few : z .result ≤ 774 = omega (arith, z .ensures, p .pre .table .limited) in
-    let x = c .before .before .before .before .read in
+    let x = c .before .before .before .read in
     let l = x .kept .1 .0 ∙ length-take-le _ _ few in
     rw (take-at _ _ _ l) (sym l)
 
 judge-requires : tie.Need-judge-requires
 judge-requires c κs =
+    let z = c .before .before .before .before .before .before .share-size in
+    let p = c .before .before .before .before .before .before .before .before .before in
+    let few : z .result ≤ 774 = omega (arith, z .ensures, p .pre .table .limited) in
+    let x = c .before .before .before .read in
+    let l = x .kept .1 .0 ∙ length-take-le _ _ few in
+    let a = p .args in
+    rw (c .before .sheet-part .ensures, take-at _ _ _ l)
+    (the-share (a .t .now) (a .k) (a .m .now) (a .r) (a .s) (p .pre) _ (x .ensures) (l ∙ z .ensures))
+
+returns : tie.Need-returns
+returns c =
     let z = c .before .before .before .before .before .before .before .share-size in
     let p = c .before .before .before .before .before .before .before .before .before .before in
     let few : z .result ≤ 774 = omega (arith, z .ensures, p .pre .table .limited) in
     let x = c .before .before .before .before .read in
     let l = x .kept .1 .0 ∙ length-take-le _ _ few in
     let a = p .args in
-    rw (take-at _ _ _ l)
-    (the-share (a .t .now) (a .k) (a .m .now) (a .r) (a .s) (p .pre) _ (x .ensures) (l ∙ z .ensures))
-
-returns : tie.Need-returns
-returns c =
-    let z = c .before .before .before .before .before .before .before .before .share-size in
-    let p = c .before .before .before .before .before .before .before .before .before .before .before in
-    let few : z .result ≤ 774 = omega (arith, z .ensures, p .pre .table .limited) in
-    let x = c .before .before .before .before .before .read in
-    let l = x .kept .1 .0 ∙ length-take-le _ _ few in
-    let a = p .args in
-    (rw (take-at _ _ _ l) at (c .judge .ensures)) ∙ worked-out (a .t .now) (a .k) (a .m .now) (a .r) (a .s) (p .pre) _ (x .ensures)
+    (rw (c .before .before .sheet-part .ensures, take-at _ _ _ l) at (c .judge .ensures))
+    ∙ worked-out (a .t .now) (a .k) (a .m .now) (a .r) (a .s) (p .pre) _ (x .ensures)
 
 pub judged-spec : {M : Type 1} → statement M
 judged-spec =
@@ -100,10 +92,7 @@ judged-spec =
     array-borrow-prefix-x
     slice-aggregate-read
     read-requires
-    add-end
-    sub-judge
-    part-judge-start
-    part-judge-end
+    sheet-part-requires
     array-share-prefix-x
     slice-aggregate-judge
     judge-requires

@@ -16,7 +16,7 @@ use Rattle.table.proofs.counts_sound.Statement.{statement}
 use Rattle.table.proofs.counts_sound.Tie as tie
 
 abbrev given : tie.After-returns-refusal → tie.Start
-given x = x .before .before .before .before
+given x = x .before .before .before
 
 abbrev bytes : tie.After-returns-refusal → List ℕ
 bytes x = given x .args .t .now
@@ -27,53 +27,41 @@ totals-fit : (c : tie.Else1)
 totals-fit c =
     let x = c .before in
     let r = x .returns-refusal in
-    fits (bytes x) (given x .args .k) (given x .pre) (r .result) (r .ensures) (c .if1 .left)
+    fits (bytes x) (given x .args .k) (given x .pre) _ (x .before .sheet-part .ensures) (r .result) (r .ensures) (c .if1 .left)
 
-long-enough : (c : tie.Else2) → let x = c .before .before .before .before in
+long-enough : (c : tie.Else2) → let x = c .before .before .before in
     lengthOf (given x .args .k) ≤ length (bytes x)
-long-enough c = omega (arith, c .if2 .left, c .before .table-length .ensures, c .before .before .share-size .ensures)
+long-enough c = omega (arith, c .if2 .left, c .before .length .ensures)
 
 -- ---- the steps
-add-end : tie.Need-add-end
-add-end c = search needs
-
-sub-returns-refusal : tie.Need-sub-returns-refusal
-sub-returns-refusal c = search needs
-
-part-returns-refusal-start : tie.Need-part-returns-refusal-start
-part-returns-refusal-start c = search needs
-
-part-returns-refusal-end : tie.Need-part-returns-refusal-end
-part-returns-refusal-end c = search needs
+sheet-part-requires : tie.Need-sheet-part-requires
+sheet-part-requires c κs = search needs
 
 returns-refusal-requires : tie.Need-returns-refusal-requires
 returns-refusal-requires c κs =
-    let a = c .before .before .before in
-    cut-reads (a .args .t .now) (a .args .k) (a .pre)
+    let a = c .before .before in
+    cut-reads (a .args .t .now) (a .args .k) (a .pre) _ (c .sheet-part .ensures)
 
 returns : tie.Need-returns
 returns c =
     let x = c .before in
     let k = given x .args .k in
     let r = x .returns-refusal in
-    counts-unfit k (bytes x) (fits-not (bytes x) k (given x .pre) (r .result) (r .ensures) (c .if1 .taken))
+    counts-unfit k (bytes x) (fits-not (bytes x) k (given x .pre) _ (x .before .sheet-part .ensures) (r .result) (r .ensures) (c .if1 .taken))
 
-share-size-requires : tie.Need-share-size-requires
-share-size-requires c κs = search needs
-
-table-length-requires : tie.Need-table-length-requires
-table-length-requires c κs = search needs
+length-requires : tie.Need-length-requires
+length-requires c κs = search needs
 
 returns-2 : tie.Need-returns-2
 returns-2 c =
-    let one = c .before .before .before in
+    let one = c .before .before in
     counts-short (given (one .before) .args .k) (bytes (one .before)) (totals-fit one)
-    (omega (arith, c .if2 .taken, c .before .table-length .ensures, c .before .before .share-size .ensures))
+    (omega (arith, c .if2 .taken, c .before .length .ensures))
 
 returns-3 : tie.Need-returns-3
 returns-3 c =
     let two = c .before .before in
-    let one = two .before .before .before in
+    let one = two .before .before in
     counts-over (given (one .before) .args .k) (bytes (one .before)) (totals-fit one) (long-enough two)
     (omega (arith, c .if3 .taken))
 
@@ -84,7 +72,7 @@ returns-4 : tie.Need-returns-4
 returns-4 c =
     let three = c .before .before .before in
     let two = three .before .before in
-    let one = two .before .before .before in
+    let one = two .before .before in
     counts-over (given (one .before) .args .k) (bytes (one .before)) (totals-fit one) (long-enough two)
     (omega (arith, c .if4 .taken, c .before .waiting .ensures, three .if3 .left))
 
@@ -93,7 +81,7 @@ returns-5 c =
     let four = c .before in
     let three = four .before .before .before in
     let two = three .before .before in
-    let one = two .before .before .before in
+    let one = two .before .before in
     counts-but (given (one .before) .args .k) (bytes (one .before)) (totals-fit one) (long-enough two)
     (omega (arith, four .if4 .left, four .before .waiting .ensures, three .if3 .left))
 
@@ -101,14 +89,10 @@ pub counts-sound-spec : {M : Type 1} → statement M
 counts-sound-spec =
     tie.close
     (tie.spec
-    add-end
-    sub-returns-refusal
-    part-returns-refusal-start
-    part-returns-refusal-end
+    sheet-part-requires
     returns-refusal-requires
     returns
-    share-size-requires
-    table-length-requires
+    length-requires
     returns-2
     returns-3
     waiting-requires

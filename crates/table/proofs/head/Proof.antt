@@ -37,17 +37,8 @@ read-u16-requires c κs = omega (arith, tested c)
 cast-n : tie.Need-cast-n
 cast-n c = search needs
 
-add-end : tie.Need-add-end
-add-end c = search needs
-
-sub-read : tie.Need-sub-read
-sub-read c = search needs
-
-part-read-start : tie.Need-part-read-start
-part-read-start c = search needs
-
-part-read-end : tie.Need-part-read-end
-part-read-end c = omega (arith, tested (c .before))
+sheet-part-requires : tie.Need-sheet-part-requires
+sheet-part-requires c κs = omega (arith, tested (c .before))
 
 read-requires : tie.Need-read-requires
 read-requires c κs = search needs
@@ -90,7 +81,7 @@ returns-2 : tie.Need-returns-2
 returns-2 c =
     let u = c .before .before in
     let n = u .before .before in
-    head-refused _ (n .read-u16 .result) (n .read-u16 .ensures) (start-holds (n .before)) _
+    head-refused _ (n .read-u16 .result) (n .read-u16 .ensures) _ (u .before .sheet-part .ensures) (start-holds (n .before)) _
     (sym (u .read .ensures) ∙ c .enum-told .given .1)
 
 returns-3 : tie.Need-returns-3
@@ -108,7 +99,7 @@ returns-3 c =
       c .read-u164 .ensures,
       n .read-u16 .ensures,
     )
-    (head-counted _ (n .read-u16 .result) (n .read-u16 .ensures) (start-holds (n .before)) _
+    (head-counted _ (n .read-u16 .result) (n .read-u16 .ensures) _ (u .before .sheet-part .ensures) (start-holds (n .before)) _
     (sym (u .read .ensures) ∙ k .counts .given .1))
 
 pub head-spec : {M : Type 1} → statement M
@@ -119,10 +110,7 @@ head-spec =
     returns
     read-u16-requires
     cast-n
-    add-end
-    sub-read
-    part-read-start
-    part-read-end
+    sheet-part-requires
     read-requires
     enum-told
     enum-known-counts

@@ -4,9 +4,6 @@ use borrow.Author.Needs.{needs}
 use Rattle.layout.proofs.writing.erase.Statement.{statement}
 use Rattle.layout.proofs.writing.erase.Tie as tie
 
-share-size-requires : tie.Need-share-size-requires
-share-size-requires c κs = search needs
-
 wait-place-requires : tie.Need-wait-place-requires
 wait-place-requires c κs = search needs
 
@@ -26,7 +23,6 @@ returns c =
       k .clear .ensures,
       k .before .kept-length .ensures,
       k .before .before .wait-place .ensures,
-      k .before .before .before .before .share-size .ensures,
     )
     refl
 
@@ -34,7 +30,6 @@ pub erase-spec : {M : Type 1} → statement M
 erase-spec =
     tie.close
     (tie.spec
-    share-size-requires
     wait-place-requires
     kept-length-requires
     clear-requires

@@ -10,13 +10,10 @@ use Rattle.waiting.proofs.adding.add_published.Statement.{statement}
 use Rattle.waiting.proofs.adding.add_published.Tie as tie
 
 abbrev Inv-loop : tie.InvT-loop
-Inv-loop t₀ k end totals share c₀ t c = Waits t₀ k × Added t₀ k t c
+Inv-loop t₀ k totals share c₀ t c = Waits t₀ k × Added t₀ k t c
 
 abbrev μ-loop : tie.MeasureT-loop
-μ-loop t₀ k end totals share c₀ t c = k .sheet - c .at
-
-add-end : tie.Need-add-end Inv-loop μ-loop
-add-end c = search needs
+μ-loop t₀ k totals share c₀ t c = k .sheet - c .at
 
 totals-place-requires : tie.Need-totals-place-requires Inv-loop μ-loop
 totals-place-requires c κs = search needs
@@ -29,17 +26,11 @@ start-requires c κs = search needs
 
 loop-holds : tie.Need-loop-holds Inv-loop μ-loop
 loop-holds c =
-    let a = c .before .before .before .before .before in
+    let a = c .before .before .before .before in
     (a .pre, added-start (a .args .t .now) (a .args .k) (c .start .result) (c .start .ensures))
 
-sub-next : tie.Need-sub-next Inv-loop μ-loop
-sub-next c = search needs
-
-part-next-start : tie.Need-part-next-start Inv-loop μ-loop
-part-next-start c = search needs
-
-part-next-end : tie.Need-part-next-end Inv-loop μ-loop
-part-next-end c =
+sheet-part-requires : tie.Need-sheet-part-requires Inv-loop μ-loop
+sheet-part-requires c κs =
     let l = c .before .before .before .before in
     omega (arith, l .loop .inv .0 .sound .long, l .loop .inv .1 .same)
 
@@ -49,11 +40,11 @@ next-requires c κs =
     let l = i .before .before .before in
     let h = l .before .before in
     let p = h .before in
-    let a = p .before .before .before in
+    let a = p .before .before in
     let T = a .args .t .now in
     let v = l .loop .inv .0 in
     let w = l .loop .inv .1 in
-    added-stands T (a .args .k) v (l .loop .t) (l .loop .c) w (i .if1 .taken)
+    rw (c .sheet-part .ensures) (added-stands T (a .args .k) v (l .loop .t) (l .loop .c) w (i .if1 .taken))
 
 sub-n : tie.Need-sub-n Inv-loop μ-loop
 sub-n c =
@@ -62,11 +53,12 @@ sub-n c =
     let l = i .before .before .before in
     let h = l .before .before in
     let p = h .before in
-    let a = p .before .before .before in
+    let a = p .before .before in
     let T = a .args .t .now in
     let v = l .loop .inv .0 in
     let w = l .loop .inv .1 in
-    omega (arith, next-published T (a .args .k) v (l .loop .t) (l .loop .c) w (i .if1 .taken) (n .next .result) (n .next .ensures))
+    let e = rw (n .before .sheet-part .ensures) at (n .next .ensures) in
+    omega (arith, next-published T (a .args .k) v (l .loop .t) (l .loop .c) w (i .if1 .taken) (n .next .result) e)
 
 mul-add-words : tie.Need-mul-add-words Inv-loop μ-loop
 mul-add-words c =
@@ -106,12 +98,13 @@ add-words-requires c κs =
     let l = i .before .before .before in
     let h = l .before .before in
     let p = h .before in
-    let a = p .before .before .before in
+    let a = p .before .before in
     let T = a .args .t .now in
     let v = l .loop .inv .0 in
     let w = l .loop .inv .1 in
+    let e = rw (n .before .sheet-part .ensures) at (n .next .ensures) in
     rw (p .totals-place .ensures, h .share-place .ensures)
-    (added-addable T (a .args .k) v (l .loop .t) (l .loop .c) w (i .if1 .taken) (n .next .result) (n .next .ensures))
+    (added-addable T (a .args .k) v (l .loop .t) (l .loop .c) w (i .if1 .taken) (n .next .result) e)
 
 loop-less : tie.Need-loop-less Inv-loop μ-loop
 loop-less c =
@@ -120,11 +113,12 @@ loop-less c =
     let l = i .before .before .before in
     let h = l .before .before in
     let p = h .before in
-    let a = p .before .before .before in
+    let a = p .before .before in
     let T = a .args .t .now in
     let v = l .loop .inv .0 in
     let w = l .loop .inv .1 in
-    added-less T (a .args .k) v (l .loop .t) (l .loop .c) w (i .if1 .taken) (n .next .result) (n .next .ensures)
+    let e = rw (n .before .sheet-part .ensures) at (n .next .ensures) in
+    added-less T (a .args .k) v (l .loop .t) (l .loop .c) w (i .if1 .taken) (n .next .result) e
 
 loop-again : tie.Need-loop-again Inv-loop μ-loop
 loop-again c =
@@ -134,12 +128,13 @@ loop-again c =
     let l = i .before .before .before in
     let h = l .before .before in
     let p = h .before in
-    let a = p .before .before .before in
+    let a = p .before .before in
     let T = a .args .t .now in
     let v = l .loop .inv .0 in
     let w = l .loop .inv .1 in
-    let e = rw (p .totals-place .ensures, h .share-place .ensures) at (d .add-words .ensures) in
-    (v, added-turn T (a .args .k) v (l .loop .t) (l .loop .c) w (i .if1 .taken) (n .next .result) (n .next .ensures) _ e)
+    let e = rw (n .before .sheet-part .ensures) at (n .next .ensures) in
+    let f = rw (p .totals-place .ensures, h .share-place .ensures) at (d .add-words .ensures) in
+    (v, added-turn T (a .args .k) v (l .loop .t) (l .loop .c) w (i .if1 .taken) (n .next .result) e _ f)
 
 same-length : tie.Need-same-length Inv-loop μ-loop
 same-length c = c .before .before .before .loop .inv .1 .same
@@ -149,7 +144,7 @@ returns c =
     let l = c .before .before .before in
     let h = l .before .before in
     let p = h .before in
-    let a = p .before .before .before in
+    let a = p .before .before in
     let T = a .args .t .now in
     let v = l .loop .inv .0 in
     let w = l .loop .inv .1 in
@@ -161,14 +156,11 @@ add-published-spec =
     (tie.spec
     Inv-loop
     μ-loop
-    add-end
     totals-place-requires
     share-place-requires
     start-requires
     loop-holds
-    sub-next
-    part-next-start
-    part-next-end
+    sheet-part-requires
     next-requires
     sub-n
     mul-add-words

@@ -2,6 +2,8 @@
 // are those of the crate rules, at document 01's setting, and of specs/. A refusal leaves the table and the buffer as
 // they were.
 ghost use Rattle.closing.specs.Calls.{Drops, Closes};
+use layout::CLOSED;
+use layout::IDLE;
 use layout::writing::decide;
 use layout::writing::write_closing;
 use records::Written;
@@ -33,7 +35,7 @@ pub fn close(table: &mut [u8], out: &mut [u8]) -> Written
     match read(table) {
         Found::Refused(fault) => Written::Refused(fault),
         Found::Table(k) => {
-            if k.stage != 0 {
+            if k.stage != IDLE {
                 return Written::Refused(11);
             }
             let size = 6 + 4 * k.published;
@@ -41,7 +43,7 @@ pub fn close(table: &mut [u8], out: &mut [u8]) -> Written
                 return Written::Refused(14);
             }
             write_closing(table, k, out);
-            table[1] = 3;
+            table[1] = CLOSED;
             Written::Done(size)
         }
     }

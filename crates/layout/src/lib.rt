@@ -3,9 +3,18 @@
 pub mod places;
 pub mod writing;
 
+// The stages of a table.
+pub const IDLE: u8 = 0;
+
+pub const AWAITS_ONE: u8 = 1;
+
+pub const AWAITS_TWO: u8 = 2;
+
+pub const CLOSED: u8 = 3;
+
 // What a table says: its header, and what its sheet comes to.
 pub struct Table {
-    pub stage: u32,
+    pub stage: u8,
     pub servers: u32,
     pub own: u32,
     pub returns: u32,

@@ -5,6 +5,7 @@ ghost use lib.ListN.{length, replicate};
 ghost use Rattle.words.specs.Bytes.{splice};
 ghost use Rattle.layout.specs.Writing.{startBytes, erased, decidedAs, Decidable, closingBytes, Closable};
 ghost use Rattle.layout.specs.Numbers.{Whole};
+use crate::IDLE;
 use crate::Table;
 
 // Clears n bytes from `at`.
@@ -25,7 +26,7 @@ pub fn write_start(t: &mut [u8], servers: u8, own: u8, returns: u32, n: u32)
     ensures { λ _. ⌜ now (t .exit) ≡ splice (now (t .entry)) 0 (startBytes servers own returns n) ⌝ }
 {
     t[0] = 1;
-    t[1] = 0;
+    t[1] = IDLE;
     t[2] = servers;
     t[3] = own;
     words::write_u16(t, 4, returns);
@@ -52,7 +53,7 @@ pub fn decide(t: &mut [u8], k: Table, accepted: u32, id: u32)
     words::write_u16(t, 8, k.accepted + accepted);
     words::write_u32(t, k.ids_place() + 4 * (decided as usize), id);
     erase(t, k);
-    t[1] = 0;
+    t[1] = IDLE;
 }
 
 // Writes the closing message of a table.

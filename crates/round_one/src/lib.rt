@@ -10,6 +10,8 @@ ghost use Rattle.rules.specs.Table.{oneTable, oneBytes};
 ghost use Rattle.waiting.specs.Held.{waitsIn, Waits};
 ghost use Rattle.round_one.specs.One.{oneFaultAt, sumsStored, OneReady};
 ghost use Rattle.round_one.specs.Calls.{RoundOne};
+use layout::AWAITS_ONE;
+use layout::AWAITS_TWO;
 use layout::Table;
 use records::Written;
 use table::Found;
@@ -41,7 +43,7 @@ fn store_sums(t: &mut [u8], at: usize, d: u32, e: u32)
 {
     words::write_u32(t, at, d);
     words::write_u32(t, at + 4, e);
-    t[1] = 2;
+    t[1] = AWAITS_TWO;
 }
 
 // Stores the sums of the joined messages, and writes the own message of round two.
@@ -67,7 +69,7 @@ pub fn round_one(table: &mut [u8], joined: &[u8], out: &mut [u8]) -> Written
     match read(table) {
         Found::Refused(fault) => Written::Refused(fault),
         Found::Table(k) => {
-            if k.stage != 1 {
+            if k.stage != AWAITS_ONE {
                 return Written::Refused(11);
             }
             let w = read_waiting(table, k);

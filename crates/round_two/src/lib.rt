@@ -9,6 +9,7 @@ ghost use Rattle.message.specs.Rounds.{Summable};
 ghost use Rattle.waiting.specs.Held.{waitsIn, Waits};
 ghost use Rattle.round_two.specs.Two.{twoFaultAt, TwoReady};
 ghost use Rattle.round_two.specs.Calls.{RoundTwo};
+use layout::AWAITS_TWO;
 use layout::Table;
 use layout::writing::decide;
 use table::Found;
@@ -68,7 +69,7 @@ pub fn round_two(table: &mut [u8], joined: &[u8]) -> Verdict
     match read(table) {
         Found::Refused(fault) => Verdict::Refused(fault),
         Found::Table(k) => {
-            if k.stage != 2 {
+            if k.stage != AWAITS_TWO {
                 return Verdict::Refused(11);
             }
             let w = read_waiting(table, k);

@@ -7,6 +7,7 @@ ghost use Rattle.rules.specs.Server.{shareRefusal};
 ghost use Rattle.rules.specs.Table.{tableState};
 ghost use Rattle.table.specs.Reading.{Sound};
 ghost use Rattle.share_checks.specs.Checks.{startFault, messageFault, lastFault, Fitting};
+use layout::IDLE;
 use layout::Table;
 use records::or_else;
 use table::has_id;
@@ -16,7 +17,7 @@ use table::pair_sound;
 fn start_refusal(k: Table) -> u32
     ensures { λ n. ⌜ n ≡ startFault k ⌝ }
 {
-    if k.stage != 0 {
+    if k.stage != IDLE {
         return 11;
     }
     if k.decided < k.returns {

@@ -11,6 +11,7 @@ ghost use Rattle.snip.specs.Judged.{judgedOf};
 ghost use Rattle.shares.specs.Calls.{Shares};
 ghost use Rattle.shares.specs.Taking.{waitBytes, Takable};
 use columns::Counts;
+use layout::AWAITS_ONE;
 use layout::Table;
 use layout::places::sheet_part;
 use records::Written;
@@ -59,7 +60,7 @@ fn take(table: &mut [u8], k: Table, m: &[u8], r: u32, s: u32, out: &mut [u8])
     let at = k.wait_place();
     write_waiting(table, at, id, r, s, j);
     words::copy(table, at + 28, &m[6..]);
-    table[1] = 1;
+    table[1] = AWAITS_ONE;
     message::write_round(out, 34, id, k.own as u8, j.d, j.e);
 }
 

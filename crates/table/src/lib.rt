@@ -8,6 +8,9 @@ ghost use Rattle.rules.specs.Server.{isMember};
 ghost use Rattle.layout.specs.Numbers.{Whole};
 ghost use Rattle.table.specs.Reading.{startSound, headIn, foundIn};
 ghost use Rattle.table.specs.Reading.{countsSoundAt, totalsSoundAt, pairSound, waitingSoundAt, Headed};
+use layout::AWAITS_ONE;
+use layout::AWAITS_TWO;
+use layout::CLOSED;
 use layout::Table;
 use layout::places::sheet_part;
 use sheet::Reading;
@@ -43,17 +46,17 @@ pub fn has_id(ids: &[u8], id: u32) -> bool
 }
 
 // Whether a return waits at a stage.
-pub fn waits(stage: u32) -> bool
+pub fn waits(stage: u8) -> bool
     ensures { λ r. ⌜ r ≡ within 1 2 stage ⌝ }
 {
-    if stage < 1 {
+    if stage < AWAITS_ONE {
         return false;
     }
-    stage <= 2
+    stage <= AWAITS_TWO
 }
 
 // How many returns wait at a stage.
-fn waiting(stage: u32) -> u32
+fn waiting(stage: u8) -> u32
     ensures { λ r. ⌜ r ≡ cond (within 1 2 stage) 1 0 ⌝ }
 {
     if waits(stage) {
@@ -72,7 +75,7 @@ fn start_sound(t: &[u8]) -> bool
     if t[0] != 1 {
         return false;
     }
-    if 3 < t[1] {
+    if CLOSED < t[1] {
         return false;
     }
     if t[2] < 2 {
@@ -105,7 +108,7 @@ fn head(t: &[u8]) -> Found
     match sheet::read(sheet_part(t, n)) {
         Reading::Refused(_) => Found::Refused(UNSOUND),
         Reading::Counts(counts) => Found::Table(Table {
-            stage: wide(t[1]),
+            stage: t[1],
             servers: wide(t[2]),
             own: wide(t[3]),
             returns: words::read_u16(t, 4),

@@ -49,33 +49,29 @@ enum-told c = search needs
 enum-known-counts : tie.Need-enum-known-counts
 enum-known-counts c = search needs
 
+shared-slice-read-t11 : tie.Need-shared-slice-read-t11
+shared-slice-read-t11 c = omega (arith, counted (c .before .before))
+
 shared-slice-read-wide : tie.Need-shared-slice-read-wide
-shared-slice-read-wide c = omega (arith, counted (c .before .before))
+shared-slice-read-wide c = omega (arith, counted (c .before .before .before))
 
 wide-requires : tie.Need-wide-requires
 wide-requires c κs = search needs
 
 shared-slice-read-wide-2 : tie.Need-shared-slice-read-wide-2
-shared-slice-read-wide-2 c = omega (arith, counted (c .before .before .before .before))
+shared-slice-read-wide-2 c = omega (arith, counted (c .before .before .before .before .before))
 
 wide-requires-2 : tie.Need-wide-requires-2
 wide-requires-2 c κs = search needs
 
-shared-slice-read-wide-3 : tie.Need-shared-slice-read-wide-3
-shared-slice-read-wide-3 c = omega (arith, counted (c .before .before .before .before .before .before))
-
-wide-requires-3 : tie.Need-wide-requires-3
-wide-requires-3 c κs = search needs
-
 read-u16-requires-2 : tie.Need-read-u16-requires-2
-read-u16-requires-2 c κs = omega (arith, counted (c .before .before .before .before .before .before .before))
+read-u16-requires-2 c κs = omega (arith, counted (c .before .before .before .before .before .before))
 
 read-u16-requires-3 : tie.Need-read-u16-requires-3
-read-u16-requires-3 c κs = omega (arith, counted (c .before .before .before .before .before .before .before .before))
+read-u16-requires-3 c κs = omega (arith, counted (c .before .before .before .before .before .before .before))
 
 read-u16-requires-4 : tie.Need-read-u16-requires-4
-read-u16-requires-4 c κs =
-    let k = c .before .before .before .before .before .before .before .before .before in omega (arith, counted k)
+read-u16-requires-4 c κs = omega (arith, counted (c .before .before .before .before .before .before .before .before))
 
 returns-2 : tie.Need-returns-2
 returns-2 c =
@@ -86,14 +82,13 @@ returns-2 c =
 
 returns-3 : tie.Need-returns-3
 returns-3 c =
-    let w = c .before .before .before .before .before .before .before in
-    let k = w .before .before .before in
+    let w = c .before .before .before .before .before in
+    let k = w .before .before .before .before in
     let u = k .before .before in
     let n = u .before .before in
     rw (
       w .wide .ensures,
-      c .before .before .before .before .before .wide2 .ensures,
-      c .before .before .before .wide3 .ensures,
+      c .before .before .before .wide2 .ensures,
       c .before .before .read-u162 .ensures,
       c .before .read-u163 .ensures,
       c .read-u164 .ensures,
@@ -114,12 +109,11 @@ head-spec =
     read-requires
     enum-told
     enum-known-counts
+    shared-slice-read-t11
     shared-slice-read-wide
     wide-requires
     shared-slice-read-wide-2
     wide-requires-2
-    shared-slice-read-wide-3
-    wide-requires-3
     read-u16-requires-2
     read-u16-requires-3
     read-u16-requires-4

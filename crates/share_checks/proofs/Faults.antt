@@ -43,11 +43,13 @@ module _ (size own : ℕ) (m : List ℕ) where
     unfolding messageFault elementsFault
     message-rest = rw (e, or-none, part-sound size own m e)
 
-    pub message-sound : allBelow 2147483647 (elementsOf 4 (sharePart size own m)) ≡ true → 0 ≡ messageFault size own m
-    message-sound b = sym (message-rest ∙ rw b)
+    -- x is the part behind the header
+    module _ (x : List ℕ) (ex : x ≡ sharePart size own m) where
+      pub message-sound : allBelow 2147483647 (elementsOf 4 x) ≡ true → 0 ≡ messageFault size own m
+      message-sound b = sym (message-rest ∙ rw (← ex, b))
 
-    pub message-over : allBelow 2147483647 (elementsOf 4 (sharePart size own m)) ≡ false → 8 ≡ messageFault size own m
-    message-over b = sym (message-rest ∙ rw b)
+      pub message-over : allBelow 2147483647 (elementsOf 4 x) ≡ false → 8 ≡ messageFault size own m
+      message-over b = sym (message-rest ∙ rw (← ex, b))
 
 -- ---- the id, the pair and the room, as the code finds them
 module _ (T : List ℕ) (k : Table) (m : List ℕ) (r s room : ℕ) where

@@ -5,6 +5,8 @@ ghost use Prim.Native.Nat.{_≤_};
 ghost use Rattle.rules.specs.Settings.{document01};
 ghost use Rattle.rules.specs.Server.{shareRefusal};
 ghost use Rattle.rules.specs.Table.{tableState};
+ghost use Rattle.message.specs.Shares.{sharePart};
+ghost use Rattle.layout.specs.Places.{sizeOf};
 ghost use Rattle.table.specs.Reading.{Sound};
 ghost use Rattle.share_checks.specs.Checks.{startFault, messageFault, lastFault, Fitting};
 use layout::IDLE;
@@ -26,16 +28,16 @@ fn start_refusal(k: Table) -> u32
     13
 }
 
-// The refusal by the message of a share of `size` elements: 7 by its header, 8 by an element, 0 for none.
-fn message_refusal(m: &[u8], size: usize, own: u32) -> u32
-    requires { ⌜ size ≤ 774 ⌝ }
+// The refusal by the message of a share of `size` elements, whose bytes are x: 7 by its header, 8 by an element, 0 for none.
+fn message_refusal(m: &[u8], x: &[u8], size: usize, own: u32) -> u32
+    requires { ⌜ (size ≤ 774) × (now x ≡ sharePart size own (now m)) ⌝ }
     ensures { λ n. ⌜ n ≡ messageFault size own (now (m .entry)) ⌝ }
 {
     let refusal = message::header_refusal(m, size, own);
     if refusal != 0 {
         return refusal;
     }
-    if elements::below(message::share_part(m, size, own), field::P) {
+    if elements::below(x, field::P) {
         return 0;
     }
     8
@@ -61,13 +63,13 @@ fn last_refusal(t: &[u8], k: Table, m: &[u8], r: u64, s: u64, room: usize) -> u3
     0
 }
 
-// The refusal of a share by a sound table, 0 for none: 11, 13, 7, 8, 10, 9, 14.
-pub fn share_refusal(t: &[u8], k: Table, m: &[u8], r: u64, s: u64, room: usize) -> u32
-    requires { ⌜ Sound (now t) k ⌝ }
+// The refusal of a share, of which x are the element bytes, by a sound table, 0 for none: 11, 13, 7, 8, 10, 9, 14.
+pub fn share_refusal(t: &[u8], k: Table, m: &[u8], x: &[u8], r: u64, s: u64, room: usize) -> u32
+    requires { ⌜ Sound (now t) k × (now x ≡ sharePart (sizeOf (k .entries) (k .gates)) (k .own) (now m)) ⌝ }
     ensures { λ n. ⌜ n ≡ shareRefusal document01 (tableState document01 (now (t .entry))) (now (m .entry)) r s room ⌝ }
 {
     let first = start_refusal(k);
-    let second = message_refusal(m, k.share_size(), k.own);
+    let second = message_refusal(m, x, k.share_size(), k.own);
     let refusal = or_else(first, second);
     if refusal != 0 {
         return refusal;

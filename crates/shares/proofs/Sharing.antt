@@ -1,12 +1,13 @@
 -- A share: refused where the table is unsound or a check refuses, else taken; what is taken keeps to the limits that
 -- taking asks for (`takable`). Assumes nothing.
-use mathlib.Core.Path.{_≡_, sym, _∙_}
+use mathlib.Core.Path.{_≡_, sym, ap, _∙_}
 use mathlib.Core.Bool.{true, not, _&&_}
 use mathlib.Core.List.{List}
-use Prim.Native.Nat.{ℕ, _*_, _≤_, _<_}
+use Prim.Native.Nat.{ℕ, _+_, _*_, _≤_, _<_}
+use native.Mathlib.Omega.{arith}
 use borrow.Author.Tests.{ne-eqb, ltb-true, leb-true}
 use lib.Dec.{ltb, leb}
-use lib.ListN.{length}
+use lib.ListN.{length, drop, length-drop}
 use Rattle.algebra.proofs.Members.{and-left, and-right}
 use Rattle.words.specs.Bytes.{part, elementsOf, allBelow, splice}
 use Rattle.records.specs.Answers.{answered, onlyIf}
@@ -17,8 +18,8 @@ use Rattle.rules.specs.Columns.{check}
 use Rattle.rules.specs.Messages.{idIn, shareElements, elementsFault}
 use Rattle.rules.specs.Server.{isMember, shareRefusal}
 use Rattle.rules.specs.Table.{tableState, tableFault, shareRefused, shareTable, shareBytes}
-use Rattle.message.specs.Shares.{headerFaultAt}
-use Rattle.message.proofs.Shares.{header-long}
+use Rattle.message.specs.Shares.{headerFaultAt, sharePart}
+use Rattle.message.proofs.Shares.{header-long, part-sound}
 use Rattle.message.proofs.Parts.{check-holds}
 use Rattle.layout.specs.Places.{idsAt, sizeOf}
 use Rattle.layout.specs.declared.Table.{Table}
@@ -77,21 +78,31 @@ module _ (T m : List ℕ) (r s : ℕ) (out : List ℕ) where
             ltb-true s 2147483647 (and-right (ltb r 2147483647) (ltb s 2147483647) c),
           )
 
-      pub takable : Takable T k m r s × (14 ≤ length out)
+      -- x is the part that the check of the header hands back
+      pub takable : (x : List ℕ) → x ≡ sharePart (sizeOf (k .entries) (k .gates)) (k .own) m
+          → Takable T k m x r s × (14 ≤ length out)
       unfolding messageFault elementsFault
-      takable =
+      takable x ex =
           let size = sizeOf (k .entries) (k .gates) in
           let a = or-zero (startFault k) _ (sym (refusal-in-order T m r s (length out) k h) ∙ sym e ∙ none) in
           let b = or-zero (messageFault size (k .own) m) (lastFault T k m r s (length out)) (a .1) in
           let c = or-zero (headerFaultAt size (k .own) m) (elementsFault document01 m) (b .0) in
           let d = pair-holds (b .1) in
-          let f = pair-below (d .0) in (
+          let f = pair-below (d .0) in
+          let q : x ≡ drop 6 m = ex ∙ part-sound size (k .own) m (c .0) in
+          let l : length m ≡ 6 + 4 * size = header-long size (k .own) m (c .0) in
+          let n : length x ≡ 4 * size = ap length q ∙ length-drop 6 m ∙ omega arith in (
             record {
-              table = h;
-              long = header-long size (k .own) m (c .0);
-              elements = check-holds (allBelow 2147483647 (shareElements document01 m)) 7 (c .1);
-              r-below = f .0;
-              s-below = f .1;
+              judgeable =
+                  record {
+                    table = h;
+                    long = n;
+                    elements = rw q (check-holds (allBelow 2147483647 (shareElements document01 m)) 7 (c .1));
+                    r-below = f .0;
+                    s-below = f .1;
+                  };
+              header = omega arith;
+              part = q;
             },
             d .1,
           )

@@ -2,10 +2,10 @@
 -- is the one of what was worked out. What judging gives is what rules note, by unfolding both. Assumes nothing.
 use mathlib.Core.Path.{_≡_, refl, _∙_}
 use mathlib.Core.List.{List, [], _∷_, _++_}
-use Prim.Native.Nat.{ℕ, _+_, _-_, _*_, _≤_}
+use Prim.Native.Nat.{ℕ, _+_, _*_, _≤_}
 use native.Mathlib.Omega.{arith}
-use lib.ListN.{length, take, drop, set, length-append, length-drop}
-use Rattle.words.specs.Bytes.{bytesOf, bytesOfAll, splice}
+use lib.ListN.{length, drop, set, length-append}
+use Rattle.words.specs.Bytes.{bytesOf, bytesOfAll, elementsOf, splice}
 use Rattle.words.proofs.Splice.{length-splice}
 use Rattle.words.proofs.Elements.{length-bytes-all}
 use Rattle.words.proofs.Loops.{sets-splice, grow}
@@ -13,7 +13,6 @@ use Rattle.rules.specs.Settings.{document01}
 use Rattle.rules.specs.Messages.{idIn, shareElements, roundMessage}
 use Rattle.rules.specs.Server.{waitingOf, messageOne}
 use Rattle.rules.specs.Table.{columnsIn, shareTable, shareBytes, waitPlace}
-use Rattle.message.proofs.Parts.{to-end}
 use Rattle.snip.specs.Judged.{judgedOf}
 use Rattle.snip.specs.declared.judging.Judged.{Judged}
 use Rattle.layout.specs.Places.{waitAt, sizeOf}
@@ -49,24 +48,27 @@ module _ (T m : List ℕ) (r s : ℕ) where
   message-at = refl
 
 -- what the code writes
-module _ (T : List ℕ) (k : Table) (m : List ℕ) (r s : ℕ) (h : Takable T k m r s) (id : ℕ) (j : Judged) (ei : id ≡ idIn m)
-    (ej : j ≡ judgedOf (columnsIn document01 T) (k .own) (shareElements document01 m) r s) where
+module _ (T : List ℕ) (k : Table) (m x : List ℕ) (r s : ℕ) (h : Takable T k m x r s) (id : ℕ) (j : Judged) (ei : id ≡ idIn m)
+    (ex : j ≡ judgedOf (columnsIn document01 T) (k .own) (elementsOf 4 x) r s) where
   table-is : takenAs T m r s k ≡ shareTable document01 T m r s
-  table-is = rw (h .table .says) (table-at T m r s)
+  table-is = rw (h .judgeable .table .says) (table-at T m r s)
+
+  ej : j ≡ judgedOf (columnsIn document01 T) (k .own) (shareElements document01 m) r s
+  ej = rw (h .part) at ex
 
   pub table-written : (a : ℕ) → a ≡ waitAt (k .sheet) (k .published) (k .returns)
-      → set (splice (splice T a (waitBytes id r s j)) (a + 28) (take (length m - 6) (drop 6 m))) 1 1
+      → set (splice (splice T a (waitBytes id r s j)) (a + 28) x) 1 1
       ≡ shareTable document01 T m r s
   table-written a ea =
       let l : length (waitBytes id r s j) ≡ 28 = length-wait id r s j in
-      let n : length (drop 6 m) ≡ 4 * sizeOf (k .entries) (k .gates) = rw length-drop (omega (arith, h .long)) in
-      let ys : List ℕ = waitBytes id r s j ++ drop 6 m in
+      let n : length x ≡ 4 * sizeOf (k .entries) (k .gates) = h .judgeable .long in
+      let ys : List ℕ = waitBytes id r s j ++ x in
       let ly : length ys ≡ 28 + 4 * sizeOf (k .entries) (k .gates) = simp length-append (omega arith) in
-      let room : a + length ys ≤ length T = omega (arith, h .table .long) in
+      let room : a + length ys ≤ length T = omega (arith, h .judgeable .table .long) in
       let lt : length (splice T a ys) ≡ length T = length-splice T a ys room in
-      rw (to-end 6 m, grow T a (waitBytes id r s j) (drop 6 m) 28 l (omega arith))
-      (sets-splice (splice T a ys) 1 (1 ∷ []) (omega (arith, h .table .long))
-      ∙ rw (ea, ei, ej) table-is)
+      rw (grow T a (waitBytes id r s j) x 28 l (omega arith))
+      (sets-splice (splice T a ys) 1 (1 ∷ []) (omega (arith, h .judgeable .table .long))
+      ∙ rw (h .part, ea, ei, ej) table-is)
 
   pub message-written : roundMessage document01 34 id (k .own) (j .d) (j .e) ≡ shareBytes document01 T m r s
-  message-written = rw (ei, ej, h .table .says) (message-at T m r s)
+  message-written = rw (ei, ej, h .judgeable .table .says) (message-at T m r s)

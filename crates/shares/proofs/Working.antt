@@ -2,18 +2,15 @@
 -- that it reads are those of the message, and both are what judging asks for. Assumes nothing.
 use mathlib.Core.Path.{_≡_, refl, ap, _∙_}
 use mathlib.Core.List.{List}
-use Prim.Native.Nat.{ℕ, _+_, _-_, _*_}
-use native.Mathlib.Omega.{arith}
-use lib.ListN.{length, take, drop, length-drop}
+use Prim.Native.Nat.{ℕ}
+use lib.ListN.{length}
 use Rattle.words.specs.Bytes.{part, elementsOf}
 use Rattle.words.proofs.Below.{all-of-below}
 use Rattle.records.specs.Outcome.{ok}
 use Rattle.rules.specs.Settings.{document01}
 use Rattle.rules.specs.Columns.{readSheet, columnsOf}
 use Rattle.rules.specs.Judging.{shareSize}
-use Rattle.rules.specs.Messages.{shareElements}
 use Rattle.rules.specs.Table.{sheetIn, columnsIn}
-use Rattle.message.proofs.Parts.{to-end}
 use Rattle.columns.specs.declared.Counts.{Counts}
 use Rattle.columns.specs.Counting.{countsOf}
 use Rattle.snip.specs.Judged.{Share, judgedOf}
@@ -22,7 +19,7 @@ use Rattle.layout.specs.declared.Table.{Table}
 use Rattle.table.specs.Reading.{tableOf, Sound}
 use Rattle.table.proofs.Answers.{headed-of}
 use Rattle.table.proofs.Judged.{cut-reads}
-use Rattle.shares.specs.Taking.{Takable}
+use Rattle.shares.specs.Taking.{Judgeable}
 
 -- ---- the sheet
 -- the sheet as the code cuts it out
@@ -56,28 +53,20 @@ module _ (T : List ℕ) (k : Table) (h : Sound T k) where
   unfolding tableOf shareSize
   size-is = rw (sheet-cut, h .says)
 
--- ---- the elements
--- the part behind the header holds n elements
-pub elements-long : (m : List ℕ) (n z : ℕ) → length m ≡ 6 + 4 * z → n ≡ z → length (take (length m - 6) (drop 6 m)) ≡ 4 * n
-elements-long m n z h e = rw (to-end 6 m, length-drop) (omega arith)
-
-module _ (T : List ℕ) (k : Table) (m : List ℕ) (r s : ℕ) (h : Takable T k m r s) (xs : List ℕ)
-    (ex : xs ≡ elementsOf 4 (take (length m - 6) (drop 6 m))) where
-  elements-are : xs ≡ shareElements document01 m
-  elements-are = ex ∙ ap (elementsOf 4) (to-end 6 m)
-
+-- ---- the elements xs of the share's bytes x
+module _ (T : List ℕ) (k : Table) (x : List ℕ) (r s : ℕ) (h : Judgeable T k x r s) (xs : List ℕ) (ex : xs ≡ elementsOf 4 x) where
   pub the-share : length xs ≡ sizeOf (k .entries) (k .gates) → Share (sheetCut T k) (countsAt k) xs r s
   the-share l = record {
     is-read = sheet-reads T k (h .table);
     counts-are = counts-are T k (h .table);
     size = l ∙ size-is T k (h .table);
-    elements = rw elements-are (all-of-below 2147483647 (shareElements document01 m) (h .elements));
+    elements = rw ex (all-of-below 2147483647 (elementsOf 4 x) (h .elements));
     r-below = h .r-below;
     s-below = h .s-below;
   }
 
   pub worked-out : judgedOf (columnsOf (sheetCut T k)) (k .own) xs r s
-      ≡ judgedOf (columnsIn document01 T) (k .own) (shareElements document01 m) r s
+      ≡ judgedOf (columnsIn document01 T) (k .own) (elementsOf 4 x) r s
   worked-out =
       ap (λ (l : List ℕ). judgedOf (columnsOf l) (k .own) xs r s) (sheet-cut T k (h .table))
-      ∙ ap (λ (l : List ℕ). judgedOf (columnsIn document01 T) (k .own) l r s) elements-are
+      ∙ ap (λ (l : List ℕ). judgedOf (columnsIn document01 T) (k .own) l r s) ex

@@ -3,11 +3,9 @@
 use mathlib.Core.Path.{_≡_}
 use mathlib.Core.Bool.{true}
 use mathlib.Core.List.{List, [], _∷_}
-use Prim.Native.Nat.{ℕ, _+_, _*_, _<_}
-use lib.ListN.{length}
-use Rattle.words.specs.Bytes.{bytesOfAll, allBelow}
-use Rattle.rules.specs.Settings.{document01}
-use Rattle.rules.specs.Messages.{shareElements}
+use Prim.Native.Nat.{ℕ, _*_, _≤_, _<_}
+use lib.ListN.{length, drop}
+use Rattle.words.specs.Bytes.{bytesOfAll, elementsOf, allBelow}
 use Rattle.layout.specs.Places.{sizeOf}
 use Rattle.layout.specs.declared.Table.{Table}
 use Rattle.table.specs.Reading.{Sound}
@@ -17,10 +15,16 @@ use Rattle.snip.specs.declared.judging.Judged.{Judged}
 unfoldable pub waitBytes : ℕ → ℕ → ℕ → Judged → List ℕ
 waitBytes id r s j = bytesOfAll 4 (id ∷ r ∷ s ∷ j .d ∷ j .e ∷ j .rh ∷ j .tau ∷ [])
 
--- a share that is not refused
-pub record Takable (T : List ℕ) (k : Table) (m : List ℕ) (r s : ℕ) : Type 0 where
+-- the bytes x of the elements of a share, and a pair, that judging can take
+pub record Judgeable (T : List ℕ) (k : Table) (x : List ℕ) (r s : ℕ) : Type 0 where
   pub table : Sound T k
-  pub long : length m ≡ 6 + 4 * sizeOf (k .entries) (k .gates)
-  pub elements : allBelow 2147483647 (shareElements document01 m) ≡ true
+  pub long : length x ≡ 4 * sizeOf (k .entries) (k .gates)
+  pub elements : allBelow 2147483647 (elementsOf 4 x) ≡ true
   pub r-below : r < 2147483647
   pub s-below : s < 2147483647
+
+-- a share m that is not refused: x is what stands behind its header
+pub record Takable (T : List ℕ) (k : Table) (m x : List ℕ) (r s : ℕ) : Type 0 where
+  pub judgeable : Judgeable T k x r s
+  pub header : 6 ≤ length m
+  pub part : x ≡ drop 6 m

@@ -3,13 +3,12 @@
 ghost use mathlib.Core.Path.{_≡_};
 ghost use Prim.Native.Nat.{_+_, _≤_};
 ghost use lib.ListN.{length};
-ghost use Rattle.words.specs.Bytes.{splice};
+ghost use Rattle.words.specs.Bytes.{splice, elementsOf};
 ghost use Rattle.rules.specs.Settings.{document01};
-ghost use Rattle.rules.specs.Messages.{shareElements};
 ghost use Rattle.rules.specs.Table.{columnsIn, shareTable, shareBytes};
 ghost use Rattle.snip.specs.Judged.{judgedOf};
 ghost use Rattle.shares.specs.Calls.{Shares};
-ghost use Rattle.shares.specs.Taking.{waitBytes, Takable};
+ghost use Rattle.shares.specs.Taking.{waitBytes, Judgeable, Takable};
 use columns::Counts;
 use layout::AWAITS_ONE;
 use layout::Table;
@@ -21,15 +20,14 @@ use snip::judging::judge;
 use table::Found;
 use table::read;
 
-// What the server works out from the share m with the pair r, s.
-fn judged(t: &[u8], k: Table, m: &[u8], r: u32, s: u32) -> Judged
-    requires { ⌜ Takable (now t) k (now m) r s ⌝ }
-    ensures { λ j. ⌜ j
-        ≡ judgedOf (columnsIn document01 (now (t .entry))) (k .own) (shareElements document01 (now (m .entry))) r s ⌝ }
+// What the server works out from the elements x of a share with the pair r, s.
+fn judged(t: &[u8], k: Table, x: &[u8], r: u32, s: u32) -> Judged
+    requires { ⌜ Judgeable (now t) k (now x) r s ⌝ }
+    ensures { λ j. ⌜ j ≡ judgedOf (columnsIn document01 (now (t .entry))) (k .own) (elementsOf 4 (now (x .entry))) r s ⌝ }
 {
-    let mut x = [0u32; 774];
+    let mut share = [0u32; 774];
     let size = k.share_size();
-    elements::read(&m[6..], &mut x[..size]);
+    elements::read(x, &mut share[..size]);
     let counts = Counts {
         columns: k.columns,
         entries: k.entries,
@@ -37,7 +35,7 @@ fn judged(t: &[u8], k: Table, m: &[u8], r: u32, s: u32) -> Judged
         gates: k.gates,
         tests: k.tests,
     };
-    judge(sheet_part(t, k.sheet), counts, k.own, &x[..size], r, s)
+    judge(sheet_part(t, k.sheet), counts, k.own, &share[..size], r, s)
 }
 
 // Writes the return that waits, but for its elements.
@@ -49,17 +47,17 @@ fn write_waiting(t: &mut [u8], at: usize, id: u32, r: u32, s: u32, j: Judged)
     elements::write(t, at, &numbers);
 }
 
-// Takes a share that is not refused: it waits for round one, whose message is written.
-fn take(table: &mut [u8], k: Table, m: &[u8], r: u32, s: u32, out: &mut [u8])
-    requires { ⌜ Takable (now table) k (now m) r s × (14 ≤ length (now out)) ⌝ }
+// Takes a share m, of which x are the element bytes, that is not refused: it waits for round one, whose message is written.
+fn take(table: &mut [u8], k: Table, m: &[u8], x: &[u8], r: u32, s: u32, out: &mut [u8])
+    requires { ⌜ Takable (now table) k (now m) (now x) r s × (14 ≤ length (now out)) ⌝ }
     ensures { λ _. ⌜ (now (table .exit) ≡ shareTable document01 (now (table .entry)) (now (m .entry)) r s)
         × (now (out .exit) ≡ splice (now (out .entry)) 0 (shareBytes document01 (now (table .entry)) (now (m .entry)) r s)) ⌝ }
 {
     let id = message::id_of(m);
-    let j = judged(table, k, m, r, s);
+    let j = judged(table, k, x, r, s);
     let at = k.wait_place();
     write_waiting(table, at, id, r, s, j);
-    words::copy(table, at + 28, &m[6..]);
+    words::copy(table, at + 28, x);
     table[1] = AWAITS_ONE;
     message::write_round(out, 34, id, k.own as u8, j.d, j.e);
 }
@@ -71,11 +69,12 @@ pub fn share(table: &mut [u8], m: &[u8], r: u64, s: u64, out: &mut [u8]) -> Writ
     match read(table) {
         Found::Refused(fault) => Written::Refused(fault),
         Found::Table(k) => {
-            let refusal = share_refusal(table, k, m, r, s, out.len());
+            let x = message::share_part(m, k.share_size(), k.own);
+            let refusal = share_refusal(table, k, m, x, r, s, out.len());
             if refusal != 0 {
                 return Written::Refused(refusal);
             }
-            take(table, k, m, r as u32, s as u32, out);
+            take(table, k, m, x, r as u32, s as u32, out);
             Written::Done(14)
         }
     }

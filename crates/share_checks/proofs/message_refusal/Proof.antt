@@ -12,28 +12,27 @@ header-refusal-requires c κs = search needs
 returns : tie.Need-returns
 returns c =
     let h = c .before .header-refusal in
-    let a = c .before .before .before .args in
+    let a = c .before .before .before .before .args in
     h .ensures ∙ message-header (a .size) (a .own) (a .m .now) (rw (h .ensures) at (c .if1 .taken))
-
-share-part-requires : tie.Need-share-part-requires
-share-part-requires c κs = search needs
 
 below-requires : tie.Need-below-requires
 below-requires c κs = search needs
 
 returns-2 : tie.Need-returns-2
 returns-2 c =
-    let h = c .before .before .before .before .header-refusal in
-    let a = c .before .before .before .before .before .before .args in
-    message-sound (a .size) (a .own) (a .m .now) (rw (h .ensures) at (c .before .before .before .if1 .left))
-    (rw (c .before .before .share-part .ensures, c .if2 .taken) at (sym (c .before .below .ensures)))
+    let h = c .before .before .before in
+    let p = h .before .before .before in
+    let a = p .args in
+    message-sound (a .size) (a .own) (a .m .now) (rw (h .header-refusal .ensures) at (c .before .before .if1 .left)) (a .x .now) (p .pre .1)
+    (sym (c .before .below .ensures) ∙ c .if2 .taken)
 
 returns-3 : tie.Need-returns-3
 returns-3 c =
-    let h = c .before .before .before .before .header-refusal in
-    let a = c .before .before .before .before .before .before .args in
-    message-over (a .size) (a .own) (a .m .now) (rw (h .ensures) at (c .before .before .before .if1 .left))
-    (rw (c .before .before .share-part .ensures, c .if2 .left) at (sym (c .before .below .ensures)))
+    let h = c .before .before .before in
+    let p = h .before .before .before in
+    let a = p .args in
+    message-over (a .size) (a .own) (a .m .now) (rw (h .header-refusal .ensures) at (c .before .before .if1 .left)) (a .x .now) (p .pre .1)
+    (sym (c .before .below .ensures) ∙ c .if2 .left)
 
 pub message-refusal-spec : {M : Type 1} → statement M
 message-refusal-spec =
@@ -41,7 +40,6 @@ message-refusal-spec =
     (tie.spec
     header-refusal-requires
     returns
-    share-part-requires
     below-requires
     returns-2
     returns-3)

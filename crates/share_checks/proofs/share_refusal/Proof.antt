@@ -13,7 +13,9 @@ share-size-requires : tie.Need-share-size-requires
 share-size-requires c κs = search needs
 
 message-refusal-requires : tie.Need-message-refusal-requires
-message-refusal-requires c κs = search needs
+message-refusal-requires c κs =
+    let p = c .before .before .before .before .before in
+    (search needs, rw (c .share-size .ensures) (p .pre .1))
 
 or-else-requires : tie.Need-or-else-requires
 or-else-requires c κs = search needs
@@ -24,9 +26,9 @@ returns c =
     let y = n .before in
     let z = y .before in
     let x = z .before in
-    let p = x .before .before .before in
+    let p = x .before .before .before .before in
     let a = p .args in
-    refused-first (a .t .now) (a .m .now) (a .r) (a .s) (a .room) (a .k) (p .pre) (x .start-refusal .result) (z .share-size .result)
+    refused-first (a .t .now) (a .m .now) (a .r) (a .s) (a .room) (a .k) (p .pre .0) (x .start-refusal .result) (z .share-size .result)
     (y .message-refusal .result) (n .or-else .result) (x .start-refusal .ensures) (z .share-size .ensures)
     (y .message-refusal .ensures) (n .or-else .ensures) (c .if1 .taken)
 
@@ -36,9 +38,9 @@ last-refusal-requires c κs =
     let y = n .before in
     let z = y .before in
     let x = z .before in
-    let p = x .before .before .before in
+    let p = x .before .before .before .before in
     let a = p .args in
-    fitting (a .t .now) (a .m .now) (a .r) (a .s) (a .room) (a .k) (p .pre) (x .start-refusal .result) (z .share-size .result)
+    fitting (a .t .now) (a .m .now) (a .r) (a .s) (a .room) (a .k) (p .pre .0) (x .start-refusal .result) (z .share-size .result)
     (y .message-refusal .result) (n .or-else .result) (x .start-refusal .ensures) (z .share-size .ensures)
     (y .message-refusal .ensures) (n .or-else .ensures) (c .if1 .left)
 
@@ -48,10 +50,10 @@ returns-2 c =
     let y = n .before in
     let z = y .before in
     let x = z .before in
-    let p = x .before .before .before in
+    let p = x .before .before .before .before in
     let a = p .args in
     c .last-refusal .ensures
-    ∙ refused-last (a .t .now) (a .m .now) (a .r) (a .s) (a .room) (a .k) (p .pre) (x .start-refusal .result) (z .share-size .result)
+    ∙ refused-last (a .t .now) (a .m .now) (a .r) (a .s) (a .room) (a .k) (p .pre .0) (x .start-refusal .result) (z .share-size .result)
     (y .message-refusal .result) (n .or-else .result) (x .start-refusal .ensures) (z .share-size .ensures)
     (y .message-refusal .ensures) (n .or-else .ensures) (c .before .if1 .left)
 

@@ -24,15 +24,6 @@ write-waiting-requires c κs = search needs
 add-copy : tie.Need-add-copy
 add-copy c = search needs
 
-sub-copy : tie.Need-sub-copy
-sub-copy c = search needs
-
-part-copy-start : tie.Need-part-copy-start
-part-copy-start c = search needs
-
-part-copy-end : tie.Need-part-copy-end
-part-copy-end c = search needs
-
 copy-requires : tie.Need-copy-requires
 copy-requires c κs = search needs
 
@@ -41,8 +32,8 @@ slice-write-table c = search needs
 
 cast-write-round : tie.Need-cast-write-round
 cast-write-round c =
-    let w = c .before .before .before .before .before .before .before .before .before in
-    let l = w .before .before .before .before .before .before .before .before .before .pre .0 .table .limited in
+    let w = c .before .before .before .before .before .before .before .before in
+    let l = w .before .before .before .before .before .before .before .before .before .before .pre .0 .judgeable .table .limited in
     omega (arith, l .own-one, l .servers-few)
 
 write-round-requires : tie.Need-write-round-requires
@@ -51,7 +42,7 @@ write-round-requires c κs = search needs
 same-length : tie.Need-same-length
 same-length c =
     let y = c .before .before .before .before .before .before .before in
-    simp length-set (omega (arith, y .copy .kept .0, y .before .before .before .before .before .write-waiting .kept .0))
+    simp length-set (omega (arith, y .copy .kept .0, y .before .before .before .before .write-waiting .kept .0))
 
 same-length-2 : tie.Need-same-length-2
 same-length-2 c = search needs
@@ -59,18 +50,18 @@ same-length-2 c = search needs
 returns : tie.Need-returns
 returns c =
     let y = c .before .before .before .before .before .before .before in
-    let z = y .before .before .before .before .before in
+    let z = y .before .before .before .before in
     let w = z .before .before .wait-place in
     let j = z .before .before .before .judged in
     let i = z .before .before .before .before .before .id-of in
-    let p = z .before .before .before .before .before .before .before .before .before in
+    let p = z .before .before .before .before .before .before .before .before .before .before in
     let a = p .args in (
       rw (y .copy .ensures, z .write-waiting .ensures)
-          (table-written (a .table .now) (a .k) (a .m .now) (a .r) (a .s) (p .pre .0) (i .result) (j .result) (i .ensures) (j .ensures)
-          (w .result) (w .ensures)),
+          (table-written (a .table .now) (a .k) (a .m .now) (a .x .now) (a .r) (a .s) (p .pre .0) (i .result) (j .result) (i .ensures)
+          (j .ensures) (w .result) (w .ensures)),
       rw (c .before .before .write-round .ensures)
           (ap (splice (a .out .now) 0)
-          (message-written (a .table .now) (a .k) (a .m .now) (a .r) (a .s) (p .pre .0) (i .result) (j .result) (i .ensures)
+          (message-written (a .table .now) (a .k) (a .m .now) (a .x .now) (a .r) (a .s) (p .pre .0) (i .result) (j .result) (i .ensures)
           (j .ensures))),
     )
 
@@ -83,9 +74,6 @@ take-spec =
     wait-place-requires
     write-waiting-requires
     add-copy
-    sub-copy
-    part-copy-start
-    part-copy-end
     copy-requires
     slice-write-table
     cast-write-round

@@ -1,22 +1,18 @@
--- One column by its kind and its bytes: how many bytes it has, that its kind byte and its last byte tell it, and that a record
--- that is taken is the bytes of its column. By the cases of the kind. Assumes nothing.
+-- One column by its kind and its bytes: how many bytes it has, that they tell it, and that a record that is taken is the
+-- bytes of its column. By the cases of the kind. Assumes nothing.
 use mathlib.Core.Path.{_≡_, refl, ap, ap₂, _∙_}
 use mathlib.Core.Bool.{Bool, true, false, cond}
 use mathlib.Core.List.{List, [], _∷_, _++_}
 use mathlib.Core.Option.{Option, some, none}
 use Prim.Native.Nat.{ℕ, _+_, _-_, _≤_}
-use native.Mathlib.Nat.{add-zero}
 use native.Mathlib.Omega.{arith}
-use borrow.Author.Tests.{eq-eqb, eqb-true}
+use borrow.Author.Tests.{eq-eqb, ne-eqb, eqb-true}
 use lib.Dec.{eqb}
-use lib.ListN.{length, getD, drop}
-use lib.Seq.{getD-take, getD-drop}
-use Rattle.words.specs.Bytes.{part}
-use Rattle.records.specs.Outcome.{Outcome, ok}
+use lib.ListN.{length, getD, take}
+use Rattle.records.specs.Outcome.{ok}
 use Rattle.rules.specs.Columns.{Column, yesNo, choice, number, within, limitedColumn, columnBody, columnOf}
 use Rattle.rules.proofs.Circuits.Limits.{InLimits, within-is}
-use Rattle.columns.specs.Counting.{countsOf, alone}
-use Rattle.columns.specs.Kinds.{columnBytes, bytesOfKind, columnFrom, toCode, fromCode}
+use Rattle.columns.specs.Kinds.{columnBytes, bytesOfKind, toCode, fromCode}
 
 -- ---- a kind and its bytes
 abbrev size : Bool → Bool → Bool → ℕ
@@ -48,6 +44,16 @@ module _ (k : ℕ) where
       by-kind false false true h = refl
       by-kind false false false h = absurd (h refl)
 
+  -- every other known kind has a byte behind it
+  pub body-some : (n : ℕ) → (k ≡ 17 → ⊥) → bytesOfKind k ≡ n + 1 → 1 ≤ n
+  unfolding bytesOfKind
+  body-some n h e = by-kind (eqb k 18) (eqb k 19) (rw (ne-eqb k 17 h) at e)
+    where
+      by-kind : (b d : Bool) → size false b d ≡ n + 1 → 1 ≤ n
+      by-kind true d q = omega arith
+      by-kind false true q = omega arith
+      by-kind false false q = omega arith
+
 -- a yes/no has no body, and is taken
 pub yes-no-body : (k : ℕ) → k ≡ 17 → columnBody k ≡ some 0
 unfolding columnBody
@@ -56,27 +62,6 @@ yes-no-body k e = rw (eq-eqb k 17 e)
 pub yes-no-taken : (k : ℕ) (b : List ℕ) → k ≡ 17 → columnOf k b ≡ ok yesNo
 unfolding columnOf
 yes-no-taken k b e = rw (eq-eqb k 17 e)
-
--- the one byte of a body
-body-byte : (s : List ℕ) (i : ℕ) → getD (part (i + 1) 1 s) 0 0 ≡ getD s (i + 1) 0
-body-byte s i = getD-take 1 (drop (i + 1) s) 0 0 (omega arith) ∙ getD-drop (i + 1) s 0 0 ∙ ap (λ n. getD s n 0) (add-zero (i + 1))
-
--- a column is told by its kind byte and its last byte
-pub judged-last : (k : ℕ) (s : List ℕ) (i : ℕ) → (bytesOfKind k ≡ 0 → ⊥)
-    → columnOf k (part (i + 1) (bytesOfKind k - 1) s) ≡ columnOf k (getD s (i + (bytesOfKind k - 1)) 0 ∷ [])
-unfolding bytesOfKind columnOf
-judged-last k s i = by-kind (eqb k 17) (eqb k 18) (eqb k 19)
-  where
-    of : Bool → Bool → ℕ → Outcome Column
-    of a b x = cond a (ok yesNo) (cond b (limitedColumn (within 2 64 x) (choice x)) (limitedColumn (within 1 24 x) (number x)))
-
-    by-kind : (a b d : Bool) → (size a b d ≡ 0 → ⊥)
-        → of a b (getD (part (i + 1) (size a b d - 1) s) 0 0)
-        ≡ of a b (getD s (i + (size a b d - 1)) 0)
-    by-kind true b d h = refl
-    by-kind false true d h = ap (of false true) (body-byte s i)
-    by-kind false false true h = ap (of false false) (body-byte s i)
-    by-kind false false false h = absurd (h refl)
 
 -- ---- a record that is taken
 counted-is : (b : Bool) (a c : Column) → limitedColumn b a ≡ ok c → a ≡ c
@@ -117,36 +102,30 @@ column-bytes k l c = by-kind (eqb k 17) (eqb k 18) (eqb k 19) (eqb-true k 17) (e
     by-kind false false false p q r e h = let z : _≡_ {A = ℕ} 0 1 = cc in absurd (omega arith)
 
 -- ---- one column and its bytes
-pub record Told (a : Column) (first : ℕ) (byte : ℕ → ℕ) : Type 0 where
-  pub size-is : bytesOfKind first ≡ length (columnBytes a)
-  pub size-some : 1 ≤ length (columnBytes a)
-  pub column-is : columnFrom first (byte (bytesOfKind first - 1)) ≡ a
-  pub alone-is : alone (columnOf first (byte (bytesOfKind first - 1) ∷ [])) ≡ countsOf (a ∷ [])
+pub bytes-some : (a : Column) → 1 ≤ length (columnBytes a)
+unfolding columnBytes
+bytes-some yesNo = omega arith
+bytes-some (choice n) = omega arith
+bytes-some (number n) = omega arith
 
-pub told : (a : Column) → InLimits a → (first : ℕ) (byte : ℕ → ℕ) (t : List ℕ) → first ≡ byte 0
-    → ((j : ℕ) → byte j ≡ getD (columnBytes a ++ t) j 0) → Told a first byte
-unfolding columnBytes bytesOfKind columnFrom columnOf limitedColumn alone
-told yesNo w first byte t e q =
-    let f : first ≡ 17 = e ∙ q 0 in
-    record { size-is = rw f; size-some = omega arith; column-is = rw f; alone-is = rw f }
-told (choice n) w first byte t e q =
-    let f : first ≡ 18 = e ∙ q 0 in
-    let l : byte 1 ≡ n = q 1 in
-    record {
-      size-is = rw f;
-      size-some = omega arith;
-      column-is = rw (f, l);
-      alone-is = rw (f, l, within-is 2 64 n (w .0) (w .1));
-    }
-told (number n) w first byte t e q =
-    let f : first ≡ 19 = e ∙ q 0 in
-    let l : byte 1 ≡ n = q 1 in
-    record {
-      size-is = rw f;
-      size-some = omega arith;
-      column-is = rw (f, l);
-      alone-is = rw (f, l, within-is 1 24 n (w .0) (w .1));
-    }
+pub record Told (a : Column) (first : ℕ) (rest : List ℕ) : Type 0 where
+  pub size-is : bytesOfKind first ≡ length (columnBytes a)
+  pub column-is : columnOf first (take (bytesOfKind first - 1) rest) ≡ ok a
+
+-- where the bytes of a column stand at the front, they tell it
+pub told : (a : Column) → InLimits a → (first : ℕ) (rest t : List ℕ) → first ∷ rest ≡ columnBytes a ++ t → Told a first rest
+unfolding columnBytes bytesOfKind columnOf limitedColumn
+told yesNo w first rest t e =
+    let f : first ≡ 17 = cc in
+    record { size-is = rw f; column-is = rw f }
+told (choice n) w first rest t e =
+    let f : first ≡ 18 = cc in
+    let l : rest ≡ n ∷ t = cc in
+    record { size-is = rw f; column-is = rw (f, l, within-is 2 64 n (w .0) (w .1)) }
+told (number n) w first rest t e =
+    let f : first ≡ 19 = cc in
+    let l : rest ≡ n ∷ t = cc in
+    record { size-is = rw f; column-is = rw (f, l, within-is 1 24 n (w .0) (w .1)) }
 
 -- ---- a column in code
 pub from-to-code : (c : Column) → fromCode (toCode c) ≡ c

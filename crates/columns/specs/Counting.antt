@@ -1,9 +1,8 @@
--- What columns come to, in the numbers of code, and one column by itself.
+-- What columns come to, in the numbers of code.
 -- Assumes nothing.
-use mathlib.Core.List.{List, [], _∷_}
+use mathlib.Core.List.{List}
 use Prim.Native.Nat.{ℕ, _*_, _≤_}
 use lib.ListN.{length}
-use Rattle.records.specs.Outcome.{Outcome, ok, refused}
 use Rattle.rules.specs.Columns.{Column, entriesIn, publishedIn}
 use Rattle.rules.specs.Circuit.{gatesIn, testsIn}
 use Rattle.columns.specs.declared.Counts.{Counts}
@@ -17,11 +16,6 @@ countsOf cs =
       gates = gatesIn cs;
       tests = testsIn cs;
     }
-
--- one column by itself; nothing where it is refused
-unfoldable pub alone : Outcome Column → Counts
-alone (ok c) = countsOf (c ∷ [])
-alone (refused n) = countsOf []
 
 -- at most e entries, and the other counts bounded by them
 pub record Small (e : ℕ) (c : Counts) : Type 0 where

@@ -2,11 +2,14 @@
 -- Assumes nothing.
 use mathlib.Core.Bool.{cond}
 use mathlib.Core.List.{List, [], _∷_}
-use Prim.Native.Nat.{ℕ, _≤_}
+use Prim.Native.Nat.{ℕ}
 use lib.Dec.{eqb}
+use Rattle.records.specs.Outcome.{Outcome, ok, refused}
 use Rattle.rules.specs.Columns.{Column, yesNo, choice, number}
 use Rattle.columns.specs.declared.Column as code
 use Rattle.columns.specs.declared.Column.the-variants as kind
+use Rattle.columns.specs.declared.Judged.{Judged}
+use Rattle.columns.specs.declared.Judged.the-variants as answer
 
 -- ---- its bytes
 unfoldable pub columnBytes : Column → List ℕ
@@ -17,10 +20,6 @@ columnBytes (number n) = 19 ∷ n ∷ []
 -- how many there are, the kind byte too; 0 for an unknown kind
 unfoldable pub bytesOfKind : ℕ → ℕ
 bytesOfKind k = cond (eqb k 17) 1 (cond (eqb k 18) 2 (cond (eqb k 19) 2 0))
-
--- the column of a kind byte and a last byte
-unfoldable pub columnFrom : ℕ → ℕ → Column
-columnFrom k n = cond (eqb k 17) yesNo (cond (eqb k 18) (choice n) (number n))
 
 -- ---- a column in code, and back
 abbrev pub toCode : Column → code.Column
@@ -33,8 +32,12 @@ fromCode kind.YesNo = yesNo
 fromCode (kind.Choice n) = choice n
 fromCode (kind.Number n) = number n
 
--- what code asks of a column: a power of 2 and a count that fit
-abbrev pub Bounded : Column → Type 0
-Bounded yesNo = Unit {0}
-Bounded (choice n) = n ≤ 64
-Bounded (number n) = n ≤ 24
+-- what a record says: the column, or the refusal
+unfoldable pub judgedOf : Outcome Column → Judged
+judgedOf (ok c) = answer.Taken (toCode c)
+judgedOf (refused n) = answer.Refused n
+
+-- the column of a record that is taken
+unfoldable pub columnIn : Outcome Column → Column
+columnIn (ok c) = c
+columnIn (refused n) = yesNo

@@ -1,11 +1,13 @@
-// One column by itself: its bytes, what it comes to, what it is in code, its largest value. The definitions that the
-// contracts cite are those of the crate rules and of specs/.
+// One column by itself. A new kind is one case more in each function: the length of its body, the column that a body says,
+// what it comes to, its largest value. The definitions that the contracts cite are those of the crate rules and of specs/.
 ghost use mathlib.Core.Path.{_≡_};
 ghost use mathlib.Core.List.{[], _∷_};
-ghost use Prim.Native.Nat.{_^_, _≤_};
-ghost use Rattle.rules.specs.Columns.{yesNo, choice, number, within, limitedColumn, columnOf, largestOf};
-ghost use Rattle.columns.specs.Counting.{countsOf, alone};
-ghost use Rattle.columns.specs.Kinds.{bytesOfKind, columnFrom, toCode, fromCode, Bounded};
+ghost use Prim.Native.Nat.{_+_, _^_, _≤_};
+ghost use lib.ListN.{length};
+ghost use Rattle.rules.specs.Columns.{choice, number, within, limitedColumn, columnOf, largestOf};
+ghost use Rattle.rules.proofs.Circuits.Limits.{InLimits};
+ghost use Rattle.columns.specs.Counting.{countsOf};
+ghost use Rattle.columns.specs.Kinds.{bytesOfKind, judgedOf, fromCode};
 
 // What columns come to: entries, published entries, multiplications and tests.
 pub struct Counts {
@@ -21,6 +23,12 @@ pub enum Column {
     YesNo,
     Choice(usize),
     Number(usize),
+}
+
+// What a record says: a column, or the number of its refusal.
+pub enum Judged {
+    Taken(Column),
+    Refused(u32),
 }
 
 // No column at all.
@@ -52,55 +60,30 @@ pub fn bytes_of(kind: u8) -> usize
     0
 }
 
-// A choice of n options by itself; nothing where n is outside its limits.
-fn choice_alone(n: usize) -> Counts
-    ensures { λ r. ⌜ r ≡ alone (limitedColumn (within 2 64 n) (choice n)) ⌝ }
+// A choice of n options.
+fn choice_of(n: usize) -> Judged
+    ensures { λ r. ⌜ r ≡ judgedOf (limitedColumn (within 2 64 n) (choice n)) ⌝ }
 {
     if n < 2 {
-        return none();
+        return Judged::Refused(2);
     }
     if 64 < n {
-        return none();
+        return Judged::Refused(2);
     }
-    Counts {
-        columns: 1,
-        entries: n,
-        published: n,
-        gates: n,
-        tests: n + 1,
-    }
+    Judged::Taken(Column::Choice(n))
 }
 
-// A number of n bits by itself; nothing where n is outside its limits.
-fn number_alone(n: usize) -> Counts
-    ensures { λ r. ⌜ r ≡ alone (limitedColumn (within 1 24 n) (number n)) ⌝ }
+// A number of n bits.
+fn number_of(n: usize) -> Judged
+    ensures { λ r. ⌜ r ≡ judgedOf (limitedColumn (within 1 24 n) (number n)) ⌝ }
 {
     if n < 1 {
-        return none();
+        return Judged::Refused(2);
     }
     if 24 < n {
-        return none();
+        return Judged::Refused(2);
     }
-    Counts {
-        columns: 1,
-        entries: n + 1,
-        published: 1,
-        gates: n,
-        tests: n + 1,
-    }
-}
-
-// A yes/no by itself.
-pub fn yes_no_alone() -> Counts
-    ensures { λ r. ⌜ r ≡ countsOf (yesNo ∷ []) ⌝ }
-{
-    Counts {
-        columns: 1,
-        entries: 1,
-        published: 1,
-        gates: 1,
-        tests: 1,
-    }
+    Judged::Taken(Column::Number(n))
 }
 
 fn wide(n: u8) -> usize
@@ -109,30 +92,48 @@ fn wide(n: u8) -> usize
     n as usize
 }
 
-// One column by itself, of its kind byte and its last byte; nothing where its count is outside its limits.
-pub fn column_alone(kind: u8, last: u8) -> Counts
-    ensures { λ r. ⌜ r ≡ alone (columnOf kind (last ∷ [])) ⌝ }
+// What a record of a known kind with a whole body says.
+pub fn column_of(kind: u8, body: &[u8]) -> Judged
+    requires { ⌜ bytesOfKind kind ≡ length (now body) + 1 ⌝ }
+    ensures { λ r. ⌜ r ≡ judgedOf (columnOf kind (now (body .entry))) ⌝ }
 {
     if kind == 17 {
-        return yes_no_alone();
+        return Judged::Taken(Column::YesNo);
     }
     if kind == 18 {
-        return choice_alone(wide(last));
+        return choice_of(wide(body[0]));
     }
-    number_alone(wide(last))
+    number_of(wide(body[0]))
 }
 
-// The column of a kind byte and a last byte.
-pub fn column_of(kind: u8, last: u8) -> Column
-    ensures { λ r. ⌜ r ≡ toCode (columnFrom kind last) ⌝ }
+// What one column comes to.
+pub fn counts_of(column: Column) -> Counts
+    requires { ⌜ InLimits (fromCode column) ⌝ }
+    ensures { λ r. ⌜ r ≡ countsOf (fromCode column ∷ []) ⌝ }
 {
-    if kind == 17 {
-        return Column::YesNo;
+    match column {
+        Column::YesNo => Counts {
+            columns: 1,
+            entries: 1,
+            published: 1,
+            gates: 1,
+            tests: 1,
+        },
+        Column::Choice(n) => Counts {
+            columns: 1,
+            entries: n,
+            published: n,
+            gates: n,
+            tests: n + 1,
+        },
+        Column::Number(n) => Counts {
+            columns: 1,
+            entries: n + 1,
+            published: 1,
+            gates: n,
+            tests: n + 1,
+        },
     }
-    if kind == 18 {
-        return Column::Choice(wide(last));
-    }
-    Column::Number(wide(last))
 }
 
 // 2 to the n.
@@ -145,7 +146,7 @@ pub fn power(n: usize) -> u32
 
 // The largest value of an entry that a column publishes.
 pub fn largest_of(column: Column) -> u32
-    requires { ⌜ Bounded (fromCode column) ⌝ }
+    requires { ⌜ InLimits (fromCode column) ⌝ }
     ensures { λ r. ⌜ r ≡ largestOf (fromCode column) ⌝ }
 {
     match column {

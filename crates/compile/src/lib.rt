@@ -12,7 +12,8 @@ ghost use Rattle.rules.specs.Columns.{choice, number, readSheet, columnsOf};
 ghost use Rattle.rules.specs.Circuit.{circuitBytes, bitCheck, bitChecks, optionAdds, optionSum, bitAdds, test};
 ghost use Rattle.rules.specs.Circuit.{columnSteps, wiresOf};
 ghost use Rattle.rules.specs.CircuitReader.{sheetCircuit};
-ghost use Rattle.columns.specs.Kinds.{fromCode, Bounded};
+ghost use Rattle.rules.proofs.Circuits.Limits.{InLimits};
+ghost use Rattle.columns.specs.Kinds.{fromCode};
 ghost use Rattle.compile.specs.Writing.{Put, columnSize, writtenOf, circuitIn};
 use columns::Column;
 use records::Written;
@@ -142,7 +143,7 @@ fn put_number(out: &mut [u8], at: usize, n: u32, e: u32, w: u32) -> usize
 
 // The steps of a column, whose first entry is `e`.
 fn put_column(out: &mut [u8], at: usize, column: Column, e: u32, w: u32) -> usize
-    requires { ⌜ (at + columnSize (fromCode column) ≤ length (now out)) × Bounded (fromCode column) × (e < 16384) × (w < 16384) ⌝ }
+    requires { ⌜ (at + columnSize (fromCode column) ≤ length (now out)) × InLimits (fromCode column) × (e < 16384) × (w < 16384) ⌝ }
     ensures { λ r. ⌜ Put (now (out .entry)) at (columnSize (fromCode column))
         (circuitBytes document01 (columnSteps document01 e w (fromCode column))) (now (out .exit)) r ⌝ }
 {
@@ -155,7 +156,7 @@ fn put_column(out: &mut [u8], at: usize, column: Column, e: u32, w: u32) -> usiz
 
 // The bytes of a column's steps.
 fn size_of(column: Column) -> usize
-    requires { ⌜ Bounded (fromCode column) ⌝ }
+    requires { ⌜ InLimits (fromCode column) ⌝ }
     ensures { λ r. ⌜ r ≡ columnSize (fromCode column) ⌝ }
 {
     match column {
@@ -167,7 +168,7 @@ fn size_of(column: Column) -> usize
 
 // The wires of a column's steps.
 fn wires_of(column: Column) -> u32
-    requires { ⌜ Bounded (fromCode column) ⌝ }
+    requires { ⌜ InLimits (fromCode column) ⌝ }
     ensures { λ r. ⌜ r ≡ wiresOf (fromCode column) ⌝ }
 {
     match column {

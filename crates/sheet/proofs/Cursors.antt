@@ -2,22 +2,22 @@
 -- it, and that no count passes the sheet's. A loop keeps `c ≡ cursorAt s (c .index)` by them.
 -- Assumes that the sheet is read, where it is said.
 use mathlib.Core.Path.{_≡_, sym, ap, _∙_, subst}
-use mathlib.Core.List.{List, [], _∷_, _++_}
+use mathlib.Core.List.{List, _∷_, _++_}
 use Prim.Native.Nat.{ℕ, suc, _+_, _-_, _≤_, _<_}
-use native.Mathlib.Nat.{add-zero}
+use native.Mathlib.Numerals.{add-one}
 use native.Mathlib.Omega.{arith}
 use lib.ListN.{length, getD, take, drop}
-use lib.Seq.{getD-drop, take-all}
+use lib.Seq.{drop-cons, take-all}
 use Rattle.algebra.proofs.Members.{all-getD}
+use Rattle.words.specs.Bytes.{part}
 use Rattle.records.specs.Outcome.{ok}
 use Rattle.rules.specs.Columns.{Column, yesNo, columnOf, entriesOf, publishedOf, entriesIn, publishedIn}
 use Rattle.rules.specs.Columns.{readSheet, columnsOf}
 use Rattle.rules.specs.Circuit.{gatesOf, gatesIn}
 use Rattle.rules.proofs.Circuits.Limits.{InLimits, limits}
-use Rattle.columns.specs.Counting.{countsOf, alone}
-use Rattle.columns.specs.Kinds.{bytesOfKind, columnBytes, columnFrom}
+use Rattle.columns.specs.Kinds.{bytesOfKind, columnBytes}
 use Rattle.columns.proofs.Sums.{entries, published, gates, total-next, total-most}
-use Rattle.columns.proofs.ColumnBytes.{told}
+use Rattle.columns.proofs.ColumnBytes.{bytes-some, told}
 use Rattle.sheet.specs.declared.cursor.Cursor.{Cursor}
 use Rattle.sheet.specs.Cursor.{sheetBytes, cursorAt, Stands}
 use Rattle.sheet.proofs.SheetBytes.{sheet-bytes, bytes, bytes-from}
@@ -34,10 +34,8 @@ pub record Place (s : List ℕ) (c : Cursor) : Type 0 where
   pub entries-most : entriesIn (columnsOf s) ≤ 256
   pub published-most : publishedIn (columnsOf s) ≤ 256
   pub gates-most : gatesIn (columnsOf s) ≤ 256
-  pub column-is : columnFrom (getD s (c .at) 0) (getD s (c .at + (bytesOfKind (getD s (c .at) 0) - 1)) 0)
-      ≡ getD (columnsOf s) (c .index) yesNo
-  pub alone-is : alone (columnOf (getD s (c .at) 0) (getD s (c .at + (bytesOfKind (getD s (c .at) 0) - 1)) 0 ∷ []))
-      ≡ countsOf (getD (columnsOf s) (c .index) yesNo ∷ [])
+  pub column-is : columnOf (getD s (c .at) 0) (part (c .at + 1) (bytesOfKind (getD s (c .at) 0) - 1) s)
+      ≡ ok (getD (columnsOf s) (c .index) yesNo)
   pub next-is : cursorAt s (c .index + 1)
       ≡ record {
         index = c .index + 1;
@@ -59,15 +57,14 @@ module _ (s : List ℕ) (is-read : readSheet s ≡ ok (columnsOf s)) where
       let at = length (sheetBytes (take k cs)) in
       let w : InLimits a = all-getD yesNo (m .in-limits) k h in
       let b = sheet-bytes s cs is-read in
-      let u : drop at s ≡ columnBytes a ++ sheetBytes (drop (suc k) cs) = ap (drop at) b ∙ bytes-from cs k h in
-      let t =
-      told a w (getD s at 0) (λ j. getD s (at + j) 0) (sheetBytes (drop (suc k) cs))
-      (ap (λ n. getD s n 0) (sym (add-zero at)))
-      (λ j. sym (getD-drop at s j 0) ∙ ap (λ (l : List ℕ). getD l j 0) u) in
       let long : length s ≡ length (sheetBytes cs) = ap length b in
+      let within : at < length s = omega (arith, bytes-some a, total-most bytes cs k h) in
+      let u : drop at s ≡ columnBytes a ++ sheetBytes (drop (suc k) cs) = ap (drop at) b ∙ bytes-from cs k h in
+      let v : drop at s ≡ getD s at 0 ∷ drop (at + 1) s = rw add-one (drop-cons s at 0 within) in
+      let t = told a w (getD s at 0) (drop (at + 1) s) (sheetBytes (drop (suc k) cs)) (sym v ∙ u) in
       record {
         in-limits = w;
-        size-some = omega (arith, t .size-is, t .size-some);
+        size-some = omega (arith, t .size-is, bytes-some a);
         size-fits = omega (arith, t .size-is, total-most bytes cs k h);
         index-fits = omega (arith, m .columns-most, m .entries-most);
         entries-fit = total-most entries cs k h;
@@ -77,7 +74,6 @@ module _ (s : List ℕ) (is-read : readSheet s ≡ ok (columnsOf s)) where
         published-most = omega (arith, m .published-most, m .entries-most);
         gates-most = omega (arith, m .gates-most, m .entries-most);
         column-is = t .column-is;
-        alone-is = t .alone-is;
         next-is =
             rw (
               total-next bytes cs k h,

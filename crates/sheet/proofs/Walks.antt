@@ -14,9 +14,9 @@ use Rattle.algebra.specs.Lists.{every}
 use Rattle.records.specs.Outcome.{ok}
 use Rattle.rules.specs.Columns.{yesNo, entriesIn, publishedIn, readSheet, columnsOf}
 use Rattle.rules.specs.Circuit.{gatesIn}
-use Rattle.columns.specs.Kinds.{fromCode, Bounded}
+use Rattle.rules.proofs.Circuits.Limits.{InLimits}
+use Rattle.columns.specs.Kinds.{fromCode}
 use Rattle.columns.proofs.ColumnBytes.{from-to-code}
-use Rattle.columns.proofs.Alone.{bounded}
 use Rattle.sheet.specs.declared.cursor.Cursor.{Cursor}
 use Rattle.sheet.specs.declared.cursor.Step.{Step}
 use Rattle.sheet.specs.Cursor.{cursorAt, begin, Stands, stepAt}
@@ -72,8 +72,8 @@ module _ {s : List ℕ} {c : Cursor} (h : Stands s c) (r : Step) (e : r ≡ step
   pub column-seen : fromCode (r .column) ≡ getD (columnsOf s) (c .index) yesNo
   column-seen = ap (λ (x : Step). fromCode (x .column)) e ∙ from-to-code (getD (columnsOf s) (c .index) yesNo)
 
-  pub column-bounded : Bounded (fromCode (r .column))
-  column-bounded = rw column-seen (bounded (getD (columnsOf s) (c .index) yesNo) (place h .in-limits))
+  pub column-limited : InLimits (fromCode (r .column))
+  column-limited = rw column-seen (place h .in-limits)
 
 -- a test over the members from place k on
 module _ {A : Type 0} (t : A → Bool) (d : A) (l : List A) (k : ℕ) where

@@ -2,11 +2,16 @@
 // A loop `while c.index < columns` or `while c.at < s.len()` keeps `c ≡ cursorAt s (c .index)`; the laws that it needs are
 // in proofs/Walks.antt.
 ghost use mathlib.Core.Path.{_≡_};
+ghost use Prim.Native.Nat.{_+_};
+ghost use lib.ListN.{length};
+ghost use Rattle.rules.specs.Columns.{columnOf};
+ghost use Rattle.columns.specs.Kinds.{bytesOfKind, toCode, columnIn};
 ghost use Rattle.sheet.specs.Cursor.{begin, Stands, stepAt};
 use columns::Column;
+use columns::Judged;
 use columns::bytes_of;
-use columns::column_alone;
 use columns::column_of;
+use columns::counts_of;
 
 // Before a column: its index and its byte place, the entries, the published entries and the multiplications before it.
 pub struct Cursor {
@@ -36,6 +41,17 @@ pub fn start() -> Cursor
     }
 }
 
+// The column of a record that is taken.
+fn taken(kind: u8, body: &[u8]) -> Column
+    requires { ⌜ bytesOfKind kind ≡ length (now body) + 1 ⌝ }
+    ensures { λ r. ⌜ r ≡ toCode (columnIn (columnOf kind (now (body .entry)))) ⌝ }
+{
+    match column_of(kind, body) {
+        Judged::Taken(column) => column,
+        Judged::Refused(_) => Column::YesNo,
+    }
+}
+
 // The column under the cursor, and the next cursor.
 pub fn next(s: &[u8], c: Cursor) -> Step
     requires { ⌜ Stands (now s) c ⌝ }
@@ -43,13 +59,13 @@ pub fn next(s: &[u8], c: Cursor) -> Step
 {
     let at = c.at;
     let kind = s[at];
-    let size = bytes_of(kind);
-    let last = s[at + (size - 1)];
-    let counts = column_alone(kind, last);
-    let column = column_of(kind, last);
+    let start = at + 1;
+    let end = at + bytes_of(kind);
+    let column = taken(kind, &s[start..end]);
+    let counts = counts_of(column);
     let behind = Cursor {
         index: c.index + 1,
-        at: at + size,
+        at: end,
         entry: c.entry + counts.entries,
         published: c.published + counts.published,
         gates: c.gates + counts.gates,

@@ -7,11 +7,13 @@ ghost use Rattle.sheet.specs.Reading.{more, limited, readingOf};
 pub mod cursor;
 pub mod returns;
 
+use columns::Column;
 use columns::Counts;
+use columns::Judged;
 use columns::bytes_of;
-use columns::column_alone;
+use columns::column_of;
+use columns::counts_of;
 use columns::none;
-use columns::yes_no_alone;
 
 // What a sheet comes to, or the number of its refusal.
 pub enum Reading {
@@ -62,7 +64,7 @@ pub fn read(s: &[u8]) -> Reading
         }
         let kind = s[at];
         if kind == 17 {
-            counts = with(counts, yes_no_alone());
+            counts = with(counts, counts_of(Column::YesNo));
             at += 1;
             continue 'columns;
         }
@@ -73,12 +75,13 @@ pub fn read(s: &[u8]) -> Reading
         if s.len() - at < size {
             break 'columns 1;
         }
-        let column = column_alone(kind, s[at + (size - 1)]);
-        if column.entries == 0 {
-            break 'columns 2;
+        let start = at + 1;
+        let end = at + size;
+        match column_of(kind, &s[start..end]) {
+            Judged::Taken(column) => counts = with(counts, counts_of(column)),
+            Judged::Refused(n) => break 'columns n,
         }
-        counts = with(counts, column);
-        at += size;
+        at = end;
     };
     if fault != 0 {
         return Reading::Refused(fault);

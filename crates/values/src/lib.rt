@@ -9,7 +9,8 @@ ghost use Rattle.words.specs.Bytes.{splice};
 ghost use Rattle.rules.specs.Columns.{choice, entriesOf, valuesOf, columnsOf};
 ghost use Rattle.rules.specs.Values.{encoded};
 ghost use Rattle.rules.specs.Making.{valuesFault};
-ghost use Rattle.columns.specs.Kinds.{fromCode, Bounded};
+ghost use Rattle.rules.proofs.Circuits.Limits.{InLimits};
+ghost use Rattle.columns.specs.Kinds.{fromCode};
 ghost use Rattle.values.specs.Encode.{encodeRefusal, encodedInto, Encoded, HasColumns, Encodable};
 use columns::Column;
 use columns::power;
@@ -20,7 +21,7 @@ use sheet::read;
 
 // How many values a column has.
 fn values_of(column: Column) -> u32
-    requires { ⌜ Bounded (fromCode column) ⌝ }
+    requires { ⌜ InLimits (fromCode column) ⌝ }
     ensures { λ r. ⌜ r ≡ valuesOf (fromCode column) ⌝ }
 {
     match column {

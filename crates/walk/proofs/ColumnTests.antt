@@ -12,17 +12,11 @@ use Rattle.algebra.proofs.Tables.{tabulate-cong}
 use Rattle.field.specs.Residues.{residues}
 use Rattle.rules.specs.Settings.{document01}
 use Rattle.rules.specs.Columns.{Column, yesNo, choice, number}
-use Rattle.rules.specs.Circuit.{gatesOf, testsOf}
+use Rattle.rules.specs.Circuit.{gatesOf}
 use Rattle.rules.specs.Run.{Meaning}
 use Rattle.rules.specs.Walk.{sumFrom, bitOut, bitTests, sumTests, columnTests}
 use Rattle.walk.specs.Walks.{held, plain, members, outputs}
 use Rattle.walk.proofs.Filling.{one-place, sum-same}
-
-pub one-more : (c : Column) → testsOf c ≤ suc (gatesOf c)
-unfolding gatesOf testsOf
-one-more yesNo = omega arith
-one-more (choice n) = omega arith
-one-more (number n) = omega arith
 
 module _ (xs : List ℕ) (l e t m : ℕ) where
   abbrev μ : Meaning ℕ

@@ -13,6 +13,7 @@ use lib.Seq.{take-all, take-at, drop-append-add, drop-drop}
 use Rattle.records.specs.Outcome.{ok}
 use Rattle.rules.specs.Columns.{Column, yesNo, entriesOf, entriesIn, readSheet, columnsOf}
 use Rattle.rules.specs.Circuit.{gatesOf, gatesIn}
+use Rattle.rules.proofs.Circuits.Limits.{InLimits}
 use Rattle.columns.specs.Kinds.{fromCode}
 use Rattle.columns.proofs.ColumnBytes.{from-to-code}
 use Rattle.columns.proofs.Sums.{Total, total-next}
@@ -67,6 +68,7 @@ behind s c is-read here h = go (decLt (c .index) (length (columnsOf s)))
 pub record Turned (s : List ℕ) (c : Cursor) (step : Step) : Type 0 where
   pub within : c .index < length (columnsOf s)
   pub column-is : fromCode (step .column) ≡ getD (columnsOf s) (c .index) yesNo
+  pub in-limits : InLimits (fromCode (step .column))
   pub next-is : step .next ≡ cursorAt s (c .index + 1)
   pub entries-fit : c .entry + entriesOf (fromCode (step .column)) ≤ entriesIn (columnsOf s)
   pub entries-few : entriesIn (columnsOf s) ≤ 256
@@ -89,6 +91,7 @@ turned {s} {c} step is-read here before e =
     record {
       within = t .within;
       column-is = q;
+      in-limits = rw q (p .in-limits);
       next-is = n;
       entries-fit = rw q (p .entries-fit);
       entries-few = p .entries-most;

@@ -13,6 +13,7 @@ ghost use Rattle.rules.specs.Walk.{sumFrom, columnLefts, columnTests, walkLefts
 ghost use Rattle.columns.specs.Kinds.{fromCode};
 ghost use Rattle.walk.specs.Walks.{held, plain, members, outputs, Entries, Outputs, Asked};
 use columns::Column;
+use columns::counts_of;
 use sheet::cursor;
 
 // out[i] = x[first + i]
@@ -68,27 +69,6 @@ fn weighted_from(x: &[u32], first: usize, n: usize, start: u32) -> u32
     acc
 }
 
-fn gates_of(column: Column) -> usize
-    ensures { λ r. ⌜ r ≡ gatesOf (fromCode column) ⌝ }
-{
-    match column {
-        Column::YesNo => 1,
-        Column::Choice(n) => n,
-        Column::Number(n) => n,
-    }
-}
-
-fn tests_of(column: Column) -> usize
-    requires { ⌜ testsOf (fromCode column) ≤ 1024 ⌝ }
-    ensures { λ r. ⌜ r ≡ testsOf (fromCode column) ⌝ }
-{
-    match column {
-        Column::YesNo => 1,
-        Column::Choice(n) => n + 1,
-        Column::Number(n) => n + 1,
-    }
-}
-
 // The left inputs of one column, whose first entry is e: its bits.
 fn column_lefts(x: &[u32], e: usize, column: Column, out: &mut [u32])
     requires { ⌜ (e + entriesOf (fromCode column) ≤ length (now x)) × (length (now out) ≡ gatesOf (fromCode column)) ⌝ }
@@ -111,10 +91,10 @@ pub fn fill_lefts(s: &[u8], x: &[u32], out: &mut [u32])
     while c.at < s.len() {
         let step = cursor::next(s, c);
         let column = step.column;
-        let from = c.gates;
-        let to = from + gates_of(column);
-        column_lefts(x, c.entry, column, &mut out[from..to]);
         let after = step.next;
+        let from = c.gates;
+        let to = after.gates;
+        column_lefts(x, c.entry, column, &mut out[from..to]);
         c = after;
     }
 }
@@ -160,7 +140,8 @@ pub fn fill_tests(s: &[u8], x: &[u32], l: usize, constant: u32, out: &mut [u32])
     while c.at < s.len() {
         let step = cursor::next(s, c);
         let column = step.column;
-        let to = done + tests_of(column);
+        let counts = counts_of(column);
+        let to = done + counts.tests;
         column_tests(x, l, c.entry, c.gates, constant, column, &mut out[done..to]);
         done = to;
         let after = step.next;

@@ -18,7 +18,7 @@ enum-known-column : tie.Need-enum-known-column
 enum-known-column c = search needs
 
 power-requires : tie.Need-power-requires
-power-requires c κs = rw (c .before .column .given .1) at (c .before .before .before .pre)
+power-requires c κs = (rw (c .before .column .given .1) at (c .before .before .before .pre)) .1
 
 sub-result : tie.Need-sub-result
 sub-result c = omega (arith, c .power .ensures, pow-pos (c .before .before .column .given .0 .0))

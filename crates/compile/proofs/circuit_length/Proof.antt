@@ -4,7 +4,7 @@ use Prim.Native.Nat.{_-_}
 use native.Mathlib.Omega.{arith}
 use borrow.Author.Needs.{needs}
 use Rattle.sheet.specs.Cursor.{Stands}
-use Rattle.sheet.proofs.Walks.{Walks, walk-start, stands-by-index, walk-next, next-index, column-bounded}
+use Rattle.sheet.proofs.Walks.{Walks, walk-start, stands-by-index, walk-next, next-index, column-limited}
 use Rattle.compile.proofs.Walk.{Length, length-start, length-room, length-next, length-end}
 use Rattle.compile.proofs.circuit_length.Statement.{statement}
 use Rattle.compile.proofs.circuit_length.Tie as tie
@@ -36,7 +36,7 @@ next-requires : tie.Need-next-requires Inv-loop μ-loop
 next-requires c κs = stands c
 
 size-of-requires : tie.Need-size-of-requires Inv-loop μ-loop
-size-of-requires c κs = column-bounded (stands (c .before)) (c .next .result) (c .next .ensures)
+size-of-requires c κs = column-limited (stands (c .before)) (c .next .result) (c .next .ensures)
 
 add-total : tie.Need-add-total Inv-loop μ-loop
 add-total c =

@@ -4,7 +4,7 @@ use Prim.Native.Nat.{_-_}
 use native.Mathlib.Omega.{arith}
 use borrow.Author.Needs.{needs}
 use Rattle.sheet.specs.Cursor.{Stands}
-use Rattle.sheet.proofs.Walks.{Walks, walk-start, stands-by-index, walk-next, next-index, column-bounded}
+use Rattle.sheet.proofs.Walks.{Walks, walk-start, stands-by-index, walk-next, next-index, column-limited}
 use Rattle.compile.proofs.Columns.{sheet-long}
 use Rattle.compile.proofs.Walk.{Wrote, Room, wrote-start, wrote-room, wrote-next, wrote-end}
 use Rattle.compile.proofs.put_circuit.Statement.{statement}
@@ -60,12 +60,12 @@ put-column-requires : tie.Need-put-column-requires Inv-loop μ-loop
 put-column-requires c κs =
     let n = c .before .before in
     let r = room n in
-    (r .room, column-bounded (stands (n .before)) (n .next .result) (n .next .ensures), omega arith, omega arith)
+    (r .room, column-limited (stands (n .before)) (n .next .result) (n .next .ensures), omega arith, omega arith)
 
 wires-of-requires : tie.Need-wires-of-requires Inv-loop μ-loop
 wires-of-requires c κs =
     let n = c .before .before .before .before .before in
-    column-bounded (stands (n .before)) (n .next .result) (n .next .ensures)
+    column-limited (stands (n .before)) (n .next .result) (n .next .ensures)
 
 add-wire : tie.Need-add-wire Inv-loop μ-loop
 add-wire c = let r = room (c .before .before .before .before .before .before) in omega (arith, c .wires-of .ensures)

@@ -23,16 +23,16 @@ enum-known-column c = search needs
 cast-put-choice : tie.Need-cast-put-choice
 cast-put-choice c =
     let g = c .before .before in
-    let few : g .column .given .0 .0 ≤ 64 = rw (g .column .given .1) at (g .before .before .before .pre .1) in
+    let few = rw (g .column .given .1) at (g .before .before .before .pre .1) in
     omega arith
 
 put-choice-requires : tie.Need-put-choice-requires
 unfolding columnSize
 put-choice-requires c κs =
     let a = c .before .before .before .before .before in
-    let few : c .before .before .column .given .0 .0 ≤ 64 = rw (c .before .before .column .given .1) at (a .pre .1) in
+    let few = rw (c .before .before .column .given .1) at (a .pre .1) in
     let room = rw (c .before .before .column .given .1) at (a .pre .0) in
-    (room, few, a .pre .2, a .pre .3)
+    (room, few .1, a .pre .2, a .pre .3)
 
 enum-known-column-2 : tie.Need-enum-known-column-2
 enum-known-column-2 c = search needs
@@ -40,16 +40,16 @@ enum-known-column-2 c = search needs
 cast-put-number : tie.Need-cast-put-number
 cast-put-number c =
     let g = c .before .before in
-    let few : g .column2 .given .0 .0 ≤ 24 = rw (g .column2 .given .1) at (g .before .before .before .pre .1) in
+    let few = rw (g .column2 .given .1) at (g .before .before .before .pre .1) in
     omega arith
 
 put-number-requires : tie.Need-put-number-requires
 unfolding columnSize
 put-number-requires c κs =
     let a = c .before .before .before .before .before in
-    let few : c .before .before .column2 .given .0 .0 ≤ 24 = rw (c .before .before .column2 .given .1) at (a .pre .1) in
+    let few = rw (c .before .before .column2 .given .1) at (a .pre .1) in
     let room = rw (c .before .before .column2 .given .1) at (a .pre .0) in
-    (room, few, a .pre .2, a .pre .3)
+    (room, few .1, a .pre .2, a .pre .3)
 
 same-length : tie.Need-same-length
 same-length c = search needs

@@ -1,5 +1,4 @@
 -- `values::values_of` meets its contract: each arm is one case of the definition. Assumes nothing.
-use Prim.Native.Nat.{_≤_}
 use native.Mathlib.Omega.{arith}
 use borrow.Author.Needs.{needs}
 use Rattle.rules.specs.Columns.{valuesOf}
@@ -14,14 +13,14 @@ enum-known-column c = search needs
 
 cast-result : tie.Need-cast-result
 cast-result c =
-    let few : c .before .column .given .0 .0 ≤ 64 = rw (c .before .column .given .1) at (c .before .before .before .pre) in
+    let few = rw (c .before .column .given .1) at (c .before .before .before .pre) in
     omega arith
 
 enum-known-column-2 : tie.Need-enum-known-column-2
 enum-known-column-2 c = search needs
 
 power-requires : tie.Need-power-requires
-power-requires c κs = rw (c .before .column2 .given .1) at (c .before .before .before .pre)
+power-requires c κs = (rw (c .before .column2 .given .1) at (c .before .before .before .pre)) .1
 
 returns : tie.Need-returns
 unfolding valuesOf

@@ -17,7 +17,7 @@ use Rattle.columns.specs.Kinds.{fromCode}
 use Rattle.sheet.specs.declared.cursor.Cursor.{Cursor}
 use Rattle.sheet.specs.declared.cursor.Step.{Step}
 use Rattle.sheet.specs.Cursor.{Stands, stepAt}
-use Rattle.sheet.proofs.Walks.{Walks, walk-start, stands-by-index, walk-next, next-index, column-seen, column-bounded}
+use Rattle.sheet.proofs.Walks.{Walks, walk-start, stands-by-index, walk-next, next-index, column-seen, column-limited}
 use Rattle.values.proofs.Encodings.{count-values, legal-next, legal-end, values-missing, values-each}
 use Rattle.values.proofs.values_refusal.Statement.{statement}
 use Rattle.values.proofs.values_refusal.Tie as tie
@@ -96,7 +96,7 @@ next-requires : tie.Need-next-requires Inv-loop μ-loop
 next-requires c κs = stands (c .before .before) (c .if2 .taken)
 
 values-of-requires : tie.Need-values-of-requires Inv-loop μ-loop
-values-of-requires c κs = column-bounded (stands (c .before .before .before) (c .before .if2 .taken)) _ (c .next .ensures)
+values-of-requires c κs = column-limited (stands (c .before .before .before) (c .before .if2 .taken)) _ (c .next .ensures)
 
 at-requires : tie.Need-at-requires Inv-loop μ-loop
 at-requires c κs = search needs

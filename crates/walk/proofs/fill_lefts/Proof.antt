@@ -1,14 +1,13 @@
 -- `walk::fill_lefts` meets its contract: each turn writes the inputs of one column behind those of the columns before.
 -- Assumes nothing.
 use mathlib.Core.Path.{_≡_, sym, ap, _∙_, subst}
-use Prim.Native.Nat.{ℕ, _+_, _-_, _≤_}
+use Prim.Native.Nat.{ℕ, _-_, _≤_}
 use native.Mathlib.Omega.{arith}
 use borrow.Rule.Slice.PartMut.{mid-len}
 use lib.ListN.{length}
 use Rattle.rules.specs.Columns.{columnsOf}
-use Rattle.rules.specs.Circuit.{gatesIn, gatesOf}
+use Rattle.rules.specs.Circuit.{gatesIn}
 use Rattle.rules.specs.Run.{Meaning}
-use Rattle.columns.specs.Kinds.{fromCode}
 use Rattle.columns.proofs.Sums.{gates}
 use Rattle.sheet.specs.declared.cursor.Cursor.{Cursor}
 use Rattle.walk.specs.Walks.{plain, members}
@@ -41,9 +40,8 @@ turn n =
     (n .next .ensures)
 
 -- the inputs of the column, with those before it, are no more than the buffer has places for
-fits : (n : tie.After-next Inv-loop μ-loop)
-    → round n .loop .c .gates + gatesOf (fromCode (n .next .result .column)) ≤ length (given (round n) .args .out .now)
-fits n = omega (arith, turn n .gates-next, turn n .gates-fit, given (round n) .pre .1)
+fits : (n : tie.After-next Inv-loop μ-loop) → n .next .result .next .gates ≤ length (given (round n) .args .out .now)
+fits n = omega (arith, turn n .gates-fit, given (round n) .pre .1)
 
 -- ---- the steps
 start-requires : tie.Need-start-requires Inv-loop μ-loop
@@ -61,50 +59,38 @@ next-requires : tie.Need-next-requires Inv-loop μ-loop
 next-requires c κs =
     let l = c .before .before in stands (given l .pre .0 .is-read) (l .loop .inv .here) (c .if1 .taken)
 
-gates-of-requires : tie.Need-gates-of-requires Inv-loop μ-loop
-gates-of-requires c κs = tt
-
-add-to : tie.Need-add-to Inv-loop μ-loop
-add-to c = omega (arith, c .gates-of .ensures, fits (c .before))
-
 mul-column-lefts : tie.Need-mul-column-lefts Inv-loop μ-loop
-mul-column-lefts c = record { fits = omega (arith, fits (c .before)) }
+mul-column-lefts c = let n = c .before in record { fits = omega (arith, turn n .gates-next, fits n, round n .before .before) }
 
 sub-column-lefts : tie.Need-sub-column-lefts Inv-loop μ-loop
-sub-column-lefts c = omega arith
+sub-column-lefts c = omega (arith, turn (c .before) .gates-next)
 
 part-column-lefts-start : tie.Need-part-column-lefts-start Inv-loop μ-loop
-part-column-lefts-start c = omega arith
+part-column-lefts-start c = omega (arith, turn (c .before) .gates-next)
 
 part-column-lefts-end : tie.Need-part-column-lefts-end Inv-loop μ-loop
-part-column-lefts-end c =
-    let n = c .before in omega (arith, c .gates-of .ensures, fits n, round n .loop .inv .same)
+part-column-lefts-end c = let n = c .before in omega (arith, fits n, round n .loop .inv .same)
 
 column-lefts-requires : tie.Need-column-lefts-requires Inv-loop μ-loop
 column-lefts-requires c κs =
     let n = c .before .before in
     let l = round n .loop in
-    let count = c .before .gates-of in
-    let fit : l .c .gates + count .result ≤ length (l .out) = omega (arith, count .ensures, fits n, l .inv .same) in (
+    let to = n .next .result .next .gates in
+    let fit : to ≤ length (l .out) = omega (arith, fits n, l .inv .same) in (
       omega (arith, turn n .entries-fit, given (round n) .pre .0 .enough),
-      mid-len (l .c .gates) (l .c .gates + count .result) (l .out) fit ∙ omega (arith, count .ensures),
+      mid-len (l .c .gates) to (l .out) fit ∙ omega (arith, turn n .gates-next),
     )
 
 loop-less : tie.Need-loop-less Inv-loop μ-loop
-loop-less c = turn (c .before .before .before .before .before .before) .less
+loop-less c = turn (c .before .before .before .before .before) .less
 
 loop-again : tie.Need-loop-again Inv-loop μ-loop
 loop-again c =
-    let n = c .before .before .before .before .before .before in
-    let count = c .before .before .before .before .before .gates-of in
-    let filled = c .before .before .before .column-lefts in
+    let n = c .before .before .before .before .before in
+    let filled = c .before .before .column-lefts in
     let z = given (round n) in
-    let l = round n .loop in
-    let end : l .c .gates + count .result ≡ n .next .result .next .gates
-    = omega (arith, count .ensures, turn n .gates-next) in
-    subst (Walking (leftPart (meaning z)) gatesIn (z .args .s .now) (z .args .out .now) _ (n .next .result .next)) end
-    (walk-put (lefts (meaning z)) (n .next .result) (filled .last .1 .1 .1 .0) (l .c .gates + count .result) (l .inv)
-    (turn n) (filled .ensures) (ap (l .c .gates +_) (count .ensures)) (omega (arith, count .ensures, fits n)))
+    walk-put (lefts (meaning z)) (n .next .result) (filled .last .1 .1 .1 .0) (n .next .result .next .gates)
+    (round n .loop .inv) (turn n) (filled .ensures) (turn n .gates-next) (fits n)
 
 same-length : tie.Need-same-length Inv-loop μ-loop
 same-length c = c .before .before .loop .inv .same
@@ -125,8 +111,6 @@ fill-lefts-spec =
     start-requires
     loop-holds
     next-requires
-    gates-of-requires
-    add-to
     mul-column-lefts
     sub-column-lefts
     part-column-lefts-start

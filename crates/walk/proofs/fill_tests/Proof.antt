@@ -1,6 +1,6 @@
 -- `walk::fill_tests` meets its contract: each turn writes the tests of one column behind those of the columns before.
 -- Assumes nothing.
-use mathlib.Core.Path.{ap, _∙_}
+use mathlib.Core.Path.{_≡_, ap, _∙_}
 use Prim.Native.Nat.{ℕ, _+_, _-_, _≤_}
 use native.Mathlib.Omega.{arith}
 use borrow.Rule.Slice.PartMut.{mid-len}
@@ -8,12 +8,12 @@ use lib.ListN.{length}
 use Rattle.rules.specs.Columns.{columnsOf}
 use Rattle.rules.specs.Circuit.{testsOf, testsIn}
 use Rattle.rules.specs.Run.{Meaning}
+use Rattle.columns.specs.declared.Counts.{Counts}
 use Rattle.columns.specs.Kinds.{fromCode}
-use Rattle.columns.proofs.Sums.{tests as test-count, total-most}
+use Rattle.columns.proofs.Sums.{tests as test-count, total-one, total-most}
 use Rattle.walk.specs.Walks.{held, members, outputs}
 use Rattle.walk.proofs.Walking.{Walking, Turned, turned, walk-start, stands, walk-put, walk-finish}
 use Rattle.walk.proofs.Meanings.{testPart, tests, tests-walked}
-use Rattle.walk.proofs.ColumnTests.{one-more}
 use Rattle.walk.proofs.fill_tests.Statement.{statement}
 use Rattle.walk.proofs.fill_tests.Tie as tie
 
@@ -49,10 +49,9 @@ fits n =
     let column = ap testsOf (turn n .column-is) in
     omega (arith, most, column, round n .loop .inv .count, z .pre .1 .0)
 
-few : (n : tie.After-next Inv-loop μ-loop) → testsOf (fromCode (n .next .result .column)) ≤ 257
-few n =
-    let t = turn n in
-    omega (arith, one-more (fromCode (n .next .result .column)), t .gates-next, t .gates-fit, t .gates-few)
+counted : (m : tie.After-counts-of Inv-loop μ-loop)
+    → m .counts-of .result .tests ≡ testsOf (fromCode (m .before .next .result .column))
+counted m = ap (λ (k : Counts). k .tests) (m .counts-of .ensures) ∙ total-one test-count _
 
 -- ---- the steps
 start-requires : tie.Need-start-requires Inv-loop μ-loop
@@ -67,14 +66,14 @@ next-requires : tie.Need-next-requires Inv-loop μ-loop
 next-requires c κs =
     let l = c .before .before in stands (given l .pre .0 .0 .is-read) (l .loop .inv .here) (c .if1 .taken)
 
-tests-of-requires : tie.Need-tests-of-requires Inv-loop μ-loop
-tests-of-requires c κs = omega (arith, few c)
+counts-of-requires : tie.Need-counts-of-requires Inv-loop μ-loop
+counts-of-requires c κs = turn c .in-limits
 
 add-to : tie.Need-add-to Inv-loop μ-loop
-add-to c = omega (arith, c .tests-of .ensures, fits (c .before))
+add-to c = let m = c .before in omega (arith, counted m, fits (m .before), round (m .before) .before .before)
 
 mul-column-tests : tie.Need-mul-column-tests Inv-loop μ-loop
-mul-column-tests c = record { fits = omega (arith, fits (c .before)) }
+mul-column-tests c = let n = c .before .before in record { fits = omega (arith, fits n, round n .before .before) }
 
 sub-column-tests : tie.Need-sub-column-tests Inv-loop μ-loop
 sub-column-tests c = omega arith
@@ -84,37 +83,40 @@ part-column-tests-start c = omega arith
 
 part-column-tests-end : tie.Need-part-column-tests-end Inv-loop μ-loop
 part-column-tests-end c =
-    let n = c .before in omega (arith, c .tests-of .ensures, fits n, round n .loop .inv .same)
+    let m = c .before in
+    let n = m .before in
+    omega (arith, counted m, fits n, round n .loop .inv .same)
 
 column-tests-requires : tie.Need-column-tests-requires Inv-loop μ-loop
 column-tests-requires c κs =
-    let n = c .before .before in
+    let m = c .before .before in
+    let n = m .before in
     let t = turn n in
     let l = round n .loop in
     let pre = given (round n) .pre in
-    let count = c .before .tests-of in
-    let fit : l .done + count .result ≤ length (l .out) = omega (arith, count .ensures, fits n, l .inv .same) in (
+    let to = l .done + m .counts-of .result .tests in
+    let fit : to ≤ length (l .out) = omega (arith, counted m, fits n, l .inv .same) in (
       record {
         elements = pre .0 .0 .elements;
         constant = pre .1 .1;
         entries = omega (arith, t .entries-fit, pre .0 .0 .enough);
         outputs-fit = omega (arith, t .gates-next, t .gates-fit, pre .0 .1 .room);
       },
-      mid-len (l .done) (l .done + count .result) (l .out) fit ∙ omega (arith, count .ensures),
+      mid-len (l .done) to (l .out) fit ∙ omega (arith, counted m),
     )
 
 loop-less : tie.Need-loop-less Inv-loop μ-loop
-loop-less c = turn (c .before .before .before .before .before .before) .less
+loop-less c = turn (c .before .before .before .before .before .before .before) .less
 
 loop-again : tie.Need-loop-again Inv-loop μ-loop
 loop-again c =
-    let n = c .before .before .before .before .before .before in
-    let count = c .before .before .before .before .before .tests-of in
+    let m = c .before .before .before .before .before .before in
+    let n = m .before in
     let filled = c .before .before .before .column-tests in
     let l = round n .loop in
     walk-put (tests (meaning (given (round n)))) (n .next .result) (filled .last .1 .1 .1 .1 .1 .1 .0)
-    (l .done + count .result) (l .inv) (turn n) (filled .ensures) (ap (l .done +_) (count .ensures))
-    (omega (arith, count .ensures, fits n))
+    (l .done + m .counts-of .result .tests) (l .inv) (turn n) (filled .ensures) (ap (l .done +_) (counted m))
+    (omega (arith, counted m, fits n))
 
 same-length : tie.Need-same-length Inv-loop μ-loop
 same-length c = c .before .before .loop .inv .same
@@ -135,7 +137,7 @@ fill-tests-spec =
     start-requires
     loop-holds
     next-requires
-    tests-of-requires
+    counts-of-requires
     add-to
     mul-column-tests
     sub-column-tests

@@ -14,7 +14,7 @@ use Rattle.records.specs.Outcome.{ok, orElse}
 use Rattle.rules.specs.Settings.{document01}
 use Rattle.rules.specs.Columns.{largestOf, readSheet, columnsOf, totalsFit}
 use Rattle.rules.proofs.Circuits.Limits.{limits}
-use Rattle.columns.proofs.Alone.{bounded, largest-most}
+use Rattle.columns.proofs.Taken.{largest-most}
 use Rattle.sheet.proofs.returns.returns_refusal.Statement.{statement}
 use Rattle.sheet.proofs.returns.returns_refusal.Tie as tie
 
@@ -25,7 +25,7 @@ few-fit : (s : List ℕ) (n : ℕ) → readSheet s ≡ ok (columnsOf s) → n �
 unfolding totalsFit
 few-fit s n is-read h =
     all-every (λ c. ltb (n * largestOf c) 2147483647) (columnsOf s)
-    (all-map (λ c l. lt-ltb (n * largestOf c) 2147483647 (few-below n (largestOf c) h (largest-most c (bounded c l))))
+    (all-map (λ c l. lt-ltb (n * largestOf c) 2147483647 (few-below n (largestOf c) h (largest-most c l)))
     (limits s (columnsOf s) is-read .in-limits))
 
 returns : tie.Need-returns

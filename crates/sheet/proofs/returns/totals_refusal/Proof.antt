@@ -13,12 +13,12 @@ use lib.ListN.{length, getD, drop}
 use Rattle.rules.specs.Settings.{document01}
 use Rattle.rules.specs.Columns.{Column, yesNo, largestOf, columnsOf, totalsFit}
 use Rattle.columns.specs.Kinds.{fromCode}
-use Rattle.columns.proofs.Alone.{largest-most}
+use Rattle.columns.proofs.Taken.{largest-most}
 use Rattle.sheet.specs.declared.cursor.Cursor.{Cursor}
 use Rattle.sheet.specs.declared.cursor.Step.{Step}
 use Rattle.sheet.specs.Cursor.{Stands, stepAt}
 use Rattle.sheet.proofs.Walks.{Walks, walk-start, stands-by-place, walk-end, walk-next, next-index, column-seen}
-use Rattle.sheet.proofs.Walks.{column-bounded, every-next, every-end}
+use Rattle.sheet.proofs.Walks.{column-limited, every-next, every-end}
 use Rattle.sheet.proofs.returns.totals_refusal.Statement.{statement}
 use Rattle.sheet.proofs.returns.totals_refusal.Tie as tie
 
@@ -68,7 +68,7 @@ next-requires : tie.Need-next-requires Inv-loop μ-loop
 next-requires c κs = stands (c .before .before) (c .if1 .taken)
 
 largest-of-requires : tie.Need-largest-of-requires Inv-loop μ-loop
-largest-of-requires c κs = column-bounded (stands (c .before .before .before) (c .before .if1 .taken)) _ (c .next .ensures)
+largest-of-requires c κs = column-limited (stands (c .before .before .before) (c .before .if1 .taken)) _ (c .next .ensures)
 
 cast-if2 : tie.Need-cast-if2 Inv-loop μ-loop
 cast-if2 c = search needs
@@ -77,7 +77,7 @@ mul-if2 : tie.Need-mul-if2 Inv-loop μ-loop
 mul-if2 c =
     let z = c .before .before .before .before .before .before .before in
     let n = z .args .n in
-    let b = column-bounded (stands (c .before .before .before .before) (c .before .before .if1 .taken)) _ (c .before .next .ensures) in
+    let b = column-limited (stands (c .before .before .before .before) (c .before .before .if1 .taken)) _ (c .before .next .ensures) in
     let m : c .largest-of .result ≤ 16777215 = rw (c .largest-of .ensures) (largest-most _ b) in
     omega (arith, mul-le-mul-left n m, z .pre .1)
 

@@ -1,0 +1,128 @@
+-- A column that is taken: what a record says by its kind, that the column is within its limits, and what it comes to.
+-- By the cases of the kind. Assumes nothing.
+use mathlib.Core.Path.{_≡_, refl, sym, ap, _∙_, subst}
+use mathlib.Core.Bool.{Bool, true, false, cond}
+use mathlib.Core.List.{List, [], _∷_}
+use Prim.Native.Nat.{ℕ, _+_, _^_, _≤_}
+use native.Mathlib.Nat.{pow-le-pow-right}
+use native.Mathlib.Numerals.{add-one}
+use native.Mathlib.Omega.{arith}
+use lib.Dec.{eqb}
+use lib.ListN.{getD}
+use Rattle.records.specs.Outcome.{Outcome, ok, refused}
+use Rattle.rules.specs.Columns.{Column, yesNo, choice, number, within, limitedColumn, columnOf}
+use Rattle.rules.specs.Columns.{entriesOf, publishedOf, entriesIn, publishedIn, largestOf}
+use Rattle.rules.specs.Circuit.{gatesOf, testsOf, gatesIn, testsIn}
+use Rattle.rules.proofs.Circuits.Limits.{InLimits, within-both}
+use Rattle.columns.specs.declared.Column as code
+use Rattle.columns.specs.declared.Column.the-variants as kind
+use Rattle.columns.specs.declared.Judged.the-variants as answer
+use Rattle.columns.specs.Counting.{countsOf, Small}
+use Rattle.columns.specs.Kinds.{toCode, fromCode, judgedOf, columnIn}
+use Rattle.columns.proofs.ColumnBytes.{from-to-code}
+use Rattle.columns.proofs.Sums.{entries, published, gates, tests, total-one}
+
+-- ---- what one column comes to
+pub counts-choice : (n : ℕ) → countsOf (choice n ∷ []) ≡ record { columns = 1; entries = n; published = n; gates = n; tests = n + 1 }
+unfolding entriesOf publishedOf gatesOf testsOf
+counts-choice n =
+    rw (
+      total-one entries (choice n),
+      total-one published (choice n),
+      total-one gates (choice n),
+      total-one tests (choice n),
+    )
+
+pub counts-number : (n : ℕ) → countsOf (number n ∷ [])
+    ≡ record { columns = 1; entries = n + 1; published = 1; gates = n; tests = n + 1 }
+unfolding entriesOf publishedOf gatesOf testsOf
+counts-number n =
+    rw (
+      total-one entries (number n),
+      total-one published (number n),
+      total-one gates (number n),
+      total-one tests (number n),
+      add-one,
+    )
+
+pub column-small : (a : Column) → InLimits a → Small 64 (countsOf (a ∷ []))
+unfolding entriesOf publishedOf gatesOf testsOf entriesIn publishedIn gatesIn testsIn
+column-small yesNo h = search arith
+column-small (choice n) h = search arith
+column-small (number n) h = search arith
+
+pub largest-most : (a : Column) → InLimits a → largestOf a ≤ 16777215
+unfolding largestOf
+largest-most yesNo h = omega arith
+largest-most (choice n) h = omega arith
+largest-most (number n) h = let p : 2 ^ n ≤ 2 ^ 24 = pow-le-pow-right (omega arith) (h .1) in omega arith
+
+-- ---- what a record says
+-- a column within its limits, or refusal 2
+data Said : Outcome Column → Type 0 where
+  column : (a : Column) → InLimits a → Said (ok a)
+  two : Said (refused 2)
+
+limited-said : (fits : Bool) (a : Column) → (fits ≡ true → InLimits a) → Said (limitedColumn fits a)
+unfolding limitedColumn
+limited-said true a h = column a (h refl)
+limited-said false a h = two
+
+said : (k : ℕ) (body : List ℕ) → Said (columnOf k body)
+unfolding columnOf
+said k body = by-kind (eqb k 17) (eqb k 18)
+  where
+    x : ℕ
+    x = getD body 0 0
+
+    by-kind : (a b : Bool)
+        → Said (cond a (ok yesNo) (cond b (limitedColumn (within 2 64 x) (choice x)) (limitedColumn (within 1 24 x) (number x))))
+    by-kind true b = column yesNo tt
+    by-kind false true = limited-said (within 2 64 x) (choice x) (within-both 2 64 x)
+    by-kind false false = limited-said (within 1 24 x) (number x) (within-both 1 24 x)
+
+said-limits : (r : Outcome Column) (a : Column) → Said r → r ≡ ok a → InLimits a
+said-limits r a (column b h) e = let q : b ≡ a = cc in subst InLimits q h
+said-limits r a two e = let z : _≡_ {A = ℕ} 0 1 = cc in absurd (omega arith)
+
+said-two : (r : Outcome Column) (n : ℕ) → Said r → r ≡ refused n → n ≡ 2
+said-two r n (column b h) e = let z : _≡_ {A = ℕ} 0 1 = cc in absurd (omega arith)
+said-two r n two e = cc
+
+-- ---- what the answer of code tells
+is-taken : (r : Outcome Column) (c : code.Column) → judgedOf r ≡ answer.Taken c → r ≡ ok (fromCode c)
+unfolding judgedOf
+is-taken (ok a) c h = let e : toCode a ≡ c = cc in ap ok (sym (from-to-code a) ∙ ap fromCode e)
+is-taken (refused n) c h = let z : _≡_ {A = ℕ} 0 1 = cc in absurd (omega arith)
+
+is-refused : (r : Outcome Column) (n : ℕ) → judgedOf r ≡ answer.Refused n → r ≡ refused n
+unfolding judgedOf
+is-refused (ok a) n h = let z : _≡_ {A = ℕ} 0 1 = cc in absurd (omega arith)
+is-refused (refused m) n h = cc
+
+pub column-told : (r : Outcome Column) (c : code.Column) → judgedOf r ≡ answer.Taken c → c ≡ toCode (columnIn r)
+unfolding judgedOf columnIn
+column-told (ok a) c h = cc
+column-told (refused n) c h = let z : _≡_ {A = ℕ} 0 1 = cc in absurd (omega arith)
+
+pub column-none : (r : Outcome Column) (n : ℕ) → judgedOf r ≡ answer.Refused n → kind.YesNo ≡ toCode (columnIn r)
+unfolding judgedOf columnIn
+column-none (ok a) n h = let z : _≡_ {A = ℕ} 0 1 = cc in absurd (omega arith)
+column-none (refused m) n h = refl
+
+module _ (k : ℕ) (body : List ℕ) where
+  pub record Taken (c : code.Column) : Type 0 where
+    pub is-ok : columnOf k body ≡ ok (fromCode c)
+    pub in-limits : InLimits (fromCode c)
+    pub small : Small 64 (countsOf (fromCode c ∷ []))
+
+  pub taken : (c : code.Column) → judgedOf (columnOf k body) ≡ answer.Taken c → Taken c
+  taken c h =
+      let e = is-taken (columnOf k body) c h in
+      let l = said-limits (columnOf k body) (fromCode c) (said k body) e in
+      record { is-ok = e; in-limits = l; small = column-small (fromCode c) l }
+
+  pub outside : (n : ℕ) → judgedOf (columnOf k body) ≡ answer.Refused n → (columnOf k body ≡ refused n) × (n ≡ 2)
+  outside n h =
+      let e = is-refused (columnOf k body) n h in
+      (e, said-two (columnOf k body) n (said k body) e)

@@ -59,10 +59,10 @@ fn pair_fault(body: &[u8], wires: u32) -> u32
 // The fault of a body of a wire and a constant: the constant comes first.
 fn scale_fault(body: &[u8], wires: u32) -> u32
     requires { ⌜ 6 ≤ length (now body) ⌝ }
-    ensures { λ r. ⌜ r ≡ orElse (check (ltb (valueOf (part 2 4 (now (body .entry)))) 2147483647) 2)
+    ensures { λ r. ⌜ r ≡ orElse (check (ltb (valueOf (part 2 4 (now (body .entry)))) (document01 .modulus)) 2)
         (check (ltb (valueOf (part 0 2 (now (body .entry)))) wires) 3) ⌝ }
 {
-    let constant = below(words::read_u32(body, 2), 2147483647, 2);
+    let constant = below(words::read_u32(body, 2), field::P, 2);
     let wire = below(words::read_u16(body, 0), wires, 3);
     or_else(constant, wire)
 }
@@ -73,7 +73,7 @@ fn step_fault(kind: u8, body: &[u8], entries: u32, wires: u32) -> u32
     ensures { λ r. ⌜ r ≡ stepFault document01 entries wires (stepOf document01 kind (now (body .entry))) ⌝ }
 {
     if kind == 1 {
-        return below(words::read_u32(body, 0), 2147483647, 2);
+        return below(words::read_u32(body, 0), field::P, 2);
     }
     if kind == 2 {
         return below(words::read_u16(body, 0), entries, 3);

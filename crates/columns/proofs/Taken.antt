@@ -17,13 +17,13 @@ use Rattle.rules.proofs.Circuits.Limits.{InLimits, within-both}
 use Rattle.columns.specs.declared.Column as code
 use Rattle.columns.specs.declared.Column.the-variants as kind
 use Rattle.columns.specs.declared.Judged.the-variants as answer
-use Rattle.columns.specs.Counting.{countsOf, Small}
+use Rattle.columns.specs.Counting.{countsOf, oneColumn, Small}
 use Rattle.columns.specs.Kinds.{toCode, fromCode, judgedOf, columnIn}
 use Rattle.columns.proofs.ColumnBytes.{from-to-code}
 use Rattle.columns.proofs.Sums.{entries, published, gates, tests, total-one}
 
 -- ---- what one column comes to
-pub counts-choice : (n : ℕ) → countsOf (choice n ∷ []) ≡ record { columns = 1; entries = n; published = n; gates = n; tests = n + 1 }
+pub counts-choice : (n : ℕ) → countsOf (choice n ∷ []) ≡ oneColumn n n n (n + 1)
 unfolding entriesOf publishedOf gatesOf testsOf
 counts-choice n =
     rw (
@@ -33,8 +33,7 @@ counts-choice n =
       total-one tests (choice n),
     )
 
-pub counts-number : (n : ℕ) → countsOf (number n ∷ [])
-    ≡ record { columns = 1; entries = n + 1; published = 1; gates = n; tests = n + 1 }
+pub counts-number : (n : ℕ) → countsOf (number n ∷ []) ≡ oneColumn (n + 1) 1 n (n + 1)
 unfolding entriesOf publishedOf gatesOf testsOf
 counts-number n =
     rw (

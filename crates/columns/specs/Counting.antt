@@ -17,6 +17,10 @@ countsOf cs =
       tests = testsIn cs;
     }
 
+-- one column of so many entries, published entries, multiplications and tests
+abbrev pub oneColumn : ℕ → ℕ → ℕ → ℕ → Counts
+oneColumn e p g t = record { columns = 1; entries = e; published = p; gates = g; tests = t }
+
 -- at most e entries, and the other counts bounded by them
 pub record Small (e : ℕ) (c : Counts) : Type 0 where
   pub entries-most : c .entries ≤ e

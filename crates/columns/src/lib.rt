@@ -6,7 +6,7 @@ ghost use Prim.Native.Nat.{_+_, _^_, _≤_};
 ghost use lib.ListN.{length};
 ghost use Rattle.rules.specs.Columns.{choice, number, within, limitedColumn, columnOf, largestOf};
 ghost use Rattle.rules.proofs.Circuits.Limits.{InLimits};
-ghost use Rattle.columns.specs.Counting.{countsOf};
+ghost use Rattle.columns.specs.Counting.{countsOf, oneColumn};
 ghost use Rattle.columns.specs.Kinds.{bytesOfKind, judgedOf, fromCode};
 
 // What columns come to: entries, published entries, multiplications and tests.
@@ -106,33 +106,28 @@ pub fn column_of(kind: u8, body: &[u8]) -> Judged
     number_of(wide(body[0]))
 }
 
+// One column of so many entries, published entries, multiplications and tests.
+fn one(entries: usize, published: usize, gates: usize, tests: usize) -> Counts
+    ensures { λ r. ⌜ r ≡ oneColumn entries published gates tests ⌝ }
+{
+    Counts {
+        columns: 1,
+        entries,
+        published,
+        gates,
+        tests,
+    }
+}
+
 // What one column comes to.
 pub fn counts_of(column: Column) -> Counts
     requires { ⌜ InLimits (fromCode column) ⌝ }
     ensures { λ r. ⌜ r ≡ countsOf (fromCode column ∷ []) ⌝ }
 {
     match column {
-        Column::YesNo => Counts {
-            columns: 1,
-            entries: 1,
-            published: 1,
-            gates: 1,
-            tests: 1,
-        },
-        Column::Choice(n) => Counts {
-            columns: 1,
-            entries: n,
-            published: n,
-            gates: n,
-            tests: n + 1,
-        },
-        Column::Number(n) => Counts {
-            columns: 1,
-            entries: n + 1,
-            published: 1,
-            gates: n,
-            tests: n + 1,
-        },
+        Column::YesNo => one(1, 1, 1, 1),
+        Column::Choice(n) => one(n, n, n, n + 1),
+        Column::Number(n) => one(n + 1, 1, n, n + 1),
     }
 }
 

@@ -137,7 +137,7 @@ fn put_number(out: &mut [u8], at: usize, n: u32, e: u32, w: u32) -> usize
 {
     let bits = put_one(out, at, 2, e);
     let minus = bit_checks(out, bits, n, e + 1, w + 1);
-    let sum = put_scale(out, minus, w, 2147483646);
+    let sum = put_scale(out, minus, w, field::P - 1);
     bit_sum(out, sum, n, w + 1, w + 1 + 3 * n)
 }
 
@@ -201,7 +201,7 @@ fn put_circuit(sheet: &[u8], columns: usize, out: &mut [u8]) -> usize
     ensures { λ r. ⌜ Put (now (out .entry)) 0 (length (sheetCircuit document01 (now (sheet .entry))))
         (sheetCircuit document01 (now (sheet .entry))) (now (out .exit)) r ⌝ }
 {
-    let mut at = put_constant(out, 0, 2147483646);
+    let mut at = put_constant(out, 0, field::P - 1);
     let mut wire: u32 = 1;
     let mut c = sheet::cursor::start();
     while c.index < columns {

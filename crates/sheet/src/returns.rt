@@ -18,7 +18,7 @@ fn totals_refusal(s: &[u8], n: u32) -> u32
         let step = next(s, c);
         let column = step.column;
         let largest = largest_of(column);
-        if 2147483647 <= (n as u64) * (largest as u64) {
+        if (field::P as u64) <= (n as u64) * (largest as u64) {
             return 4;
         }
         c = step.next;

@@ -3,6 +3,7 @@ use mathlib.Core.Path.{_≡_, ap₂, _∙_}
 use lib.Dec.{ltb}
 use Rattle.words.specs.Bytes.{valueOf, part}
 use Rattle.records.specs.Outcome.{orElse}
+use Rattle.rules.specs.Settings.{document01}
 use Rattle.rules.specs.Columns.{check}
 use borrow.Author.Needs.{needs}
 use Rattle.circuit.proofs.scale_fault.Statement.{statement}
@@ -28,7 +29,7 @@ returns c =
     let w = c .before in
     let k = w .before .before in
     let a = k .before .before .before .args in
-    let constant : k .below .result ≡ check (ltb (valueOf (part 2 4 (a .body .now))) 2147483647) 2
+    let constant : k .below .result ≡ check (ltb (valueOf (part 2 4 (a .body .now))) (document01 .modulus)) 2
     = rw (k .below .ensures, k .before .read-u32 .ensures) in
     let wire : w .below2 .result ≡ check (ltb (valueOf (part 0 2 (a .body .now))) (a .wires)) 3
     = rw (w .below2 .ensures, w .before .read-u16 .ensures) in

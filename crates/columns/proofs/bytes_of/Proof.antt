@@ -1,4 +1,5 @@
 -- `columns::bytes_of` meets its contract: each answer is one case of the definition. Assumes nothing.
+use mathlib.Core.Path.{refl}
 use borrow.Author.Tests.{eq-eqb, ne-eqb}
 use Rattle.columns.specs.Kinds.{bytesOfKind}
 use Rattle.columns.proofs.bytes_of.Statement.{statement}
@@ -6,19 +7,19 @@ use Rattle.columns.proofs.bytes_of.Tie as tie
 
 returns : tie.Need-returns
 unfolding bytesOfKind
-returns c = simp (eq-eqb _ 17 (c .if1 .taken))
+returns c = simp (eq-eqb _ 17 (c .if1 .taken)) refl
 
 returns-2 : tie.Need-returns-2
 unfolding bytesOfKind
-returns-2 c = simp (ne-eqb _ 17 (c .before .if1 .left), eq-eqb _ 18 (c .if2 .taken))
+returns-2 c = simp (ne-eqb _ 17 (c .before .if1 .left), eq-eqb _ 18 (c .if2 .taken)) refl
 
 returns-3 : tie.Need-returns-3
 unfolding bytesOfKind
-returns-3 c = simp (ne-eqb _ 17 (c .before .before .if1 .left), ne-eqb _ 18 (c .before .if2 .left), eq-eqb _ 19 (c .if3 .taken))
+returns-3 c = simp (ne-eqb _ 17 (c .before .before .if1 .left), ne-eqb _ 18 (c .before .if2 .left), eq-eqb _ 19 (c .if3 .taken)) refl
 
 returns-4 : tie.Need-returns-4
 unfolding bytesOfKind
-returns-4 c = simp (ne-eqb _ 17 (c .before .before .if1 .left), ne-eqb _ 18 (c .before .if2 .left), ne-eqb _ 19 (c .if3 .left))
+returns-4 c = simp (ne-eqb _ 17 (c .before .before .if1 .left), ne-eqb _ 18 (c .before .if2 .left), ne-eqb _ 19 (c .if3 .left)) refl
 
 pub bytes-of-spec : {M : Type 1} → statement M
 bytes-of-spec = tie.close (tie.spec returns returns-2 returns-3 returns-4)

@@ -1,5 +1,6 @@
 -- `columns::column_of` meets its contract: each kind is one case of the definition, and its body has the bytes that are
 -- read. Assumes nothing.
+use mathlib.Core.Path.{refl}
 use native.Mathlib.Omega.{arith}
 use borrow.Author.Needs.{needs}
 use borrow.Author.Tests.{eq-eqb, ne-eqb}
@@ -11,7 +12,7 @@ use Rattle.columns.proofs.column_of.Tie as tie
 
 returns : tie.Need-returns
 unfolding judgedOf columnOf
-returns c = rw (eq-eqb _ 17 (c .if1 .taken))
+returns c = rw (eq-eqb _ 17 (c .if1 .taken)) refl
 
 shared-slice-read-wide : tie.Need-shared-slice-read-wide
 shared-slice-read-wide c =

@@ -1,5 +1,5 @@
 -- `columns::largest_of` meets its contract: each arm is one case of the definition. Assumes nothing.
-use mathlib.Core.Path.{ap}
+use mathlib.Core.Path.{refl, ap}
 use Prim.Native.Nat.{ℕ, _-_}
 use native.Mathlib.Omega.{arith}
 use borrow.Author.Needs.{needs}
@@ -25,11 +25,11 @@ sub-result c = omega (arith, c .power .ensures, pow-pos (c .before .before .colu
 
 returns : tie.Need-returns
 unfolding largestOf
-returns c = rw (c .enum-told .given .1)
+returns c = rw (c .enum-told .given .1) refl
 
 returns-2 : tie.Need-returns-2
 unfolding largestOf
-returns-2 c = rw (c .enum-told2 .given .1)
+returns-2 c = rw (c .enum-told2 .given .1) refl
 
 returns-3 : tie.Need-returns-3
 unfolding largestOf

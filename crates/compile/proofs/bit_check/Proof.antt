@@ -1,6 +1,5 @@
 -- `compile::bit_check` meets its contract: one step after the other. Assumes nothing.
 use mathlib.Core.Path.{refl}
-use Prim.Native.Nat.{_-_}
 use native.Mathlib.Omega.{arith}
 use borrow.Author.Needs.{needs}
 use Rattle.rules.specs.Circuit.{stepBytes}

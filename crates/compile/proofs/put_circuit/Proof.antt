@@ -16,6 +16,9 @@ Inv-loop sheet columns out₀ at₀ wire₀ c₀ out at wire c = Walks sheet c �
 abbrev μ-loop : tie.MeasureT-loop
 μ-loop sheet columns out₀ at₀ wire₀ c₀ out at wire c = columns - c .index
 
+sub-put-constant : tie.Need-sub-put-constant Inv-loop μ-loop
+sub-put-constant c = search needs
+
 put-constant-requires : tie.Need-put-constant-requires Inv-loop μ-loop
 put-constant-requires c κs = let a = c .before .before .before in omega (arith, sheet-long (a .args .sheet .now), a .pre .2)
 
@@ -100,6 +103,7 @@ put-circuit-spec =
     (tie.spec
     Inv-loop
     μ-loop
+    sub-put-constant
     put-constant-requires
     start-requires
     loop-holds

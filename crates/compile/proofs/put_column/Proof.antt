@@ -1,5 +1,4 @@
 -- `compile::put_column` meets its contract: each arm is one case of the definition. Assumes nothing.
-use Prim.Native.Nat.{_-_, _≤_}
 use native.Mathlib.Omega.{arith}
 use borrow.Author.Needs.{needs}
 use Rattle.rules.specs.Circuit.{columnSteps}

@@ -21,6 +21,9 @@ add-bit-checks-2 c = search needs
 bit-checks-requires : tie.Need-bit-checks-requires
 bit-checks-requires c κs = search needs
 
+sub-put-scale : tie.Need-sub-put-scale
+sub-put-scale c = search needs
+
 put-scale-requires : tie.Need-put-scale-requires
 put-scale-requires c κs = search needs
 
@@ -62,6 +65,7 @@ put-number-spec =
     add-bit-checks
     add-bit-checks-2
     bit-checks-requires
+    sub-put-scale
     put-scale-requires
     add-bit-sum
     add-bit-sum-2

@@ -1,7 +1,7 @@
 -- `compile::put_one` meets its contract: the kind byte, then the number. Assumes nothing.
 use mathlib.Core.Path.{refl}
 use mathlib.Core.List.{_∷_}
-use Prim.Native.Nat.{_+_, _-_}
+use Prim.Native.Nat.{_+_}
 use native.Mathlib.Omega.{arith}
 use borrow.Author.Needs.{needs}
 use lib.ListN.{set, length-set}

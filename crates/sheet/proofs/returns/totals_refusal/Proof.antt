@@ -73,6 +73,9 @@ largest-of-requires c κs = column-limited (stands (c .before .before .before) (
 cast-if2 : tie.Need-cast-if2 Inv-loop μ-loop
 cast-if2 c = search needs
 
+cast-if2-2 : tie.Need-cast-if2-2 Inv-loop μ-loop
+cast-if2-2 c = search needs
+
 mul-if2 : tie.Need-mul-if2 Inv-loop μ-loop
 mul-if2 c =
     let z = c .before .before .before .before .before .before .before in
@@ -125,6 +128,7 @@ totals-refusal-spec =
     next-requires
     largest-of-requires
     cast-if2
+    cast-if2-2
     mul-if2
     returns
     loop-less

@@ -1,13 +1,13 @@
 // Making a return: from values and random elements the share messages of all servers, one after another.
 ghost use mathlib.Core.Path.{_≡_};
-ghost use Prim.Native.Nat.{_+_, _≤_};
 ghost use Rattle.words.specs.Bytes.{splice};
 ghost use Rattle.rules.specs.Settings.{document01};
-ghost use Rattle.rules.specs.Columns.{serversFault};
 ghost use Rattle.rules.specs.Making.{makeRefusal, makeBytes};
 ghost use Rattle.client.specs.Calls.{Makes};
 ghost use Rattle.client.specs.Pieces.{randomFaultAt, Few, Counted, Makeable};
 use columns::Counts;
+use limits::servers_refusal;
+use limits::share_size;
 use records::Written;
 use records::or_else;
 use sheet::Reading;
@@ -16,27 +16,6 @@ use values::values_refusal;
 
 mod shares;
 mod whole;
-
-// The elements of a share.
-fn size_of(counts: Counts) -> usize
-    requires { ⌜ (counts .entries ≤ 256) × (counts .gates ≤ 256) ⌝ }
-    ensures { λ r. ⌜ r ≡ counts .entries + (counts .gates + counts .gates) + 6 ⌝ }
-{
-    counts.entries + (counts.gates + counts.gates) + 6
-}
-
-// The refusal of S: 2, or 0 for none.
-fn servers_refusal(servers: u32) -> u32
-    ensures { λ r. ⌜ r ≡ serversFault servers ⌝ }
-{
-    if servers < 2 {
-        return 2;
-    }
-    if 8 < servers {
-        return 2;
-    }
-    0
-}
 
 // The refusal of the random elements for S servers and shares of `size` elements: 6, or 0 for none.
 fn random_refusal(random: &[u8], servers: u32, size: usize) -> u32
@@ -65,13 +44,13 @@ fn make_refusal(
     requires { ⌜ Counted (now sheet) counts ⌝ }
     ensures { λ r. ⌜ r ≡ makeRefusal document01 (now (sheet .entry)) servers (now (values .entry)) (now (random .entry)) room ⌝ }
 {
-    let limits = servers_refusal(servers);
+    let outside = servers_refusal(servers);
     let unsound = values_refusal(sheet, counts.columns, values);
-    let early = or_else(limits, unsound);
+    let early = or_else(outside, unsound);
     if early != 0 {
         return early;
     }
-    let size = size_of(counts);
+    let size = share_size(counts.entries, counts.gates);
     let fault = random_refusal(random, servers, size);
     if fault != 0 {
         return fault;
@@ -96,7 +75,7 @@ fn write_return(
     ensures { λ _. ⌜ now (out .exit) ≡ splice (now (out .entry)) 0
         (makeBytes document01 (now (sheet .entry)) servers id (now (values .entry)) (now (random .entry))) ⌝ }
 {
-    let size = size_of(counts);
+    let size = share_size(counts.entries, counts.gates);
     let others = (servers - 1) as usize;
     let mut w = [0u32; 774];
     whole::fill_whole(sheet, counts, values, random, &mut w[..size]);
@@ -125,7 +104,7 @@ pub fn make(
                 return Written::Refused(refusal);
             }
             write_return(sheet, counts, servers, id, values, random, out);
-            Written::Done((servers as usize) * (6 + 4 * size_of(counts)))
+            Written::Done((servers as usize) * (6 + 4 * share_size(counts.entries, counts.gates)))
         }
     }
 }

@@ -8,11 +8,8 @@ use Rattle.rules.specs.Columns.{Column, entriesIn, publishedIn}
 use Rattle.rules.specs.Circuit.{gatesIn}
 use Rattle.rules.specs.Judging.{shareSize}
 use Rattle.rules.specs.Table.{totalsPlace, idsPlace, waitPlace, sharePlace, tableLength}
-use Rattle.layout.specs.Places.{totalsAt, idsAt, waitAt, shareAt, lengthAt, sizeOf}
-
-pub share-size : (cs : List Column) → shareSize cs ≡ sizeOf (entriesIn cs) (gatesIn cs)
-unfolding shareSize
-share-size cs = refl
+use Rattle.layout.specs.Places.{totalsAt, idsAt, waitAt, shareAt, lengthAt}
+use Rattle.limits.specs.Sheets.{sizeOf}
 
 module _ (n : ℕ) (cs : List Column) (returns : ℕ) where
   pub totals-place : totalsPlace document01 n cs returns ≡ totalsAt n

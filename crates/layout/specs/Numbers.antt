@@ -3,7 +3,8 @@
 use mathlib.Core.List.{List}
 use Prim.Native.Nat.{ℕ, _≤_, _<_}
 use lib.ListN.{length}
-use Rattle.layout.specs.Places.{lengthAt, sizeOf}
+use Rattle.layout.specs.Places.{lengthAt}
+use Rattle.limits.specs.Sheets.{sizeOf}
 use Rattle.layout.specs.declared.Table.{Table}
 
 -- the bytes of the table

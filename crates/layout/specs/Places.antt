@@ -22,10 +22,6 @@ lengthAt n published returns size = 12 + n + 4 * published + 4 * returns + 4 + 2
 abbrev pub keptAt : ℕ → ℕ
 keptAt size = 28 + 4 * size
 
--- the elements of a share, from the entries and the multiplications
-abbrev pub sizeOf : ℕ → ℕ → ℕ
-sizeOf entries gates = entries + (gates + gates) + 6
-
 -- the numbers of a sheet that is read, and of N
 pub record Small (n published returns : ℕ) : Type 0 where
   pub sheet-most : n ≤ 256

@@ -5,7 +5,8 @@ use Prim.Native.Nat.{ℕ, _+_, _*_, _≤_, _<_}
 use lib.ListN.{replicate}
 use Rattle.words.specs.Bytes.{bytesOf, part, splice}
 use Rattle.message.specs.Totals.{totalsHeader}
-use Rattle.layout.specs.Places.{totalsAt, idsAt, waitAt, keptAt, sizeOf}
+use Rattle.layout.specs.Places.{totalsAt, idsAt, waitAt, keptAt}
+use Rattle.limits.specs.Sheets.{sizeOf}
 use Rattle.layout.specs.Numbers.{Whole}
 use Rattle.layout.specs.declared.Table.{Table}
 

@@ -3,7 +3,8 @@ ghost use mathlib.Core.Path.{_≡_};
 ghost use Prim.Native.Nat.{_+_, _≤_};
 ghost use lib.ListN.{length};
 ghost use Rattle.words.specs.Bytes.{part};
-ghost use Rattle.layout.specs.Places.{totalsAt, idsAt, waitAt, shareAt, keptAt, lengthAt, sizeOf, Small};
+ghost use Rattle.layout.specs.Places.{totalsAt, idsAt, waitAt, shareAt, keptAt, lengthAt, Small};
+ghost use Rattle.limits.specs.Sheets.{sizeOf};
 ghost use Rattle.layout.specs.Numbers.{lengthOf, Limited};
 use crate::Table;
 
@@ -22,14 +23,6 @@ fn wait_at(n: usize, published: usize, returns: u32) -> usize
     ensures { λ r. ⌜ r ≡ waitAt n published returns ⌝ }
 {
     12 + n + 4 * published + 4 * (returns as usize)
-}
-
-// The elements of a share.
-pub fn share_size(entries: usize, gates: usize) -> usize
-    requires { ⌜ (entries ≤ 256) × (gates ≤ 256) ⌝ }
-    ensures { λ r. ⌜ r ≡ sizeOf entries gates ⌝ }
-{
-    entries + (gates + gates) + 6
 }
 
 // The bytes of a table whose shares have `size` elements: the id and six numbers of the return that waits, then its share.
@@ -78,7 +71,7 @@ impl Table {
         requires { ⌜ Limited self ⌝ }
         ensures { λ r. ⌜ r ≡ sizeOf (self .entries) (self .gates) ⌝ }
     {
-        share_size(self.entries, self.gates)
+        limits::share_size(self.entries, self.gates)
     }
 
     // The bytes kept for a return that waits: its id, six numbers and its share.

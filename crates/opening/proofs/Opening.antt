@@ -27,7 +27,8 @@ use Rattle.columns.specs.declared.Counts.{Counts}
 use Rattle.sheet.specs.Reading.{readingOf}
 use Rattle.sheet.specs.declared.Reading.the-variants as sheet
 use Rattle.sheet.proofs.Answers.{reading-counts}
-use Rattle.layout.specs.Places.{lengthAt, sizeOf}
+use Rattle.layout.specs.Places.{lengthAt}
+use Rattle.limits.specs.Sheets.{sizeOf}
 use Rattle.layout.proofs.Positions.{table-length}
 use Rattle.opening.specs.Calls.{Opens}
 use Rattle.opening.specs.Fresh.{freshBytes, Roomy}

@@ -15,7 +15,7 @@ use Rattle.message.proofs.Shares.{part-sound}
 use Rattle.message.proofs.Parts.{span}
 use Rattle.layout.specs.Places.{idsAt}
 use Rattle.layout.specs.declared.Table.{Table}
-use Rattle.table.specs.Reading.{pairSound}
+use Rattle.limits.specs.Sheets.{pairSound}
 use Rattle.share_checks.specs.Checks.{startFault, messageFault, lastFault}
 
 -- ---- the table

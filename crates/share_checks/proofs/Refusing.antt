@@ -21,9 +21,11 @@ use Rattle.rules.specs.Table.{stageByte, waitingIn, idsIn, decidedIn, stageIn, 
 use Rattle.rules.specs.Messages.{elementsFault}
 use Rattle.message.specs.Shares.{headerFaultAt}
 use Rattle.message.proofs.Shares.{header-fault, header-long}
-use Rattle.layout.specs.Places.{idsAt, sizeOf}
+use Rattle.layout.specs.Places.{idsAt}
+use Rattle.limits.specs.Sheets.{sizeOf}
 use Rattle.layout.specs.declared.Table.{Table}
-use Rattle.table.specs.Reading.{tableOf, pairSound, Sound}
+use Rattle.table.specs.Reading.{tableOf, Sound}
+use Rattle.limits.specs.Sheets.{pairSound}
 use Rattle.share_checks.specs.Checks.{startFault, messageFault, lastFault, Fitting}
 
 abbrev stageOf : ℕ → Waiting → Stage

@@ -13,9 +13,11 @@ use Rattle.rules.specs.Columns.{check}
 use Rattle.rules.specs.Messages.{idIn, elementsFault}
 use Rattle.rules.specs.Server.{isMember}
 use Rattle.message.specs.Shares.{headerFaultAt}
-use Rattle.layout.specs.Places.{idsAt, sizeOf}
+use Rattle.layout.specs.Places.{idsAt}
+use Rattle.limits.specs.Sheets.{sizeOf}
 use Rattle.layout.specs.declared.Table.{Table}
-use Rattle.table.specs.Reading.{pairSound, Sound}
+use Rattle.table.specs.Reading.{Sound}
+use Rattle.limits.specs.Sheets.{pairSound}
 
 -- "11, 13": the table is idle, and fewer than N are decided
 unfoldable pub startFault : Table → ℕ

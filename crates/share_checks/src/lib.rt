@@ -6,14 +6,13 @@ ghost use Rattle.rules.specs.Settings.{document01};
 ghost use Rattle.rules.specs.Server.{shareRefusal};
 ghost use Rattle.rules.specs.Table.{tableState};
 ghost use Rattle.message.specs.Shares.{sharePart};
-ghost use Rattle.layout.specs.Places.{sizeOf};
+ghost use Rattle.limits.specs.Sheets.{sizeOf};
 ghost use Rattle.table.specs.Reading.{Sound};
 ghost use Rattle.share_checks.specs.Checks.{startFault, messageFault, lastFault, Fitting};
 use layout::IDLE;
 use layout::Table;
 use records::or_else;
 use table::has_id;
-use table::pair_sound;
 
 // The refusal by the table: 11 where it is not idle, 13 where N returns are decided, 0 for none.
 fn start_refusal(k: Table) -> u32
@@ -54,7 +53,7 @@ fn last_refusal(t: &[u8], k: Table, m: &[u8], r: u64, s: u64, room: usize) -> u3
     if has_id(&t[start..end], message::id_of(m)) {
         return 10;
     }
-    if !pair_sound(k.gates, r, s) {
+    if !limits::pair_sound(k.gates, r, s) {
         return 9;
     }
     if room < 14 {

@@ -21,9 +21,11 @@ use Rattle.rules.specs.Table.{tableState, tableFault, shareRefused, shareTable,
 use Rattle.message.specs.Shares.{headerFaultAt, sharePart}
 use Rattle.message.proofs.Shares.{header-long, part-sound}
 use Rattle.message.proofs.Parts.{check-holds}
-use Rattle.layout.specs.Places.{idsAt, sizeOf}
+use Rattle.layout.specs.Places.{idsAt}
+use Rattle.limits.specs.Sheets.{sizeOf}
 use Rattle.layout.specs.declared.Table.{Table}
-use Rattle.table.specs.Reading.{foundIn, pairSound, Sound}
+use Rattle.table.specs.Reading.{foundIn, Sound}
+use Rattle.limits.specs.Sheets.{pairSound}
 use Rattle.table.specs.declared.Found.the-variants as found
 use Rattle.table.proofs.Answers.{unsound}
 use Rattle.share_checks.specs.Checks.{startFault, messageFault, lastFault}

@@ -15,7 +15,8 @@ use Rattle.rules.specs.Server.{waitingOf, messageOne}
 use Rattle.rules.specs.Table.{columnsIn, shareTable, shareBytes, waitPlace}
 use Rattle.snip.specs.Judged.{judgedOf}
 use Rattle.snip.specs.declared.judging.Judged.{Judged}
-use Rattle.layout.specs.Places.{waitAt, sizeOf}
+use Rattle.layout.specs.Places.{waitAt}
+use Rattle.limits.specs.Sheets.{sizeOf}
 use Rattle.layout.specs.declared.Table.{Table}
 use Rattle.table.specs.Reading.{tableOf}
 use Rattle.shares.specs.Taking.{waitBytes, Takable}

@@ -14,7 +14,7 @@ use Rattle.rules.specs.Table.{sheetIn, columnsIn}
 use Rattle.columns.specs.declared.Counts.{Counts}
 use Rattle.columns.specs.Counting.{countsOf}
 use Rattle.snip.specs.Judged.{Share, judgedOf}
-use Rattle.layout.specs.Places.{sizeOf}
+use Rattle.limits.specs.Sheets.{sizeOf}
 use Rattle.layout.specs.declared.Table.{Table}
 use Rattle.table.specs.Reading.{tableOf, Sound}
 use Rattle.table.proofs.Answers.{headed-of}

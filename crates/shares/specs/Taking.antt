@@ -6,7 +6,7 @@ use mathlib.Core.List.{List, [], _∷_}
 use Prim.Native.Nat.{ℕ, _*_, _≤_, _<_}
 use lib.ListN.{length, drop}
 use Rattle.words.specs.Bytes.{bytesOfAll, elementsOf, allBelow}
-use Rattle.layout.specs.Places.{sizeOf}
+use Rattle.limits.specs.Sheets.{sizeOf}
 use Rattle.layout.specs.declared.Table.{Table}
 use Rattle.table.specs.Reading.{Sound}
 use Rattle.snip.specs.declared.judging.Judged.{Judged}

@@ -27,7 +27,8 @@ use Rattle.rules.proofs.Circuits.Refusals.{sheet-limits}
 use Rattle.layout.specs.Places.{waitAt}
 use Rattle.layout.specs.Numbers.{lengthOf, Whole}
 use Rattle.layout.specs.declared.Table.{Table}
-use Rattle.table.specs.Reading.{tableOf, headIn, foundIn, startSound, pairSound}
+use Rattle.table.specs.Reading.{tableOf, headIn, foundIn, startSound}
+use Rattle.limits.specs.Sheets.{pairSound}
 use Rattle.table.specs.Reading.{countsSoundAt, totalsSoundAt, waitingSoundAt, Headed, Sound}
 use Rattle.table.specs.declared.Found.{Found}
 use Rattle.table.specs.declared.Found.the-variants as answer

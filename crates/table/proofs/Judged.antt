@@ -16,10 +16,12 @@ use Rattle.rules.specs.Table.{sheetIn, columnsIn}
 use Rattle.rules.proofs.Circuits.Limits.{within-is}
 use Rattle.rules.proofs.Circuits.Refusals.{sheet-read}
 use Rattle.message.proofs.Parts.{span}
-use Rattle.layout.specs.Places.{totalsAt, idsAt, waitAt, sizeOf}
+use Rattle.layout.specs.Places.{totalsAt, idsAt, waitAt}
+use Rattle.limits.specs.Sheets.{sizeOf}
 use Rattle.layout.specs.Numbers.{lengthOf}
 use Rattle.layout.specs.declared.Table.{Table}
-use Rattle.table.specs.Reading.{tableOf, Headed, countsSoundAt, totalsSoundAt, pairSound, waitingSoundAt}
+use Rattle.table.specs.Reading.{tableOf, Headed, countsSoundAt, totalsSoundAt, waitingSoundAt}
+use Rattle.limits.specs.Sheets.{pairSound}
 
 -- ---- the sheet x of a table, as the code cuts it out: it is read
 module _ (T : List ℕ) (k : Table) (h : Headed T k) (x : List ℕ) (ex : x ≡ part 12 (k .sheet) T) where

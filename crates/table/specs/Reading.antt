@@ -12,7 +12,8 @@ use Rattle.rules.specs.Columns.{check, within, entriesIn, publishedIn, sheetFau
 use Rattle.rules.specs.Circuit.{gatesIn, testsIn}
 use Rattle.rules.specs.Table.{stageByte, serversIn, ownIn, returnsIn, decidedIn, acceptedIn, sheetSize, sheetIn, columnsIn}
 use Rattle.rules.specs.Table.{headerSound, tableSound, tableFault}
-use Rattle.layout.specs.Places.{totalsAt, waitAt, sizeOf}
+use Rattle.layout.specs.Places.{totalsAt, waitAt}
+use Rattle.limits.specs.Sheets.{sizeOf, pairSound}
 use Rattle.layout.specs.Numbers.{lengthOf, Limited}
 use Rattle.layout.specs.declared.Table.{Table}
 use Rattle.table.specs.declared.Found.{Found}
@@ -64,10 +65,6 @@ pub record Started (T : List ℕ) : Type 0 where
   pub returns-some : 1 ≤ valueOf (part 4 2 T)
   pub returns-most : valueOf (part 4 2 T) ≤ 1024
   pub sheet-long : 12 + valueOf (part 10 2 T) ≤ length T
-
--- r above M and below p, s below p: rules' allowedPair
-unfoldable pub pairSound : ℕ → ℕ → ℕ → Bool
-pairSound gates r s = ltb gates r && (ltb r 2147483647 && ltb s 2147483647)
 
 -- ---- counts, totals and the return that waits, by the numbers of the header
 module _ (k : Table) (T : List ℕ) where

@@ -7,7 +7,8 @@ ghost use Rattle.rules.specs.Columns.{within};
 ghost use Rattle.rules.specs.Server.{isMember};
 ghost use Rattle.layout.specs.Numbers.{Whole};
 ghost use Rattle.table.specs.Reading.{startSound, headIn, foundIn};
-ghost use Rattle.table.specs.Reading.{countsSoundAt, totalsSoundAt, pairSound, waitingSoundAt, Headed};
+ghost use Rattle.table.specs.Reading.{countsSoundAt, totalsSoundAt, waitingSoundAt, Headed};
+ghost use Rattle.limits.specs.Sheets.{pairSound};
 use layout::AWAITS_ONE;
 use layout::AWAITS_TWO;
 use layout::CLOSED;
@@ -154,19 +155,6 @@ fn totals_sound(t: &[u8], k: Table) -> bool
     elements::below(&t[start..end], field::P)
 }
 
-// Whether r and s are a pair for a sheet with so many multiplications.
-pub fn pair_sound(gates: usize, r: u64, s: u64) -> bool
-    ensures { λ b. ⌜ b ≡ pairSound gates r s ⌝ }
-{
-    if 2147483647 <= r {
-        return false;
-    }
-    if 2147483647 <= s {
-        return false;
-    }
-    (gates as u64) < r
-}
-
 // Whether the return that waits has a pair, and its numbers are elements.
 fn waiting_sound(t: &[u8], k: Table) -> bool
     requires { ⌜ Whole (now t) k ⌝ }
@@ -175,7 +163,7 @@ fn waiting_sound(t: &[u8], k: Table) -> bool
     let at = k.wait_place() + 4;
     let r = words::read_u32(t, at);
     let s = words::read_u32(t, at + 4);
-    if !pair_sound(k.gates, r as u64, s as u64) {
+    if !limits::pair_sound(k.gates, r as u64, s as u64) {
         return false;
     }
     let share = at + 24;

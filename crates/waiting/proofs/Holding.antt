@@ -25,7 +25,8 @@ use Rattle.rules.specs.Table.{sheetSize, columnsIn, returnsIn, wordIn, waitingI
 use Rattle.rules.specs.Table.{headerSound, countsSound, waitingSound, tableSound, tableFault}
 use Rattle.message.proofs.Writing.{length-round}
 use Rattle.message.proofs.Parts.{span}
-use Rattle.layout.specs.Places.{waitAt, shareAt, sizeOf}
+use Rattle.layout.specs.Places.{waitAt, shareAt}
+use Rattle.limits.specs.Sheets.{sizeOf}
 use Rattle.layout.specs.declared.Table.{Table}
 use Rattle.table.specs.Reading.{tableOf, Sound}
 use Rattle.waiting.specs.declared.held.Waiting.{Waiting}

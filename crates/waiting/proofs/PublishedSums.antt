@@ -23,7 +23,8 @@ use Rattle.rules.specs.Table.{returnsIn, sheetSize, sheetIn, columnsIn, totalsI
 use Rattle.rules.specs.Table.{headerSound, countsSound, waitingSound, tableSound}
 use Rattle.rules.proofs.Circuits.Refusals.{sheet-read}
 use Rattle.message.proofs.Parts.{part-of-part}
-use Rattle.layout.specs.Places.{totalsAt, shareAt, sizeOf}
+use Rattle.layout.specs.Places.{totalsAt, shareAt}
+use Rattle.limits.specs.Sheets.{sizeOf}
 use Rattle.layout.specs.declared.Table.{Table}
 use Rattle.table.specs.Reading.{tableOf, Sound}
 use Rattle.table.proofs.Answers.{headed-of}

@@ -53,19 +53,19 @@ can c =
 write-return-requires : tie.Need-write-return-requires
 write-return-requires c κs = can c
 
-size-of-requires : tie.Need-size-of-requires
-size-of-requires c κs =
+share-size-requires : tie.Need-share-size-requires
+share-size-requires c κs =
     let m = room (counted (c .before .before .before .before .before .before .before)) in
     (m .entries-few, m .gates-few)
 
-size-is : (c : tie.After-size-of)
+size-is : (c : tie.After-share-size)
     → let s = start (c .before .before .before .before .before .before .before .before) in
-    c .size-of .result ≡ shareSize (columnsOf (s .args .sheet .now))
+    c .share-size .result ≡ shareSize (columnsOf (s .args .sheet .now))
 size-is c =
     let c4 = c .before .before .before .before in
-    sized (can c4) (c .size-of .result) (c .size-of .ensures)
+    sized (can c4) (c .share-size .result) (c .share-size .ensures)
 
-small : (c : tie.After-size-of) → c .size-of .result ≤ 774
+small : (c : tie.After-share-size) → c .share-size .result ≤ 774
 small c = omega (arith, size-is c, room (counted (c .before .before .before .before .before .before .before .before)) .size-small)
 
 mul-t18 : tie.Need-mul-t18
@@ -79,7 +79,7 @@ mul-t20 c =
     let c4 = c .before .before .before .before in
     let c15 = c4 .before .before .before .before .before .before .before .before .before .before .before in
     let few = can c4 .elements .few in
-    omega (arith, messages-small (c15 .args .servers) (c .size-of .result) (omega (arith, few)) (small c))
+    omega (arith, messages-small (c15 .args .servers) (c .share-size .result) (omega (arith, few)) (small c))
 
 returns-2 : tie.Need-returns-2
 returns-2 c =
@@ -107,7 +107,7 @@ make-spec =
     make-refusal-requires
     returns
     write-return-requires
-    size-of-requires
+    share-size-requires
     mul-t18
     add-t19
     mul-t20

@@ -24,7 +24,7 @@ early-is : (c : tie.After-or-else)
     c .or-else .result ≡ orElse (serversFault (a .servers)) (valuesFault (columnsOf (a .sheet .now)) (a .values .now))
 early-is c = c .or-else .ensures ∙ ap₂ orElse (c .before .before .servers-refusal .ensures) (c .before .values-refusal .ensures)
 
-none-early : (c : tie.After-size-of)
+none-early : (c : tie.After-share-size)
     → let a = start (c .before .before) .args in
     orElse (serversFault (a .servers)) (valuesFault (columnsOf (a .sheet .now)) (a .values .now)) ≡ 0
 none-early c = sym (early-is (c .before .before)) ∙ c .before .if1 .left
@@ -45,21 +45,21 @@ returns c =
     let e = early-is (c .before) in
     e ∙ sym (refused-early _ _ _ _ _ (c .before .before .before .before .before .before .before .pre .is-read) (λ z. c .if1 .taken (e ∙ z)))
 
-size-of-requires : tie.Need-size-of-requires
-size-of-requires c κs =
+share-size-requires : tie.Need-share-size-requires
+share-size-requires c κs =
     let m = room (c .before .before .before .before .before .before .before .pre) in
     (m .entries-few, m .gates-few)
 
 random-refusal-requires : tie.Need-random-refusal-requires
 random-refusal-requires c κs =
     let m = room (c .before .before .before .before .before .before .before .before .pre) in
-    let e = c .size-of .ensures in
+    let e = c .share-size .ensures in
     let l = within-limits _ _ (none-early c) in
     record { some = l .0; few = l .1; small = omega (arith, e, m .size-is, m .size-small) }
 
 -- the elements of a share are as many as the sheet says
-sized : (c : tie.After-size-of) → c .size-of .result ≡ shareSize (columnsOf (start (c .before .before) .args .sheet .now))
-sized c = c .size-of .ensures ∙ room (start (c .before .before) .pre) .size-is
+sized : (c : tie.After-share-size) → c .share-size .result ≡ shareSize (columnsOf (start (c .before .before) .args .sheet .now))
+sized c = c .share-size .ensures ∙ room (start (c .before .before) .pre) .size-is
 
 fault-is : (c : tie.After-random-refusal)
     → let a = start (c .before .before .before) .args in
@@ -85,8 +85,8 @@ mul-if3-2 c =
     let s = start (c .before .before .before .before) in
     let n = c .before .before in
     let l = within-limits _ _ (none-early n) in
-    let h : n .size-of .result ≤ 774 = omega (arith, sized n, room (s .pre) .size-small) in
-    omega (arith, messages-small (s .args .servers) (n .size-of .result) (l .1) h)
+    let h : n .share-size .result ≤ 774 = omega (arith, sized n, room (s .pre) .size-small) in
+    omega (arith, messages-small (s .args .servers) (n .share-size .result) (l .1) h)
 
 returns-3 : tie.Need-returns-3
 returns-3 c =
@@ -110,7 +110,7 @@ make-refusal-spec =
     values-refusal-requires
     or-else-requires
     returns
-    size-of-requires
+    share-size-requires
     random-refusal-requires
     returns-2
     mul-if3

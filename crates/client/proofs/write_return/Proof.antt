@@ -17,14 +17,14 @@ use Rattle.client.proofs.write_return.Statement.{statement}
 use Rattle.client.proofs.write_return.Tie as tie
 
 -- the size is that of the sheet's shares, and fits the array
-size-is : (c : tie.After-size-of) → c .size-of .result ≡ shareSize (columnsOf (c .before .before .before .before .before .args .sheet .now))
-size-is c = sized (c .before .before .before .before .before .pre) (c .size-of .result) (c .size-of .ensures)
+size-is : (c : tie.After-share-size) → c .share-size .result ≡ shareSize (columnsOf (c .before .before .before .before .before .args .sheet .now))
+size-is c = sized (c .before .before .before .before .before .pre) (c .share-size .result) (c .share-size .ensures)
 
-small : (c : tie.After-size-of) → c .size-of .result ≤ 774
+small : (c : tie.After-share-size) → c .share-size .result ≤ 774
 small c = omega (arith, size-is c, room (c .before .before .before .before .before .pre .counted) .size-small)
 
-size-of-requires : tie.Need-size-of-requires
-size-of-requires c κs =
+share-size-requires : tie.Need-share-size-requires
+share-size-requires c κs =
     let m = room (c .before .before .before .before .pre .counted) in
     (m .entries-few, m .gates-few)
 
@@ -45,7 +45,7 @@ fill-whole-requires c κs =
     let n = length-take-le _ _ (small (c .before)) in
     fillable (c .before .before .before .before .before .before .pre) _ (n ∙ size-is (c .before))
 
-long : (c : tie.After-fill-whole) → length (c .fill-whole .last .1 .1 .1 .1 .0) ≡ c .before .before .size-of .result
+long : (c : tie.After-fill-whole) → length (c .fill-whole .last .1 .1 .1 .1 .0) ≡ c .before .before .share-size .result
 long c = c .fill-whole .kept .1 .1 .1 .1 .0 ∙ length-take-le _ _ (small (c .before .before))
 
 array-share-prefix-w : tie.Need-array-share-prefix-w
@@ -68,7 +68,7 @@ write-others-requires : tie.Need-write-others-requires
 write-others-requires c κs =
     let c9 = c .before .before .before .before .before .before .before .before .before in
     let c14 = c9 .before .before .before .before .before in
-    others-ask (c14 .pre) (c9 .size-of .result) (c .before .before .before .write-first .last .1 .1 .1 .1 .0) (size-is c9)
+    others-ask (c14 .pre) (c9 .share-size .result) (c .before .before .before .write-first .last .1 .1 .1 .1 .0) (size-is c9)
     (c .before .before .before .write-first .kept .1 .1 .1 .1 .0)
 
 same-length : tie.Need-same-length
@@ -100,7 +100,7 @@ pub write-return-spec : {M : Type 1} → statement M
 write-return-spec =
     tie.close
     (tie.spec
-    size-of-requires
+    share-size-requires
     sub-others
     cast-others
     array-borrow-prefix-w

@@ -69,8 +69,8 @@ returns-9 c =
     let two = three .before .before in
     let one = two .before .before in
     rw (c .read-u162 .ensures)
-    (start-but (one .before .before .args .t .now) (one .if1 .left) (two .if2 .left) (three .if3 .left)
-    (four .if4 .left) (five .if5 .left) (six .if6 .left) (omega arith) (omega arith))
+    (start-but (one .before .before .args .t .now) (one .if1 .left) (two .if2 .left) (omega (arith, three .if3 .left))
+    (omega (arith, four .if4 .left)) (omega (arith, five .if5 .left)) (omega (arith, six .if6 .left)) (omega arith) (omega arith))
 
 pub start-sound-spec : {M : Type 1} → statement M
 start-sound-spec =

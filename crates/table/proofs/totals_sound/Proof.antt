@@ -1,5 +1,6 @@
 -- `table::totals_sound` meets its contract: the part that is tested is that of the totals (`totals-cut`).
 -- Assumes nothing.
+use mathlib.Core.Path.{_∙_}
 use Rattle.table.proofs.Judged.{totals-cut}
 use borrow.Author.Needs.{needs}
 use Rattle.table.proofs.totals_sound.Statement.{statement}
@@ -26,12 +27,9 @@ below-requires c κs = search needs
 returns : tie.Need-returns
 returns c =
     let a = c .before .before .before .before .before in
-    cc (
-      totals-cut (a .args .k) (a .args .t .now),
-      c .below .ensures,
-      c .before .before .ids-place .ensures,
-      c .before .before .before .totals-place .ensures,
-    )
+    c .below .ensures
+    ∙ rw (c .before .before .ids-place .ensures, c .before .before .before .totals-place .ensures)
+    (totals-cut (a .args .k) (a .args .t .now))
 
 pub totals-sound-spec : {M : Type 1} → statement M
 totals-sound-spec =

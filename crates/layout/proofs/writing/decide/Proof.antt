@@ -3,7 +3,8 @@
 use Prim.Native.Nat.{_+_, _*_, _≤_}
 use native.Mathlib.Omega.{arith}
 use lib.ListN.{length, length-set}
-use Rattle.layout.specs.Places.{idsAt, waitAt, keptAt, sizeOf}
+use Rattle.layout.specs.Places.{idsAt, waitAt, keptAt}
+use Rattle.limits.specs.Sheets.{sizeOf}
 use Rattle.layout.proofs.Pieces.{decided-written}
 use borrow.Author.Needs.{needs}
 use Rattle.layout.proofs.writing.decide.Statement.{statement}

@@ -1,17 +1,24 @@
--- `table::pair_sound` meets its contract: the tests that led to each return are put into the definition.
+-- `limits::pair_sound` meets its contract: the tests that led to each return are put into the definition.
 -- Assumes nothing.
 use mathlib.Core.Path.{_≡_}
 use mathlib.Core.Bool.{and-true, and-false}
 use Prim.Native.Nat.{ℕ, _<_}
 use lib.Dec.{ltb}
 use borrow.Author.Tests.{lt-ltb, le-ltb}
-use Rattle.table.specs.Reading.{pairSound}
-use Rattle.table.proofs.pair_sound.Statement.{statement}
-use Rattle.table.proofs.pair_sound.Tie as tie
+use borrow.Author.Needs.{needs}
+use Rattle.limits.specs.Sheets.{pairSound}
+use Rattle.limits.proofs.pair_sound.Statement.{statement}
+use Rattle.limits.proofs.pair_sound.Tie as tie
+
+cast-if1 : tie.Need-cast-if1
+cast-if1 c = search needs
 
 returns : tie.Need-returns
 unfolding pairSound
 returns c = rw (le-ltb _ _ (c .if1 .taken), and-false)
+
+cast-if2 : tie.Need-cast-if2
+cast-if2 c = search needs
 
 returns-2 : tie.Need-returns-2
 unfolding pairSound
@@ -28,4 +35,4 @@ returns-3 c =
     above-decides (a .gates) (a .r) (a .s) (c .before .if1 .left) (c .if2 .left)
 
 pub pair-sound-spec : {M : Type 1} → statement M
-pair-sound-spec = tie.close (tie.spec returns returns-2 returns-3)
+pair-sound-spec = tie.close (tie.spec cast-if1 returns cast-if2 returns-2 returns-3)

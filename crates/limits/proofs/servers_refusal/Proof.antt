@@ -1,8 +1,8 @@
--- `client::servers_refusal` meets its contract: each test that led to a return is put into the definition, which then
+-- `limits::servers_refusal` meets its contract: each test that led to a return is put into the definition, which then
 -- computes. Assumes nothing.
 use borrow.Author.Tests.{le-leb, lt-leb}
-use Rattle.client.proofs.servers_refusal.Statement.{statement}
-use Rattle.client.proofs.servers_refusal.Tie as tie
+use Rattle.limits.proofs.servers_refusal.Statement.{statement}
+use Rattle.limits.proofs.servers_refusal.Tie as tie
 
 returns : tie.Need-returns
 returns c = rw (lt-leb 2 _ (c .if1 .taken))

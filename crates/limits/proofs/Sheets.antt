@@ -1,0 +1,17 @@
+-- The limits that a sheet sets are rules', by unfolding both. Assumes nothing.
+use mathlib.Core.Path.{_≡_, refl}
+use mathlib.Core.List.{List}
+use Prim.Native.Nat.{ℕ}
+use Rattle.rules.specs.Settings.{document01}
+use Rattle.rules.specs.Columns.{Column, entriesIn}
+use Rattle.rules.specs.Circuit.{gatesIn}
+use Rattle.rules.specs.Judging.{shareSize, allowedPair}
+use Rattle.limits.specs.Sheets.{sizeOf, pairSound}
+
+pub share-size : (cs : List Column) → shareSize cs ≡ sizeOf (entriesIn cs) (gatesIn cs)
+unfolding shareSize
+share-size cs = refl
+
+pub allowed-pair : (cs : List Column) (r s : ℕ) → allowedPair document01 cs r s ≡ pairSound (gatesIn cs) r s
+unfolding allowedPair pairSound
+allowed-pair cs r s = refl

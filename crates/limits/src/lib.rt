@@ -1,0 +1,40 @@
+// The limits of document 01 that several calls test: S, the elements of a share, the pair r, s. Each contract is an
+// equality with rules, or with specs/, which is rules' by the numbers of code.
+ghost use mathlib.Core.Path.{_≡_};
+ghost use Prim.Native.Nat.{_≤_};
+ghost use Rattle.rules.specs.Columns.{serversFault};
+ghost use Rattle.limits.specs.Sheets.{sizeOf, pairSound};
+
+// The refusal of S: 2, or 0 for none.
+pub fn servers_refusal(servers: u32) -> u32
+    ensures { λ r. ⌜ r ≡ serversFault servers ⌝ }
+{
+    if servers < 2 {
+        return 2;
+    }
+    if 8 < servers {
+        return 2;
+    }
+    0
+}
+
+// The elements of a share.
+pub fn share_size(entries: usize, gates: usize) -> usize
+    requires { ⌜ (entries ≤ 256) × (gates ≤ 256) ⌝ }
+    ensures { λ r. ⌜ r ≡ sizeOf entries gates ⌝ }
+{
+    entries + (gates + gates) + 6
+}
+
+// Whether r and s are a pair for a sheet with so many multiplications.
+pub fn pair_sound(gates: usize, r: u64, s: u64) -> bool
+    ensures { λ b. ⌜ b ≡ pairSound gates r s ⌝ }
+{
+    if (field::P as u64) <= r {
+        return false;
+    }
+    if (field::P as u64) <= s {
+        return false;
+    }
+    (gates as u64) < r
+}

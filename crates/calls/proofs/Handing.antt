@@ -3,7 +3,7 @@
 -- Assumes that the answers are the ledger's.
 use mathlib.Core.Path.{_≡_, refl, sym, ap, ap₂, _∙_}
 use mathlib.Core.Logic.{inl, inr}
-use mathlib.Core.Bool.{Bool, true, false, cond}
+use mathlib.Core.Bool.{Bool, true, false, cond, false≢true}
 use mathlib.Core.List.{List, [], _∷_, _++_, map}
 use Prim.Native.Nat.{ℕ, zero, suc}
 use native.Mathlib.Omega.{arith}
@@ -14,13 +14,21 @@ use Rattle.algebra.specs.Lists.{In}
 use Rattle.rules.specs.Settings.{document01}
 use Rattle.rules.specs.Server.{Opened, whileIdle, whileOne, whileTwo, whileWaiting}
 use Rattle.rules.specs.Server.{shareRefusal, oneRefusal, twoRefusal, dropRefusal, closeRefusal}
-use Rattle.rules.specs.Ledger.{Call, share, roundOne, roundTwo, drop, close, Answer, refused, wrote, judged, done, Ledger, isClosed}
+use Rattle.rules.specs.Ledger.{Call, share, roundOne, roundTwo, drop, close, Answer, refused, wrote, judged, done, Ledger}
+use Rattle.rules.specs.Ledger.{Progress, isIdle, waitsOne, waitsTwo, isClosed, Decision, sumsNoted, decideWaiting}
 use Rattle.rules.specs.Ledger as ledger
 use Rattle.rules.specs.Ledger.{ledgerStage, ledgerState, refusalOf, ledgerAfter, ledgerStep, ledgerSays, closingMessage}
 use Rattle.rules.specs.Ledger.{runLedger, ledgerAnswers}
 use Rattle.rules.specs.WholeRun.{joinedIn, handedIn}
 use Rattle.calls.specs.Calls.{CCall, pool-share, pool-round-one, pool-round-two, pool-drop, pool-close, callOf, answerOf}
 use Rattle.calls.specs.Servers.{roundsIn, closingsIn, over}
+
+-- whether a ledger is closed
+abbrev pub closedIn : Progress → Bool
+closedIn isIdle = false
+closedIn (waitsOne n) = false
+closedIn (waitsTwo n d e) = false
+closedIn isClosed = true
 
 -- the number that an answer shows
 abbrev refusalIn : Answer → ℕ
@@ -169,3 +177,63 @@ module _ (o : Opened) where
           (k .0, sym same ∙ k .1)
       go true q (inr k) rest = rest k
       go false q k rest = rest k
+
+  -- only a close closes a ledger
+  abbrev Open : Ledger → Type 0
+  Open l = closedIn (l .progress) ≡ false
+
+  either-open : (b : Bool) (x y : Ledger) → Open x → Open y → Open (cond b x y)
+  either-open true x y h k = h
+  either-open false x y h k = k
+
+  sums-open : (p : Progress) (d e : ℕ) → closedIn p ≡ false → closedIn (sumsNoted document01 o p d e) ≡ false
+  unfolding sumsNoted
+  sums-open isIdle d e h = refl
+  sums-open (waitsOne n) d e h = refl
+  sums-open (waitsTwo n x y) d e h = refl
+  sums-open isClosed d e h = h
+
+  decided-open : (l : Ledger) (p : Progress) (d : Decision) → Open l → Open (decideWaiting document01 o l p d)
+  unfolding decideWaiting
+  decided-open l isIdle d h = h
+  decided-open l (waitsOne n) d h = refl
+  decided-open l (waitsTwo n x y) d h = refl
+  decided-open l isClosed d h = h
+
+  pub closed-wrote : (l : Ledger) (cs : List CCall) → Same l cs → Open l
+      → closedIn (runLedger document01 o l (map callOf cs) .progress) ≡ true
+      → In (closingMessage document01 o (runLedger document01 o l (map callOf cs))) (over closingsIn cs)
+  unfolding over runLedger ledgerAfter
+  closed-wrote l [] e h k = absurd (false≢true (sym h ∙ k))
+  closed-wrote l (pool-share T x r s out w a T' out' w' ∷ cs) e h k =
+      let c = pool-share T x r s out w a T' out' w' in
+      closed-wrote (next l c) cs (others-same l c cs e) (either-open (eqb (refusalOf document01 o l (callOf c)) 0) _ l refl h) k
+  closed-wrote l (pool-round-one T joined out w a T' out' w' ∷ cs) e h k =
+      let c = pool-round-one T joined out w a T' out' w' in
+      closed-wrote (next l c) cs (others-same l c cs e)
+      (either-open (eqb (refusalOf document01 o l (callOf c)) 0) _ l (sums-open (l .progress) _ _ h) h) k
+  closed-wrote l (pool-round-two T joined v a T' v' ∷ cs) e h k =
+      let c = pool-round-two T joined v a T' v' in
+      closed-wrote (next l c) cs (others-same l c cs e)
+      (either-open (eqb (refusalOf document01 o l (callOf c)) 0) _ l (decided-open l (l .progress) _ h) h) k
+  closed-wrote l (pool-drop T a T' ∷ cs) e h k =
+      let c = pool-drop T a T' in
+      closed-wrote (next l c) cs (others-same l c cs e)
+      (either-open (eqb (refusalOf document01 o l (callOf c)) 0) _ l (decided-open l (l .progress) _ h) h) k
+  closed-wrote l (pool-close T out w a T' out' w' ∷ cs) e h k =
+      let c = pool-close T out w a T' out' w' in
+      go (eqb a 0) refl (λ z. closed-wrote (next l c) cs (others-same l c cs e) z k)
+    where
+      f : ℕ
+      f = refusalOf document01 o l (close (length out))
+
+      last : Ledger
+      last = runLedger document01 o l (map callOf (pool-close T out w a T' out' w' ∷ cs))
+
+      go : (b : Bool) → eqb a 0 ≡ b
+          → (Open (ledgerStep document01 o l (close (length out)) f) → In (closingMessage document01 o last) (over closingsIn cs))
+          → In (closingMessage document01 o last) (cond b (take w' out' ∷ []) [] ++ over closingsIn cs)
+      go true q rest = inl (closed-here l T out w a T' out' w' cs e (eqb-true a 0 q) .1)
+      go false q rest =
+          let kept : eqb f 0 ≡ false = ap (λ (n : ℕ). eqb n 0) (sym (number-same l (pool-close T out w a T' out' w') cs e)) ∙ q in
+          rest (ap (λ (b : Bool). closedIn (cond b (ledgerAfter document01 o l (close (length out))) l .progress)) kept ∙ h)

@@ -2,7 +2,7 @@
 -- so what is proved of the pool is proved of them; joining is handed the closing messages, and its promise says the rest.
 -- Assumes the promises of the calls.
 use mathlib.Core.Path.{_≡_, refl, sym, ap, ap₂, _∙_, subst}
-use mathlib.Core.List.{List, _++_}
+use mathlib.Core.List.{List, _++_, map}
 use Prim.Native.Nat.{ℕ, zero, suc, _+_, _*_, _≤_, _<_}
 use native.Mathlib.Omega.{arith}
 use lib.ListN.{length, take}
@@ -15,14 +15,14 @@ use Rattle.rules.specs.Columns.{publishedIn, columnsOf}
 use Rattle.rules.specs.Messages.{placeIn}
 use Rattle.rules.specs.Joining.{joinRefusal, joinCount, joinTotals, joinBytes}
 use Rattle.rules.specs.Ledger.{Answer, wrote, isClosed, closingMessage, empty}
-use Rattle.rules.specs.WholeRun.{openedAt, ledgerAt, Conditions, Closed, closingsFrom, closings}
+use Rattle.rules.specs.WholeRun.{handedIn, openedAt, ledgerAt, Conditions, Closed, closingsFrom, closings}
 use Rattle.rules.proofs.Runs.WholeRuns.{document01-whole-run}
 use Rattle.pool_totals.specs.Calls.{Joins}
-use Rattle.calls.specs.Calls.{Tells}
-use Rattle.calls.specs.Servers.{Servers, over, closingsIn, inOrder, poolOf, CConditions, Totals, WholeCalls}
+use Rattle.calls.specs.Calls.{callOf, Tells}
+use Rattle.calls.specs.Servers.{Servers, over, roundsIn, closingsIn, inOrder, poolOf, CConditions, Totals, WholeCalls}
 use Rattle.calls.proofs.Writing.{reads, number-done}
 use Rattle.calls.proofs.ManyCalls.{calls-tell}
-use Rattle.calls.proofs.Handing.{rounds-same, closings-same}
+use Rattle.calls.proofs.Handing.{closedIn, rounds-same, closings-same, closed-wrote}
 
 join-long : (servers : ℕ) (sheet joined : List ℕ)
     → length (joinBytes document01 servers sheet joined) ≡ 4 * publishedIn (columnsOf sheet)
@@ -40,13 +40,23 @@ module _ (𝓢 : Servers) where
       × (m ≡ closingMessage document01 (openedAt document01 (poolOf 𝓢) i) (ledgerAt document01 (poolOf 𝓢) i))
   closes i h m k = closings-same (openedAt document01 (poolOf 𝓢) i) empty (𝓢 .log i .calls) (told i h .by-ledger) m k
 
+  rounds : (i : ℕ) → i < 𝓢 .servers → over roundsIn (𝓢 .log i .calls)
+      ≡ handedIn document01 (openedAt document01 (poolOf 𝓢) i) empty (map callOf (𝓢 .log i .calls))
+  rounds i h = rounds-same (openedAt document01 (poolOf 𝓢) i) empty (𝓢 .log i .calls) (told i h .by-ledger)
+
   conditions : CConditions 𝓢 → Conditions document01 (poolOf 𝓢)
   conditions 𝓒 = record {
     unaltered = λ i j h k joined q.
-        let o = openedAt document01 (poolOf 𝓢) i in
-        let rounds = rounds-same o empty (𝓢 .log i .calls) (told i h .by-ledger) in
         subst (λ (xs : List Answer). In (wrote (placeIn document01 joined j)) xs) (told j k .by-ledger)
-        (𝓒 .unaltered i j h k joined (subst (λ (xs : List (List ℕ)). In joined xs) (sym rounds) q));
+        (𝓒 .unaltered i j h k joined (subst (λ (xs : List (List ℕ)). In joined xs) (sym (rounds i h)) q));
+    same-drops = 𝓒 .same-drops;
+  }
+
+  conditions-back : Conditions document01 (poolOf 𝓢) → CConditions 𝓢
+  conditions-back 𝓒 = record {
+    unaltered = λ i j h k joined q.
+        subst (λ (xs : List Answer). In (wrote (placeIn document01 joined j)) xs) (sym (told j k .by-ledger))
+        (𝓒 .unaltered i j h k joined (subst (λ (xs : List (List ℕ)). In joined xs) (rounds i h) q));
     same-drops = 𝓒 .same-drops;
   }
 
@@ -96,7 +106,11 @@ module _ (𝓢 : Servers) where
   whole-calls = record {
     tells = told;
     whole = document01-whole-run (poolOf 𝓢);
+    rounds = rounds;
     conditions = conditions;
+    conditions-back = conditions-back;
+    closed-wrote = λ i h e. closed-wrote (openedAt document01 (poolOf 𝓢) i) empty (𝓢 .log i .calls) (told i h .by-ledger) refl
+        (ap closedIn e);
     closes = closes;
     joins = joins;
   }

@@ -12,9 +12,9 @@ use Rattle.words.specs.Bytes.{bytesOfAll}
 use Rattle.rules.specs.Settings.{document01}
 use Rattle.rules.specs.Columns.{check, publishedIn, publishedFrom}
 use Rattle.rules.specs.Messages.{placeIn}
-use Rattle.rules.specs.Ledger.{wrote, isClosed, closingMessage}
+use Rattle.rules.specs.Ledger.{wrote, isClosed, empty, closingMessage}
 use Rattle.rules.specs.WholeRun.{Bytes, Pool, columns, openedAt, ledgerAt, acceptedAt, droppedAt, addedEntry, KeepsForm}
-use Rattle.rules.specs.WholeRun.{Conditions, WholeRun}
+use Rattle.rules.specs.WholeRun.{handedIn, Conditions, WholeRun}
 use Rattle.pool_totals.specs.Calls.{Joins}
 use Rattle.calls.specs.Calls.{CCall, pool-share, pool-round-one, pool-round-two, pool-drop, pool-close, callOf, answerOf}
 use Rattle.calls.specs.Calls.{Log, Serves, Tells}
@@ -99,10 +99,17 @@ module _ (𝓢 : Servers) where
   pub record WholeCalls : Type 0 where
     -- what the calls handed back is what the ledger tells, and the table in the end what its fold tells
     pub tells : (i : ℕ) → i < 𝓢 .servers → Tells (𝓢 .servers) i (𝓢 .sheet) (𝓢 .returns) (𝓢 .log i)
-    -- demand 3 of the pool, and its conditions by what the C calls were handed and wrote
+    -- demand 3 of the pool, and its conditions by what the C calls were handed and wrote: the rounds that returned 0 are those
+    -- that the rules do not refuse
     pub whole : WholeRun document01 poolOf
+    pub rounds : (i : ℕ) → i < 𝓢 .servers
+        → over roundsIn (𝓢 .log i .calls) ≡ handedIn document01 (openedAt document01 poolOf i) empty (map callOf (𝓢 .log i .calls))
     pub conditions : CConditions → Conditions document01 poolOf
-    -- a server is closed where its pool_close returned 0, and the bytes that it wrote are the closing message
+    pub conditions-back : Conditions document01 poolOf → CConditions
+    -- a server is closed exactly where its pool_close returned 0, and the bytes that it wrote are the closing message
+    pub closed-wrote : (i : ℕ) → i < 𝓢 .servers → ledgerAt document01 poolOf i .progress ≡ isClosed
+        → In (closingMessage document01 (openedAt document01 poolOf i) (ledgerAt document01 poolOf i))
+        (over closingsIn (𝓢 .log i .calls))
     pub closes : (i : ℕ) → i < 𝓢 .servers → (m : List ℕ) → In m (over closingsIn (𝓢 .log i .calls))
         → (ledgerAt document01 poolOf i .progress ≡ isClosed)
         × (m ≡ closingMessage document01 (openedAt document01 poolOf i) (ledgerAt document01 poolOf i))

@@ -17,11 +17,12 @@
 --   then           6 w     its r, s, d, e, r × h(r) and tau
 --   then           w E     its share, E = L + 2M + 6 elements
 --
--- While a return waits there is room for its id: the returns decided are fewer than N. Where none waits, the bytes kept for
--- one (the last three lines) are 0: opening writes them so, and a return that is decided leaves nothing but its id.
--- A longer slice holds a table too; what lies past the table is never read and never written. Free within a table, and no
--- fault: the ids past those decided; the bytes kept for a return, where none waits; which ids were decided; and whether d, e,
--- r × h(r) and tau are what the share gives. Opening and the calls after it make them so.
+-- While a return waits there is room for its id: the returns decided are fewer than N. Opening and the calls write 0 into the
+-- room for further ids and, where no return waits, into the bytes kept for one (the last three lines): a decided return leaves
+-- its id and, where it is accepted, what its share adds to the totals.
+-- A longer slice holds a table too; what lies past the table is never read and never written. No fault in a table that is
+-- lent: other bytes where opening and the calls write these zeros; which ids were decided; and d, e, r × h(r) and tau that the
+-- share does not give.
 -- Assumes nothing.
 use mathlib.Core.Bool.{Bool, true, false, cond, _&&_, _||_, not}
 use mathlib.Core.List.{List, [], _∷_, _++_}
@@ -108,6 +109,10 @@ module _ (σ : Setting) (T : List ℕ) where
 
   abbrev pub idsIn : List ℕ
   idsIn = elementsOf 4 (part (idsPlace σ sheetSize columnsIn returnsIn) (4 * decidedIn) T)
+
+  -- the room for the ids of returns that are not decided yet
+  abbrev pub unusedIn : List ℕ
+  unusedIn = part (idsPlace σ sheetSize columnsIn returnsIn + 4 * decidedIn) (4 * (returnsIn - decidedIn)) T
 
   -- number k of the six that stand after the waiting id
   abbrev pub wordIn : ℕ → ℕ
@@ -231,7 +236,7 @@ module _ (σ : Setting) (T : List ℕ) where
   unfoldable pub oneBytes : List ℕ → List ℕ
   oneBytes joined = messageTwo σ (openedIn σ T) (oneTaken joined)
 
-  -- the return that waits is decided: its id is noted, nothing else of it is kept, and the table is idle
+  -- the return that waits is decided: its id is noted, the bytes kept for it are erased, and the table is idle
   unfoldable pub decidedTable : ℕ → List ℕ → List ℕ
   decidedTable accepted t =
       staged stageIdle

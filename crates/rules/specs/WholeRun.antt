@@ -20,7 +20,7 @@ use Rattle.rules.specs.Judging.{shareSize, addedUp, letsIn, allowedPair}
 use Rattle.rules.specs.Making.{madeShare, randomCount, shareMessage}
 use Rattle.rules.specs.Messages.{placeIn, roundLength}
 use Rattle.rules.specs.Server.{Opened, Waiting, waitingOf, messageOne, messageTwo, summed}
-use Rattle.rules.specs.Table.{openRefusal, waitLength, waits, keptIn}
+use Rattle.rules.specs.Table.{openRefusal, waitLength, decidedIn, unusedIn, waits, keptIn}
 use Rattle.rules.specs.Joining.{joinRefusal, joinCount, joinTotals}
 use Rattle.rules.specs.Ledger.{Call, share, roundOne, roundTwo, drop, close, Answer, refused, wrote, judged, done}
 use Rattle.rules.specs.Ledger.{Note, Progress, isIdle, waitsOne, waitsTwo, isClosed, Decided, Ledger, empty}
@@ -241,7 +241,10 @@ pub record WholeRun (σ : Setting) (𝓟 : Pool σ) : Type 0 where
       ∷ wrote (messageTwo σ (openedAt σ 𝓟 i) (secondWait σ 𝓟 id shares r s i))
       ∷ judged (letsIn σ (columns σ 𝓟) (𝓟 .servers) (λ j e. getD (shares j) e 0) r s)
       ∷ []
-  -- 9. A decided return leaves nothing behind but its id: where no return waits, the bytes kept for one are all 0. No
-  -- condition is needed
+  -- 9. A decided return leaves its id and, where it is accepted, what its share adds to the totals, and nothing else: the
+  -- room for further ids is 0, and so are, where no return waits, the bytes kept for one. No condition is needed
+  pub unused : (i : ℕ) → i < 𝓟 .servers
+      → unusedIn σ (runTable σ (tableAt σ 𝓟 i) (𝓟 .calls i))
+      ≡ replicate (4 * (𝓟 .returns - decidedIn σ (runTable σ (tableAt σ 𝓟 i) (𝓟 .calls i)))) 0
   pub erased : (i : ℕ) → i < 𝓟 .servers → waits σ (runTable σ (tableAt σ 𝓟 i) (𝓟 .calls i)) ≡ false
       → keptIn σ (runTable σ (tableAt σ 𝓟 i) (𝓟 .calls i)) ≡ replicate (waitLength σ (columns σ 𝓟)) 0

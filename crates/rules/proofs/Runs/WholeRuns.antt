@@ -4,7 +4,7 @@ use Rattle.rules.specs.WholeRun.{Pool, columns, WholeRun}
 use Rattle.rules.proofs.Computed.Facts.{document01-facts}
 use Rattle.rules.proofs.Returns.OnSheets.{sheet-few-pairs}
 use Rattle.rules.proofs.Tables.Opens.{tables-tell}
-use Rattle.rules.proofs.Tables.Erased.{erased}
+use Rattle.rules.proofs.Tables.Erased.{unused, erased}
 use Rattle.rules.proofs.Histories.PoolOpened.{is-read}
 use Rattle.rules.proofs.Runs.WholeTotals.{closed-together}
 use Rattle.rules.proofs.Runs.Verdicts.{verdict, honest}
@@ -18,6 +18,7 @@ whole-run σ facts 𝓟 = record {
   honest = honest σ facts 𝓟;
   few = sheet-few-pairs σ facts (𝓟 .sheet) (columns σ 𝓟) (is-read σ 𝓟) (𝓟 .servers) (𝓟 .some-server);
   handled = handled σ facts 𝓟;
+  unused = unused σ facts 𝓟;
   erased = erased σ facts 𝓟;
 }
 

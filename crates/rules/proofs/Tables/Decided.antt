@@ -5,14 +5,15 @@ use mathlib.Core.List.{List, [], _∷_, _++_, map, append-nil}
 use Prim.Native.Nat.{ℕ, zero, suc, _+_, _*_, _%_, _^_, _≤_, _<_}
 use native.Mathlib.Nat.{mod-lt, add-zero}
 use native.Mathlib.Omega.{arith}
-use lib.ListN.{length, getD, take, replicate, length-append, length-map, length-replicate}
+use lib.ListN.{length, getD, take, drop, replicate, length-append, length-map, length-replicate}
 use Rattle.algebra.specs.Lists.{All, all[], all∷, tabulate, sumOver}
 use Rattle.algebra.specs.Modulo.{modulo}
 use Rattle.algebra.proofs.Members.{all-map, all-tabulate}
 use Rattle.algebra.proofs.Tables.{length-tabulate, tabulate-cong}
 use Rattle.words.specs.Bytes.{bytesOf, bytesOfAll, splice, elementsOf, allBelow}
 use Rattle.words.proofs.Numbers.{length-bytes}
-use Rattle.words.proofs.Splice.{length-splice, splice-all}
+use lib.Seq.{drop-drop}
+use Rattle.words.proofs.Splice.{length-splice, drop-splice, splice-all}
 use Rattle.words.proofs.Elements.{length-bytes-all, elements-bytes}
 use Rattle.words.proofs.Below.{below-of-all}
 use Rattle.rules.specs.Settings.{Setting, Facts}
@@ -132,6 +133,9 @@ module _ (σ : Setting) (facts : Facts σ) (o : Opened) (sheet : List ℕ)
     abbrev g : Parts
     g = b .parts
 
+    abbrev identity : ℕ
+    identity = waitingAt σ (o .columns) (g .wait) .id
+
     left : g .decided < g .returns
     left = omega (arith, b .tells .decided-is, b .opened-as .returns-are)
 
@@ -147,6 +151,22 @@ module _ (σ : Setting) (facts : Facts σ) (o : Opened) (sheet : List ℕ)
         (inside σ (o .columns) g (b .sized) 0 (g .totals) refl (omega arith) left)
         ∙ ap (_++ (n .id ∷ [])) (b .tells .used-are)
         ∙ sym (ids-grow ds n d)
+
+    unused : drop (4 * (g .decided + 1)) (noted σ (o .columns) g (b .sized) 0 (g .totals) refl (omega arith) left identity)
+        ≡ drop (4 * (g .decided + 1))
+        (replicate (length (noted σ (o .columns) g (b .sized) 0 (g .totals) refl (omega arith) left identity)) 0)
+    unused =
+        let at = 4 * g .decided in
+        let four : length (bytesOf 4 identity) ≡ 4 = length-bytes 4 identity in
+        let fit : at + length (bytesOf 4 identity) ≤ length (g .ids) =
+        id-inside σ (o .columns) g (b .sized) 0 (g .totals) refl (omega arith) left identity in
+        let past : 4 * (g .decided + 1) ≡ at + 4 = omega arith in
+        drop-splice (g .ids) at (bytesOf 4 identity) fit (4 * (g .decided + 1)) (omega arith)
+        ∙ ap (λ (k : ℕ). drop k (g .ids)) past
+        ∙ sym (drop-drop 4 at (g .ids))
+        ∙ ap (drop 4) (b .tells .unused-are)
+        ∙ drop-drop 4 at (replicate (length (g .ids)) 0)
+        ∙ ap₂ (λ (k m : ℕ). drop k (replicate m 0)) (sym past) (sym (length-splice (g .ids) at (bytesOf 4 identity) fit))
 
     -- decided as d, with the totals t
     decide-as : (d : Decision) (a : ℕ) (t U : List ℕ) → a ≤ 1 → g .accepted + a ≡ length (grown d) → length t ≡ length (g .totals)
@@ -164,6 +184,7 @@ module _ (σ : Setting) (facts : Facts σ) (o : Opened) (sheet : List ℕ)
         decided-is = ap (_+ 1) (b .tells .decided-is) ∙ sym (count-grows ds n d);
         accepted-is = count;
         used-are = used d;
+        unused-are = unused;
         totals-are = are;
         totals-below = below;
       };

@@ -77,6 +77,7 @@ module _ (σ : Setting) (o : Opened) where
     pub decided-is : decided ≡ length ds
     pub accepted-is : accepted ≡ length (notesWith isAccepted ds)
     pub used-are : elementsOf 4 (take (4 * decided) ids) ≡ idsOf (notesOf ds)
+    pub unused-are : drop (4 * decided) ids ≡ drop (4 * decided) (replicate (length ids) 0)
     pub totals-are : elementsOf (σ .width) totals ≡ ledgerTotals σ o (notesWith isAccepted ds)
     pub totals-below : allBelow (σ .modulus) (elementsOf (σ .width) totals) ≡ true
 

@@ -170,6 +170,7 @@ module _ (σ : Setting) (facts : Facts σ) (servers own : ℕ) (sheet : List ℕ
           decided-is = refl;
           accepted-is = refl;
           used-are = refl;
+          unused-are = ap (λ (k : ℕ). replicate k 0) (sym (length-replicate (4 * returns) 0));
           totals-are = totals-none;
           totals-below =
               ap (allBelow (σ .modulus)) zeros-again

@@ -42,8 +42,9 @@
  * from before and after one accepted return, show the published entries of its share. The shares of the totals stay in a
  * table until the host erases it; those of S closed tables, added up modulo p, are the published totals.
  *
- * Dropping. A return that cannot be finished is dropped at every server. Do not drop one whose round-two message has been
- * sent: another server may have accepted it, and then the totals do not fit together.
+ * Dropping. A return that cannot be finished is dropped at every server. Once its round-two message has been sent, a server
+ * drops only when it knows that no other server has decided the return by round two, or can: a return that is accepted at
+ * one server and dropped at another makes the totals wrong, and joining notices only counts that differ.
  *
  * Threads. Functions keep nothing between calls. Calls at the same time are allowed on separate buffers. No function
  * needs more than 64 KiB of stack; none allocates memory.

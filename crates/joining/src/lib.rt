@@ -35,10 +35,10 @@ fn write_totals(joined: &[u8], servers: u32, published: usize, out: &mut [u8])
 fn judge(servers: u32, sheet: &[u8], returns: u32, joined: &[u8], room: usize) -> Written
     ensures { λ r. ⌜ r ≡ judged servers (now (sheet .entry)) returns (now (joined .entry)) room ⌝ }
 {
-    if servers < 2 {
+    if servers < limits::MIN_SERVERS {
         return Written::Refused(2);
     }
-    if 8 < servers {
+    if limits::MAX_SERVERS < servers {
         return Written::Refused(2);
     }
     match sheet::read(sheet) {

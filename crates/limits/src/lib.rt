@@ -1,18 +1,25 @@
-// The limits of document 01 that several calls test: S, the elements of a share, the pair r, s. Each contract is an
+// The limits of document 01 that several calls test: S, N, the elements of a share, the pair r, s. Each contract is an
 // equality with rules, or with specs/, which is rules' by the numbers of code.
 ghost use mathlib.Core.Path.{_≡_};
 ghost use Prim.Native.Nat.{_≤_};
 ghost use Rattle.rules.specs.Columns.{serversFault};
 ghost use Rattle.limits.specs.Sheets.{sizeOf, pairSound};
 
+// S, and the returns that a table decides.
+pub const MIN_SERVERS: u32 = 2;
+
+pub const MAX_SERVERS: u32 = 8;
+
+pub const MAX_RETURNS: u32 = 1024;
+
 // The refusal of S: 2, or 0 for none.
 pub fn servers_refusal(servers: u32) -> u32
     ensures { λ r. ⌜ r ≡ serversFault servers ⌝ }
 {
-    if servers < 2 {
+    if servers < MIN_SERVERS {
         return 2;
     }
-    if 8 < servers {
+    if MAX_SERVERS < servers {
         return 2;
     }
     0

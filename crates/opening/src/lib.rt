@@ -20,10 +20,10 @@ fn open_checked(servers: u32, own: u32, sheet: &[u8], returns: u32, room: usize)
     ensures { λ r. ⌜ r ≡ answered (openRefusal document01 servers own (now (sheet .entry)) returns room)
         (openLength document01 (now (sheet .entry)) returns) ⌝ }
 {
-    if servers < 2 {
+    if servers < limits::MIN_SERVERS {
         return Written::Refused(2);
     }
-    if 8 < servers {
+    if limits::MAX_SERVERS < servers {
         return Written::Refused(2);
     }
     if servers <= own {

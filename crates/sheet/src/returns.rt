@@ -35,7 +35,7 @@ pub fn returns_refusal(s: &[u8], n: u32) -> u32
     if n < 1 {
         return 2;
     }
-    if 1024 < n {
+    if limits::MAX_RETURNS < n {
         return 2;
     }
     if n <= 128 {

@@ -79,10 +79,10 @@ fn start_sound(t: &[u8]) -> bool
     if CLOSED < t[1] {
         return false;
     }
-    if t[2] < 2 {
+    if wide(t[2]) < limits::MIN_SERVERS {
         return false;
     }
-    if 8 < t[2] {
+    if limits::MAX_SERVERS < wide(t[2]) {
         return false;
     }
     if t[2] <= t[3] {
@@ -92,7 +92,7 @@ fn start_sound(t: &[u8]) -> bool
     if returns < 1 {
         return false;
     }
-    if 1024 < returns {
+    if limits::MAX_RETURNS < returns {
         return false;
     }
     12 + (words::read_u16(t, 10) as usize) <= t.len()

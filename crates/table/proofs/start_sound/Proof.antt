@@ -21,14 +21,20 @@ shared-slice-read-if3 c = search needs
 returns-3 : tie.Need-returns-3
 returns-3 c = not-started _ (λ f. omega arith)
 
-shared-slice-read-if4 : tie.Need-shared-slice-read-if4
-shared-slice-read-if4 c = search needs
+shared-slice-read-wide : tie.Need-shared-slice-read-wide
+shared-slice-read-wide c = search needs
+
+wide-requires : tie.Need-wide-requires
+wide-requires c κs = search needs
 
 returns-4 : tie.Need-returns-4
 returns-4 c = not-started _ (λ f. omega arith)
 
-shared-slice-read-if5 : tie.Need-shared-slice-read-if5
-shared-slice-read-if5 c = search needs
+shared-slice-read-wide-2 : tie.Need-shared-slice-read-wide-2
+shared-slice-read-wide-2 c = search needs
+
+wide-requires-2 : tie.Need-wide-requires-2
+wide-requires-2 c κs = search needs
 
 returns-5 : tie.Need-returns-5
 returns-5 c = not-started _ (λ f. omega arith)
@@ -64,13 +70,14 @@ returns-9 : tie.Need-returns-9
 returns-9 c =
     let six = c .before .before .before .before in
     let five = six .before .before .before in
-    let four = five .before .before in
-    let three = four .before .before in
+    let four = five .before .before .before in
+    let three = four .before .before .before in
     let two = three .before .before in
     let one = two .before .before in
     rw (c .read-u162 .ensures)
     (start-but (one .before .before .args .t .now) (one .if1 .left) (two .if2 .left) (omega (arith, three .if3 .left))
-    (omega (arith, four .if4 .left)) (omega (arith, five .if5 .left)) (omega (arith, six .if6 .left)) (omega arith) (omega arith))
+    (omega (arith, four .if4 .left, four .before .wide .ensures))
+    (omega (arith, five .if5 .left, five .before .wide2 .ensures)) (omega (arith, six .if6 .left)) (omega arith) (omega arith))
 
 pub start-sound-spec : {M : Type 1} → statement M
 start-sound-spec =
@@ -81,9 +88,11 @@ start-sound-spec =
     returns-2
     shared-slice-read-if3
     returns-3
-    shared-slice-read-if4
+    shared-slice-read-wide
+    wide-requires
     returns-4
-    shared-slice-read-if5
+    shared-slice-read-wide-2
+    wide-requires-2
     returns-5
     shared-slice-read-if6
     shared-slice-read-if6-2

@@ -18,7 +18,7 @@ use Rattle.rules.proofs.Circuits.Limits.{limits}
 use Rattle.rules.proofs.Circuits.Encoding.{encoding-length, encoding-below}
 use Rattle.columns.specs.declared.Counts.{Counts}
 use Rattle.values.specs.Encode.{Encodable}
-use Rattle.message.proofs.Parts.{check-holds}
+use Rattle.steps.proofs.Parts.{check-holds}
 use Rattle.walk.specs.Walks.{Entries}
 use Rattle.client.specs.Pieces.{PlaceOfH, Legal, entriesFrom, Fillable}
 use Rattle.client.proofs.Room.{room}

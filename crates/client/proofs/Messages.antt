@@ -21,8 +21,8 @@ use Rattle.rules.specs.Judging.{shareSize}
 use Rattle.rules.specs.Making.{shareOf, shareMessage, madeShare, madeFrom}
 use Rattle.rules.proofs.Returns.Whole.{length-whole}
 use Rattle.rules.proofs.Histories.ShareBytes.{length-share}
-use Rattle.message.specs.Shares.{headerBytes}
-use Rattle.message.proofs.Parts.{part-of-part}
+use Rattle.share_message.specs.Shares.{headerBytes}
+use Rattle.steps.proofs.Parts.{part-of-part}
 use Rattle.client.specs.Pieces.{Random, restOf, firstShare, messageBytes, otherMessage, otherMessages, wholeOf}
 use Rattle.client.proofs.RandomWords.{random-word, random-sum}
 use Rattle.client.proofs.Filling.{on}

@@ -13,7 +13,7 @@ use Rattle.words.specs.Bytes.{valueOf, part, elementsOf}
 use Rattle.words.proofs.Elements.{element-within}
 use Rattle.field.specs.Residues.{residues}
 use Rattle.field.proofs.Below.{member-below}
-use Rattle.message.specs.Words.{wordOf, Words, sumOf}
+use Rattle.steps.specs.Words.{wordOf, Words, sumOf}
 use Rattle.client.specs.Pieces.{Random}
 
 module _ {random : List ℕ} {others size : ℕ} (r : Random random others size) (e : ℕ) (h : e < size) where

@@ -23,7 +23,7 @@ use Rattle.rules.specs.Making.{shareLength, randomCount, valuesFault, randomFau
 use Rattle.rules.proofs.Circuits.Limits.{within-both}
 use Rattle.rules.proofs.Circuits.Refusals.{sheet-fault}
 use Rattle.columns.specs.declared.Counts.{Counts}
-use Rattle.message.proofs.Parts.{check-holds}
+use Rattle.steps.proofs.Parts.{check-holds}
 use Rattle.client.specs.Calls.{Makes}
 use Rattle.client.specs.Pieces.{randomFaultAt, Counted, Random, messageBytes, Makeable}
 use Rattle.client.proofs.Room.{room}

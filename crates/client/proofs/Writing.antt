@@ -12,9 +12,9 @@ use Rattle.words.proofs.Splice.{length-part, splice-none}
 use Rattle.words.proofs.Loops.{grow}
 use Rattle.rules.specs.Settings.{document01}
 use Rattle.rules.specs.Making.{shareMessage}
-use Rattle.message.specs.Shares.{headerBytes}
-use Rattle.message.proofs.Parts.{span}
-use Rattle.message.proofs.Writing.{length-header}
+use Rattle.share_message.specs.Shares.{headerBytes}
+use Rattle.steps.proofs.Parts.{span}
+use Rattle.share_message.proofs.Writing.{length-header}
 use Rattle.client.specs.Pieces.{Random, messageBytes, otherMessage, otherMessages, Other}
 
 -- header and elements

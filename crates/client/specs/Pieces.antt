@@ -21,8 +21,8 @@ use Rattle.rules.specs.Making.{fOf, gOf, whole, valuesFault}
 use Rattle.walk.specs.Walks.{members}
 use Rattle.columns.specs.declared.Counts.{Counts}
 use Rattle.columns.specs.Counting.{countsOf}
-use Rattle.message.specs.Words.{sumOf}
-use Rattle.message.specs.Shares.{headerBytes}
+use Rattle.steps.specs.Words.{sumOf}
+use Rattle.share_message.specs.Shares.{headerBytes}
 
 -- rules' randomFault
 unfoldable pub randomFaultAt : ℕ → ℕ → List ℕ → ℕ

@@ -15,7 +15,7 @@ fn rest_of(random: &[u8], others: usize, size: usize, e: usize, x: u32) -> u32
     requires { ⌜ Random (now random) others size × (e < size) × (x < prime) ⌝ }
     ensures { λ r. ⌜ r ≡ restOf (now (random .entry)) others size e x ⌝ }
 {
-    field::sub(x, message::sum_words(random, 4 * size, 16 + 4 * e, others))
+    field::sub(x, steps::sum_words(random, 4 * size, 16 + 4 * e, others))
 }
 
 // The elements of server 0's share of the whole w, behind the header.
@@ -38,7 +38,7 @@ pub fn write_first(w: &[u32], random: &[u8], others: usize, id: u32, out: &mut [
     ensures { λ _. ⌜ now (out .exit)
         ≡ splice (now (out .entry)) 0 (shareMessage document01 id 0 (firstShare (now (random .entry)) others (now (w .entry)))) ⌝ }
 {
-    message::write_share_header(out, 0, id, 0);
+    share_message::write_share_header(out, 0, id, 0);
     write_rests(w, random, others, out);
 }
 
@@ -52,7 +52,7 @@ fn write_other(random: &[u8], size: usize, id: u32, j: usize, out: &mut [u8])
     let at = length + length * j;
     let start = 16 + 4 * size * j;
     let end = start + 4 * size;
-    message::write_share_header(out, at, id, (j + 1) as u8);
+    share_message::write_share_header(out, at, id, (j + 1) as u8);
     words::copy(out, at + 6, &random[start..end]);
 }
 

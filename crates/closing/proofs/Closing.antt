@@ -18,7 +18,7 @@ use Rattle.records.specs.Outcome.{orElse}
 use Rattle.records.specs.Answers.{answered, onlyIf}
 use Rattle.records.proofs.Outcome.{or-first}
 use Rattle.records.specs.declared.Written.the-variants as written
-use Rattle.message.specs.Totals.{totalsHeader}
+use Rattle.totals_message.specs.Totals.{totalsHeader}
 use Rattle.rules.specs.Settings.{document01}
 use Rattle.rules.specs.Server.{closeRefusal, totalsLength, totalsMessage}
 use Rattle.rules.specs.Table.{stageByte, waitingIn, stageIn, tableState, tableFault, totalsPlace}

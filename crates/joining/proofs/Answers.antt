@@ -18,9 +18,9 @@ use Rattle.rules.specs.Columns.{within, publishedIn, columnsOf, sheetFault, ser
 use Rattle.rules.specs.Joining.{acceptedCount, joinedFault, joinRefusal, joinCount, joinBytes}
 use Rattle.rules.proofs.Circuits.Limits.{within-both}
 use Rattle.rules.proofs.Circuits.Refusals.{sheet-limits}
-use Rattle.message.specs.Totals.{totalsBytes, joinedFaultAt, SummableTotals}
-use Rattle.message.proofs.Parts.{check-holds}
-use Rattle.message.proofs.Totals.{joined-fault, join-totals, totals-summable}
+use Rattle.totals_message.specs.Totals.{totalsBytes, joinedFaultAt, SummableTotals}
+use Rattle.steps.proofs.Parts.{check-holds}
+use Rattle.totals_message.proofs.Totals.{joined-fault, join-totals, totals-summable}
 use Rattle.joining.specs.Calls.{joinedOf, Joins, totalsOf, Joinable, judged}
 use Rattle.joining.specs.declared.Joined.the-variants as answer
 

@@ -15,8 +15,8 @@ use Rattle.rules.specs.Columns.{check, publishedIn, readSheet, sheetFault, colu
 use Rattle.rules.specs.Columns.{returnsFault, totalsFault}
 use Rattle.rules.specs.Joining.{joinedFault, joinRefusal}
 use Rattle.rules.proofs.Circuits.Refusals.{sheet-fault, sheet-limits}
-use Rattle.message.specs.Totals.{Limited, joinedFaultAt}
-use Rattle.message.proofs.Totals.{joined-fault}
+use Rattle.totals_message.specs.Totals.{Limited, joinedFaultAt}
+use Rattle.totals_message.proofs.Totals.{joined-fault}
 use Rattle.joining.specs.Calls.{judged}
 
 -- the limits on S and on the published entries of a sheet that is read

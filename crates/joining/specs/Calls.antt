@@ -13,7 +13,7 @@ use Rattle.records.specs.declared.Written.{Written}
 use Rattle.rules.specs.Settings.{document01}
 use Rattle.rules.specs.Columns.{publishedIn, columnsOf}
 use Rattle.rules.specs.Joining.{joinRefusal, joinCount, joinBytes}
-use Rattle.message.specs.Totals.{totalAt, SummableTotals}
+use Rattle.totals_message.specs.Totals.{totalAt, SummableTotals}
 use Rattle.joining.specs.declared.Joined.{Joined}
 use Rattle.joining.specs.declared.Joined.the-variants as answer
 

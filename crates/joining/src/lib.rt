@@ -25,7 +25,7 @@ fn write_totals(joined: &[u8], servers: u32, published: usize, out: &mut [u8])
 {
     let mut k: usize = 0;
     while k < published {
-        let total = message::totals_sum(joined, servers, published, k);
+        let total = totals_message::totals_sum(joined, servers, published, k);
         words::write_u32(out, 4 * k, total);
         k += 1;
     }
@@ -46,7 +46,7 @@ fn judge(servers: u32, sheet: &[u8], returns: u32, joined: &[u8], room: usize) -
         Reading::Counts(counts) => {
             let published = counts.published;
             let over = sheet::returns::returns_refusal(sheet, returns);
-            let unsound = message::totals_refusal(joined, servers, published, returns);
+            let unsound = totals_message::totals_refusal(joined, servers, published, returns);
             let fault = or_else(over, unsound);
             if fault != 0 {
                 return Written::Refused(fault);
@@ -68,7 +68,7 @@ pub fn join(servers: u32, sheet: &[u8], returns: u32, joined: &[u8], out: &mut [
         Written::Done(written) => {
             write_totals(joined, servers, written / 4, out);
             Joined::Done(Joining {
-                accepted: message::accepted_count(joined),
+                accepted: totals_message::accepted_count(joined),
                 written: written,
             })
         }

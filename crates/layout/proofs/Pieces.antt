@@ -10,8 +10,8 @@ use Rattle.words.specs.Bytes.{bytesOf, part, splice}
 use Rattle.words.proofs.Numbers.{length-bytes}
 use Rattle.words.proofs.Splice.{length-splice}
 use Rattle.words.proofs.Loops.{sets-splice, grow, copy-next}
-use Rattle.message.specs.Totals.{totalsHeader}
-use Rattle.message.proofs.Writing.{length-totals-header}
+use Rattle.totals_message.specs.Totals.{totalsHeader}
+use Rattle.totals_message.proofs.Writing.{length-totals-header}
 use Rattle.layout.specs.Places.{totalsAt, idsAt, waitAt, keptAt}
 use Rattle.limits.specs.Sheets.{sizeOf}
 use Rattle.layout.specs.Writing.{startBytes, erased, decidedAs, closingBytes}

@@ -4,7 +4,7 @@ use mathlib.Core.List.{List, [], _∷_, _++_}
 use Prim.Native.Nat.{ℕ, _+_, _*_, _≤_, _<_}
 use lib.ListN.{replicate}
 use Rattle.words.specs.Bytes.{bytesOf, part, splice}
-use Rattle.message.specs.Totals.{totalsHeader}
+use Rattle.totals_message.specs.Totals.{totalsHeader}
 use Rattle.layout.specs.Places.{totalsAt, idsAt, waitAt, keptAt}
 use Rattle.limits.specs.Sheets.{sizeOf}
 use Rattle.layout.specs.Numbers.{Whole}

@@ -61,7 +61,7 @@ pub fn write_closing(t: &[u8], k: Table, out: &mut [u8])
     requires { ⌜ Closable (now t) k (length (now out)) ⌝ }
     ensures { λ _. ⌜ now (out .exit) ≡ splice (now (out .entry)) 0 (closingBytes k (now (t .entry))) ⌝ }
 {
-    message::write_totals_header(out, k.own as u8, k.accepted);
+    totals_message::write_totals_header(out, k.own as u8, k.accepted);
     let start = k.totals_place();
     let end = k.ids_place();
     words::copy(out, 6, &t[start..end]);

@@ -7,7 +7,7 @@ use native.Mathlib.Omega.{arith}
 use borrow.Author.Tests.{lt-leb, le-leb}
 use lib.ListN.{length, getD, take, drop}
 use Rattle.words.specs.Bytes.{valueOf, part}
-use Rattle.message.proofs.Parts.{span, to-end}
+use Rattle.steps.proofs.Parts.{span, to-end}
 use Rattle.rules.specs.Settings.{document01}
 use Rattle.rules.specs.Recount.{inputSize, inputServers, inputSheet, inputReturns, inputJoined, refusalText, recountRefusal, recountText}
 use Rattle.listing.specs.Text.{Put, joinedText, Lists}

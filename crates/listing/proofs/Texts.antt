@@ -24,8 +24,8 @@ use Rattle.rules.specs.Recount.{decimal, acceptedText, refusalText, columnLines
 use Rattle.rules.proofs.Circuits.Limits.{limits}
 use Rattle.rules.proofs.Circuits.Refusals.{sheet-read}
 use Rattle.field.proofs.Below.{sum-below}
-use Rattle.message.specs.Totals.{totalAt}
-use Rattle.message.proofs.Totals.{join-totals}
+use Rattle.totals_message.specs.Totals.{totalAt}
+use Rattle.totals_message.proofs.Totals.{join-totals}
 use Rattle.joining.specs.Calls.{joinedOf, Joins}
 use Rattle.joining.specs.declared.Joining.{Joining}
 use Rattle.joining.specs.declared.Joined.{Joined}

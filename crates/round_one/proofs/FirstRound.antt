@@ -25,8 +25,8 @@ use Rattle.rules.specs.Server.{messageOne, messageTwo, sigmaIn, summed}
 use Rattle.rules.specs.Table.{stageByte, serversIn, ownIn, openedIn, waitingIn, stageIn, tableState, tableFault, waitPlace}
 use Rattle.rules.specs.Table.{oneRefused, oneTable, oneBytes}
 use Rattle.rules.proofs.Circuits.Limits.{within-is}
-use Rattle.message.proofs.Parts.{check-holds}
-use Rattle.message.proofs.Rounds.{rounds-summable}
+use Rattle.steps.proofs.Parts.{check-holds}
+use Rattle.round_message.proofs.Rounds.{rounds-summable}
 use Rattle.layout.specs.Places.{waitAt}
 use Rattle.layout.specs.declared.Table.{Table}
 use Rattle.table.specs.Reading.{tableOf, foundIn, Sound}

@@ -11,7 +11,7 @@ use Rattle.rules.specs.Columns.{check}
 use Rattle.rules.specs.Messages.{roundFault}
 use Rattle.rules.specs.Server.{messageOne}
 use Rattle.rules.specs.Table.{serversIn, ownIn, openedIn, waitingIn}
-use Rattle.message.specs.Rounds.{Summable}
+use Rattle.round_message.specs.Rounds.{Summable}
 use Rattle.layout.specs.declared.Table.{Table}
 use Rattle.waiting.specs.declared.held.Waiting.{Waiting}
 use Rattle.waiting.specs.Held.{waitsIn, Waits}

@@ -53,12 +53,12 @@ fn take_one(t: &mut [u8], joined: &[u8], k: Table, w: Waiting, out: &mut [u8])
         × (now (out .exit)
         ≡ splice (now (out .entry)) 0 (oneBytes document01 (now (t .entry)) (now (joined .entry)))) ⌝ }
 {
-    let d = message::first_sum(joined, k.servers);
-    let e = message::second_sum(joined, k.servers);
+    let d = round_message::first_sum(joined, k.servers);
+    let e = round_message::second_sum(joined, k.servers);
     let sigma = sigma_of(t, k, w, d, e);
     let at = k.wait_place() + 4 + 8;
     store_sums(t, at, d, e);
-    message::write_round(out, 35, w.id, k.own as u8, sigma, w.tau);
+    round_message::write_round(out, 35, w.id, k.own as u8, sigma, w.tau);
 }
 
 // Takes the joined messages of round one, and writes the own message of round two.

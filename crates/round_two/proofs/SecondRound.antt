@@ -18,7 +18,7 @@ use Rattle.rules.specs.Judging.{shareSize}
 use Rattle.rules.specs.Table.{stageByte, serversIn, ownIn, openedIn, waitingIn, stageIn, tableState, tableFault, idsPlace, waitPlace}
 use Rattle.rules.specs.Table.{decidedTable, twoRefused, twoVerdict, twoTable}
 use Rattle.rules.proofs.Circuits.Limits.{within-is}
-use Rattle.message.proofs.Rounds.{rounds-summable}
+use Rattle.round_message.proofs.Rounds.{rounds-summable}
 use Rattle.layout.specs.Writing.{decidedAs, Decidable}
 use Rattle.layout.specs.declared.Table.{Table}
 use Rattle.table.specs.Reading.{tableOf, foundIn, Sound}

@@ -7,7 +7,7 @@ use Rattle.rules.specs.Settings.{document01}
 use Rattle.rules.specs.Messages.{roundFault}
 use Rattle.rules.specs.Server.{messageTwo}
 use Rattle.rules.specs.Table.{serversIn, ownIn, openedIn, waitingIn}
-use Rattle.message.specs.Rounds.{Summable}
+use Rattle.round_message.specs.Rounds.{Summable}
 use Rattle.layout.specs.declared.Table.{Table}
 use Rattle.waiting.specs.Held.{Waits}
 

@@ -5,7 +5,7 @@ ghost use mathlib.Core.Path.{_≡_};
 ghost use Rattle.rules.specs.Settings.{document01};
 ghost use Rattle.rules.specs.Messages.{bothZero};
 ghost use Rattle.rules.specs.Table.{twoVerdict, twoTable};
-ghost use Rattle.message.specs.Rounds.{Summable};
+ghost use Rattle.round_message.specs.Rounds.{Summable};
 ghost use Rattle.waiting.specs.Held.{waitsIn, Waits};
 ghost use Rattle.round_two.specs.Two.{twoFaultAt, TwoReady};
 ghost use Rattle.round_two.specs.Calls.{RoundTwo};
@@ -41,10 +41,10 @@ fn both_zero(joined: &[u8], servers: u32) -> bool
     requires { ⌜ Summable servers (now joined) ⌝ }
     ensures { λ r. ⌜ r ≡ bothZero document01 servers (now (joined .entry)) ⌝ }
 {
-    if message::first_sum(joined, servers) != 0 {
+    if round_message::first_sum(joined, servers) != 0 {
         return false;
     }
-    message::second_sum(joined, servers) == 0
+    round_message::second_sum(joined, servers) == 0
 }
 
 // Decides the return that waits: where it is accepted its published entries are added to the totals.

@@ -10,9 +10,9 @@ use Rattle.records.specs.Outcome.{orElse}
 use Rattle.records.proofs.Outcome.{or-none, or-first}
 use Rattle.rules.specs.Messages.{idIn, elementsFault}
 use Rattle.rules.specs.Server.{isMember}
-use Rattle.message.specs.Shares.{headerFaultAt, sharePart}
-use Rattle.message.proofs.Shares.{part-sound}
-use Rattle.message.proofs.Parts.{span}
+use Rattle.share_message.specs.Shares.{headerFaultAt, sharePart}
+use Rattle.share_message.proofs.Shares.{part-sound}
+use Rattle.steps.proofs.Parts.{span}
 use Rattle.layout.specs.Places.{idsAt}
 use Rattle.layout.specs.declared.Table.{Table}
 use Rattle.limits.specs.Sheets.{pairSound}

@@ -19,8 +19,8 @@ use Rattle.rules.specs.Judging.{shareSize, allowedPair}
 use Rattle.rules.specs.Server.{Waiting, Stage, idle, awaitsOne, awaitsTwo, closed, whileIdle, shareRefusal}
 use Rattle.rules.specs.Table.{stageByte, waitingIn, idsIn, decidedIn, stageIn, tableState, columnsIn, ownIn, idsPlace}
 use Rattle.rules.specs.Messages.{elementsFault}
-use Rattle.message.specs.Shares.{headerFaultAt}
-use Rattle.message.proofs.Shares.{header-fault, header-long}
+use Rattle.share_message.specs.Shares.{headerFaultAt}
+use Rattle.share_message.proofs.Shares.{header-fault, header-long}
 use Rattle.layout.specs.Places.{idsAt}
 use Rattle.limits.specs.Sheets.{sizeOf}
 use Rattle.layout.specs.declared.Table.{Table}

@@ -12,7 +12,7 @@ use Rattle.rules.specs.Settings.{document01}
 use Rattle.rules.specs.Columns.{check}
 use Rattle.rules.specs.Messages.{idIn, elementsFault}
 use Rattle.rules.specs.Server.{isMember}
-use Rattle.message.specs.Shares.{headerFaultAt}
+use Rattle.share_message.specs.Shares.{headerFaultAt}
 use Rattle.layout.specs.Places.{idsAt}
 use Rattle.limits.specs.Sheets.{sizeOf}
 use Rattle.layout.specs.declared.Table.{Table}

@@ -5,7 +5,7 @@ ghost use Prim.Native.Nat.{_≤_};
 ghost use Rattle.rules.specs.Settings.{document01};
 ghost use Rattle.rules.specs.Server.{shareRefusal};
 ghost use Rattle.rules.specs.Table.{tableState};
-ghost use Rattle.message.specs.Shares.{sharePart};
+ghost use Rattle.share_message.specs.Shares.{sharePart};
 ghost use Rattle.limits.specs.Sheets.{sizeOf};
 ghost use Rattle.table.specs.Reading.{Sound};
 ghost use Rattle.share_checks.specs.Checks.{startFault, messageFault, lastFault, Fitting};
@@ -32,7 +32,7 @@ fn message_refusal(m: &[u8], x: &[u8], size: usize, own: u32) -> u32
     requires { ⌜ (size ≤ 774) × (now x ≡ sharePart size own (now m)) ⌝ }
     ensures { λ n. ⌜ n ≡ messageFault size own (now (m .entry)) ⌝ }
 {
-    let refusal = message::header_refusal(m, size, own);
+    let refusal = share_message::header_refusal(m, size, own);
     if refusal != 0 {
         return refusal;
     }
@@ -50,7 +50,7 @@ fn last_refusal(t: &[u8], k: Table, m: &[u8], r: u64, s: u64, room: usize) -> u3
 {
     let start = k.ids_place();
     let end = start + 4 * (k.decided as usize);
-    if has_id(&t[start..end], message::id_of(m)) {
+    if has_id(&t[start..end], share_message::id_of(m)) {
         return 10;
     }
     if !limits::pair_sound(k.gates, r, s) {

@@ -18,9 +18,9 @@ use Rattle.rules.specs.Columns.{check}
 use Rattle.rules.specs.Messages.{idIn, shareElements, elementsFault}
 use Rattle.rules.specs.Server.{isMember, shareRefusal}
 use Rattle.rules.specs.Table.{tableState, tableFault, shareRefused, shareTable, shareBytes}
-use Rattle.message.specs.Shares.{headerFaultAt, sharePart}
-use Rattle.message.proofs.Shares.{header-long, part-sound}
-use Rattle.message.proofs.Parts.{check-holds}
+use Rattle.share_message.specs.Shares.{headerFaultAt, sharePart}
+use Rattle.share_message.proofs.Shares.{header-long, part-sound}
+use Rattle.steps.proofs.Parts.{check-holds}
 use Rattle.layout.specs.Places.{idsAt}
 use Rattle.limits.specs.Sheets.{sizeOf}
 use Rattle.layout.specs.declared.Table.{Table}

@@ -53,13 +53,13 @@ fn take(table: &mut [u8], k: Table, m: &[u8], x: &[u8], r: u32, s: u32, out: &mu
     ensures { λ _. ⌜ (now (table .exit) ≡ shareTable document01 (now (table .entry)) (now (m .entry)) r s)
         × (now (out .exit) ≡ splice (now (out .entry)) 0 (shareBytes document01 (now (table .entry)) (now (m .entry)) r s)) ⌝ }
 {
-    let id = message::id_of(m);
+    let id = share_message::id_of(m);
     let j = judged(table, k, x, r, s);
     let at = k.wait_place();
     write_waiting(table, at, id, r, s, j);
     words::copy(table, at + 28, x);
     table[1] = AWAITS_ONE;
-    message::write_round(out, 34, id, k.own as u8, j.d, j.e);
+    round_message::write_round(out, 34, id, k.own as u8, j.d, j.e);
 }
 
 // Takes the share message m with the pair r, s, and writes the message of round one.
@@ -69,7 +69,7 @@ pub fn share(table: &mut [u8], m: &[u8], r: u64, s: u64, out: &mut [u8]) -> Writ
     match read(table) {
         Found::Refused(fault) => Written::Refused(fault),
         Found::Table(k) => {
-            let x = message::share_part(m, k.share_size(), k.own);
+            let x = share_message::share_part(m, k.share_size(), k.own);
             let refusal = share_refusal(table, k, m, x, r, s, out.len());
             if refusal != 0 {
                 return Written::Refused(refusal);

@@ -16,7 +16,7 @@ use Rattle.algebra.proofs.Tables.{tabulate-cong}
 use Rattle.words.specs.Bytes.{valueOf, part, elementsOf, allBelow}
 use Rattle.words.proofs.Splice.{length-part}
 use Rattle.words.proofs.Elements.{elements-whole}
-use Rattle.message.proofs.Parts.{part-of-part}
+use Rattle.steps.proofs.Parts.{part-of-part}
 use Rattle.rules.specs.Settings.{document01}
 use Rattle.rules.specs.Columns.{check, within, sheetFault, totalsFit}
 use Rattle.rules.specs.Judging.{shareSize, allowedPair}

@@ -15,7 +15,7 @@ use Rattle.rules.specs.Columns.{within, check, readSheet, columnsOf, returnsFau
 use Rattle.rules.specs.Table.{sheetIn, columnsIn}
 use Rattle.rules.proofs.Circuits.Limits.{within-is}
 use Rattle.rules.proofs.Circuits.Refusals.{sheet-read}
-use Rattle.message.proofs.Parts.{span}
+use Rattle.steps.proofs.Parts.{span}
 use Rattle.layout.specs.Places.{totalsAt, idsAt, waitAt}
 use Rattle.limits.specs.Sheets.{sizeOf}
 use Rattle.layout.specs.Numbers.{lengthOf}

@@ -23,8 +23,8 @@ use Rattle.rules.specs.Server as rules
 use Rattle.rules.specs.Server.{Stage, idle, awaitsOne, awaitsTwo, closed}
 use Rattle.rules.specs.Table.{sheetSize, columnsIn, returnsIn, wordIn, waitingIn, totalsIn, waits, waitPlace, sharePlace}
 use Rattle.rules.specs.Table.{headerSound, countsSound, waitingSound, tableSound, tableFault}
-use Rattle.message.proofs.Writing.{length-round}
-use Rattle.message.proofs.Parts.{span}
+use Rattle.round_message.proofs.Writing.{length-round}
+use Rattle.steps.proofs.Parts.{span}
 use Rattle.layout.specs.Places.{waitAt, shareAt}
 use Rattle.limits.specs.Sheets.{sizeOf}
 use Rattle.layout.specs.declared.Table.{Table}

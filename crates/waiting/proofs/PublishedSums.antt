@@ -22,7 +22,7 @@ use Rattle.rules.specs.Judging.{shareSize}
 use Rattle.rules.specs.Table.{returnsIn, sheetSize, sheetIn, columnsIn, totalsIn, waitingIn, waits, totalsPlace, sharePlace}
 use Rattle.rules.specs.Table.{headerSound, countsSound, waitingSound, tableSound}
 use Rattle.rules.proofs.Circuits.Refusals.{sheet-read}
-use Rattle.message.proofs.Parts.{part-of-part}
+use Rattle.steps.proofs.Parts.{part-of-part}
 use Rattle.layout.specs.Places.{totalsAt, shareAt}
 use Rattle.limits.specs.Sheets.{sizeOf}
 use Rattle.layout.specs.declared.Table.{Table}

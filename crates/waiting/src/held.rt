@@ -7,7 +7,7 @@ ghost use Rattle.field.specs.Residues.{prime, residues, Elements};
 ghost use Rattle.rules.specs.Settings.{document01};
 ghost use Rattle.rules.specs.Messages.{roundFault, roundMessage};
 ghost use Rattle.rules.specs.Judging.{firstOnly, sigmaFrom};
-ghost use Rattle.message.specs.Rounds.{Placed};
+ghost use Rattle.round_message.specs.Rounds.{Placed};
 ghost use Rattle.waiting.specs.Held.{waitsIn, Waits, sigmaAt};
 use layout::Table;
 
@@ -41,8 +41,8 @@ pub fn own_refusal(joined: &[u8], servers: u32, kind: u8, id: u32, own: u32, x: 
     ensures { λ r. ⌜ r ≡ roundFault document01 servers kind id own (roundMessage document01 kind id own x y) (now (joined .entry)) ⌝ }
 {
     let mut mine = [0u8; 14];
-    message::write_round(&mut mine, kind, id, own as u8, x, y);
-    message::round_refusal(joined, servers, kind, id, own, &mine)
+    round_message::write_round(&mut mine, kind, id, own as u8, x, y);
+    round_message::round_refusal(joined, servers, kind, id, own, &mine)
 }
 
 // sigma from the elements of a share, of which a, b and c stand from `at`.

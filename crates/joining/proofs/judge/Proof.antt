@@ -7,7 +7,7 @@ use borrow.Author.Needs.{needs}
 use Rattle.records.specs.Outcome.{ok, orElse}
 use Rattle.rules.specs.Settings.{document01}
 use Rattle.rules.specs.Columns.{publishedIn, readSheet, columnsOf, returnsFault, totalsFault}
-use Rattle.message.specs.Totals.{Limited, joinedFaultAt}
+use Rattle.totals_message.specs.Totals.{Limited, joinedFaultAt}
 use Rattle.columns.specs.declared.Counts.{Counts}
 use Rattle.sheet.proofs.Answers.{reading-refused, reading-counts}
 use Rattle.joining.proofs.Judging.{servers-low, servers-high, sheet-refused, limited}

@@ -6,7 +6,7 @@ use native.Mathlib.Omega.{arith}
 use borrow.Author.Needs.{needs}
 use lib.ListN.{length}
 use Rattle.words.specs.Bytes.{splice}
-use Rattle.message.specs.Totals.{totalAt}
+use Rattle.totals_message.specs.Totals.{totalAt}
 use Rattle.joining.specs.Calls.{totalsOf}
 use Rattle.joining.proofs.Filling.{firstOf, fill-start, fill-turn}
 use Rattle.joining.proofs.write_totals.Statement.{statement}

@@ -1,6 +1,6 @@
 -- `client::shares::rest_of` meets its contract: the words lie within the random bytes and are elements (`random-words`).
 -- Assumes nothing.
-use Rattle.message.proofs.Words.{sum-element}
+use Rattle.steps.proofs.Words.{sum-element}
 use Rattle.client.specs.Pieces.{restOf}
 use Rattle.client.proofs.RandomWords.{random-words}
 use borrow.Author.Needs.{needs}

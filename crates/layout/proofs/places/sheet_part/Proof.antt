@@ -1,5 +1,5 @@
 -- `layout::places::sheet_part` meets its contract: a part from a place to n behind it is n long (`span`). Assumes nothing.
-use Rattle.message.proofs.Parts.{span}
+use Rattle.steps.proofs.Parts.{span}
 use borrow.Author.Needs.{needs}
 use Rattle.layout.proofs.places.sheet_part.Statement.{statement}
 use Rattle.layout.proofs.places.sheet_part.Tie as tie

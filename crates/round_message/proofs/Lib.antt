@@ -1,0 +1,3 @@
+-- Laws that the proofs of the functions cite, and that callers may: Rounds joins rules' definitions to those of specs/.
+pub mod Rounds
+pub mod Writing

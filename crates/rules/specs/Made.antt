@@ -12,7 +12,7 @@ use Rattle.words.specs.Bytes.{part, elementsOf}
 use Rattle.rules.specs.Settings.{Setting}
 use Rattle.rules.specs.Columns.{Column, yesNo, choice, number, entriesIn, publishedIn, publishedFrom, columnsOf}
 use Rattle.rules.specs.Values.{encoding}
-use Rattle.rules.specs.Judging.{addedUp, allowedPair}
+use Rattle.rules.specs.Judging.{shareSize, addedUp, allowedPair}
 use Rattle.rules.specs.Making.{madeWhole, madeShare, shareMessage, shareLength, makeBytes}
 use Rattle.rules.specs.Messages.{idIn, shareElements, headerFault, elementsFault, roundLength}
 use Rattle.rules.specs.Server.{messageOne, messageTwo}
@@ -47,7 +47,13 @@ module _ (σ : Setting) (sheet : List ℕ) (servers id : ℕ) (values random : L
     pub header-sound : (i : ℕ) → i < servers → headerFault σ (columnsOf sheet) i (madePart i) ≡ 0
     pub elements-sound : (i : ℕ) → i < servers → elementsFault σ (madePart i) ≡ 0
     pub share-is : (i : ℕ) → i < servers → shareElements σ (madePart i) ≡ shareMade i
-    -- "Shares of S servers (2 to 8) add up modulo p": to the entries, which are the encoding of the values, and their proof
+    -- "Random elements come in this order: u_0, v_0, a, b, then the whole shares of servers 1 to S - 1." Each of these is
+    -- its own part of the random elements as they were handed to making
+    pub drawn : (i : ℕ) → suc i < servers
+        → shareElements σ (madePart (suc i))
+        ≡ part (4 + i * shareSize (columnsOf sheet)) (shareSize (columnsOf sheet)) (elementsOf (σ .width) random)
+    -- "Server 0's share is what remains." "Shares of S servers (2 to 8) add up modulo p": to the entries, which are the
+    -- encoding of the values, and their proof
     pub several : (2 ≤ servers) × (servers ≤ 8)
     pub adds-up : (e : ℕ)
         → addedUp (modulo (σ .modulus)) σ (columnsOf sheet) servers elementRead e

@@ -1,29 +1,31 @@
 -- What making writes is S share messages of one length, so each stands at its own place and is read back: kind, id, server
 -- and share. Where making is not refused the values are legal and the random elements below p, so the shares add up to the
 -- encoding with its proof. Assumes nothing.
-use mathlib.Core.Path.{_≡_, refl, ap, _∙_}
+use mathlib.Core.Path.{_≡_, refl, sym, ap, _∙_}
 use mathlib.Core.Bool.{true}
 use mathlib.Core.List.{List, _++_}
-use Prim.Native.Nat.{ℕ, zero, suc, _+_, _*_, _≤_, _<_}
-use native.Mathlib.Nat.{mul-comm, zero-add}
+use Prim.Native.Nat.{ℕ, zero, suc, _+_, _-_, _*_, _≤_, _<_}
+use native.Mathlib.Nat.{mul-comm, mul-le-mul-right, zero-add}
 use native.Mathlib.Omega.{arith}
 use borrow.Author.Tests.{eqb-true, eq-eqb}
 use lib.Dec.{eqb}
-use lib.ListN.{length, getD}
-use Rattle.algebra.specs.Lists.{All}
+use lib.ListN.{length, getD, drop}
+use lib.Seq.{getD-take, getD-drop}
+use Rattle.algebra.specs.Lists.{All, tabulate}
 use Rattle.algebra.specs.Modulo.{modulo}
 use Rattle.algebra.proofs.Members.{and-left, and-right}
 use Rattle.algebra.proofs.Sums.{sum-ext}
-use Rattle.algebra.proofs.Tables.{length-tabulate}
+use Rattle.algebra.proofs.Tables.{length-tabulate, tabulate-cong, tabulate-getD}
 use Rattle.words.specs.Bytes.{part, elementsOf, allBelow}
 use Rattle.words.proofs.Elements.{elements-whole}
+use Rattle.words.proofs.Splice.{length-part}
 use Rattle.words.proofs.Below.{all-of-below, below-of-all}
 use Rattle.records.proofs.Outcome.{or-zero}
 use Rattle.rules.specs.Settings.{Setting, Facts}
 use Rattle.rules.specs.Columns.{Column, within, sheetFault, columnsOf, serversFault}
 use Rattle.rules.specs.Values.{legalValues, encoding}
-use Rattle.rules.specs.Judging.{addedUp}
-use Rattle.rules.specs.Making.{madeWhole, shareMessage, shareLength, randomCount, madeFrom, valuesFault}
+use Rattle.rules.specs.Judging.{shareSize, addedUp}
+use Rattle.rules.specs.Making.{shareOf, madeWhole, shareMessage, shareLength, randomCount, madeFrom, valuesFault}
 use Rattle.rules.specs.Making.{randomFault, makeRefusal, makeBytes}
 use Rattle.rules.specs.Messages.{idIn, shareElements, headerFault, elementsFault}
 use Rattle.rules.specs.Made.{madePart, shareMade, elementRead, MadeReturn}
@@ -34,6 +36,13 @@ use Rattle.rules.proofs.Returns.Shares.{Made, made, added-is-whole}
 use Rattle.rules.proofs.Histories.MessageBytes.{width-positive, oneByOne, length-one-by-one, part-one-by-one}
 use Rattle.rules.proofs.Histories.ShareBytes.{length-share, share-kind, share-id, share-server, share-elements}
 use Rattle.rules.proofs.Histories.Checks.{check-passed}
+
+-- a part, place by place
+places-are-part : (a n : ℕ) (s : List ℕ) → a + n ≤ length s → tabulate (λ e. getD s (a + e) 0) n ≡ part a n s
+places-are-part a n s fits =
+    tabulate-cong _ _ n (λ e l. sym (getD-take n (drop a s) e 0 l ∙ getD-drop a s e 0))
+    ∙ ap (tabulate (λ e. getD (part a n s) e 0)) (sym (length-part a n s fits))
+    ∙ tabulate-getD 0 (part a n s)
 
 -- what is known where making is not refused
 pub record Makes (σ : Setting) (sheet : List ℕ) (servers : ℕ) (values random : List ℕ) : Type 0 where
@@ -129,6 +138,13 @@ module _ (σ : Setting) (facts : Facts σ) (sheet : List ℕ) (servers : ℕ) (v
     share-read : (i : ℕ) → i < servers → shareElements σ (read i) ≡ shares i
     share-read i l = ap (shareElements σ) (at-place i l) ∙ share-elements σ id i (shares i) facts (shared .share-below i)
 
+    -- the share of each server but the first is a part of the random elements
+    share-drawn : (i : ℕ) → suc i < servers → shares (suc i) ≡ part (4 + i * shareSize cs) (shareSize cs) zs
+    unfolding shareOf randomCount
+    share-drawn i l =
+        let few : suc i * shareSize cs ≤ (servers - 1) * shareSize cs = mul-le-mul-right (shareSize cs) (omega arith) in
+        places-are-part (4 + i * shareSize cs) (shareSize cs) zs (omega (arith, few, m .enough))
+
     header-passes : (i : ℕ) → i < servers → headerFault σ cs i (read i) ≡ 0
     unfolding headerFault
     header-passes i l =
@@ -164,6 +180,7 @@ module _ (σ : Setting) (facts : Facts σ) (sheet : List ℕ) (servers : ℕ) (v
       header-sound = header-passes;
       elements-sound = elements-pass;
       share-is = share-read;
+      drawn = λ i l. share-read (suc i) l ∙ share-drawn i l;
       several = m .several;
       adds-up = whole-adds;
       entries-add-up = λ e l. whole-adds e ∙ shared .parts-are .entry-is e l;

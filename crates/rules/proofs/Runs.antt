@@ -1,4 +1,4 @@
--- Demand 3: verdicts, the same ids, totals; a sound return is handled; the whole claim.
+-- Demand 3: verdicts, the same ids, totals; a sound return is handled; the whole claim; returns that making wrote.
 pub mod Agreement
 pub mod Verdicts
 pub mod FewReturns
@@ -9,3 +9,4 @@ pub mod Handled
 pub mod WholeRuns
 pub mod Delivered
 pub mod EncodedTotals
+pub mod MadeRuns

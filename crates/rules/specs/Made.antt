@@ -1,25 +1,28 @@
 -- Document 01, "A return" and "Whole runs": what is promised of the bytes that making writes, and of the totals of returns
--- that making wrote. `makes-return`, `taken-whole`, `made-accepted` and `encoded-totals` in proofs prove it. Assumes nothing.
+-- that making wrote. The last record, `MadeRun`, is the claim with its premises. Assumes nothing.
 use mathlib.Core.Path.{_≡_}
 use mathlib.Core.Bool.{Bool, true, cond}
 use mathlib.Core.List.{List, [], _∷_, _++_, map}
-use Prim.Native.Nat.{ℕ, suc, _+_, _*_, _≤_, _<_}
+use Prim.Native.Nat.{ℕ, suc, _+_, _-_, _*_, _≤_, _<_, max}
 use lib.Dec.{eqb}
 use lib.ListN.{length, getD}
 use Rattle.algebra.specs.Lists.{In, sumOver}
 use Rattle.algebra.specs.Modulo.{modulo}
+use Rattle.algebra.specs.Count.{countPairs}
 use Rattle.words.specs.Bytes.{part, elementsOf}
 use Rattle.rules.specs.Settings.{Setting}
 use Rattle.rules.specs.Columns.{Column, yesNo, choice, number, entriesIn, publishedIn, publishedFrom, columnsOf}
+use Rattle.rules.specs.Circuit.{gatesIn, testsIn}
 use Rattle.rules.specs.Values.{encoding}
-use Rattle.rules.specs.Judging.{shareSize, addedUp, allowedPair}
-use Rattle.rules.specs.Making.{madeWhole, madeShare, shareMessage, shareLength, makeBytes}
+use Rattle.rules.specs.Judging.{shareSize, addedUp, letsIn, allowedPair}
+use Rattle.rules.specs.Making.{madeWhole, madeShare, shareMessage, shareLength, makeRefusal, makeBytes}
 use Rattle.rules.specs.Messages.{idIn, shareElements, headerFault, elementsFault, roundLength}
 use Rattle.rules.specs.Server.{messageOne, messageTwo}
 use Rattle.rules.specs.Joining.{joinTotals}
 use Rattle.rules.specs.Ledger.{Call, share, roundOne, roundTwo, wrote, judged, isIdle, empty, idsOf, notesOf}
 use Rattle.rules.specs.Ledger.{noteOf, refusalOf, runLedger, ledgerAnswers}
-use Rattle.rules.specs.WholeRun.{Pool, columns, openedAt, ledgerAt, notesAt, DeliveredWhole, closings}
+use Rattle.rules.specs.WholeRun.{Pool, columns, openedAt, ledgerAt, acceptedAt, notesAt, returnOf, KeepsForm, Conditions}
+use Rattle.rules.specs.WholeRun.{DeliveredWhole, AllClosed, closings}
 use Rattle.rules.specs.WholeRun.{firstWait, firsts, secondWait, seconds}
 
 -- ---- a return that making wrote, where making is not refused
@@ -131,3 +134,28 @@ module _ (σ : Setting) (𝓟 : Pool σ) where
     -- a number's total is the sum of the numbers
     pub number-total : (before after : List Column) (n : ℕ) → columns σ 𝓟 ≡ before ++ (number n ∷ after)
         → getD joinedTotals (publishedIn before) 0 ≡ sumOver (λ id. getD (values id) (length before) 0) ids
+
+-- WHAT IS PROMISED of returns that making wrote, in any pool
+pub record MadeRun (σ : Setting) (𝓟 : Pool σ) : Type 0 where
+  -- 1. Where making is not refused, for any sheet and S: its bytes are sound share messages, one for each server, with the
+  -- random elements handed in for shares but the first, and the shares add up to the encoding of the values with its proof
+  pub made : (sheet : List ℕ) (servers id : ℕ) (values random : List ℕ) (room : ℕ)
+      → makeRefusal σ sheet servers values random room ≡ 0 → MadeReturn σ sheet servers id values random
+  -- 2. Where each server took its part of these bytes, the return is delivered whole
+  pub delivered : (id : ℕ) (values random : List ℕ) (room : ℕ)
+      → makeRefusal σ (𝓟 .sheet) (𝓟 .servers) values random room ≡ 0 → id < 4294967296
+      → ((i : ℕ) → i < 𝓟 .servers → Took σ 𝓟 i (madePart σ (𝓟 .sheet) (𝓟 .servers) id values random i))
+      → MadeOf σ 𝓟 id (elementsOf 4 values)
+  -- 3. Servers that can take a return refuse nothing of one that making wrote, and accept it
+  pub accepted : (id : ℕ) (values random : List ℕ) (room : ℕ)
+      → makeRefusal σ (𝓟 .sheet) (𝓟 .servers) values random room ≡ 0
+      → (r s lent : ℕ) → CanTake σ 𝓟 id r s lent → MadeAccepted σ 𝓟 id values random r s lent
+  -- 4. When all servers have closed, and each return that server i accepted is delivered whole: the joined totals are sums of
+  -- encodings, and column by column numbers of returns or sums of values
+  pub totals : Conditions σ 𝓟 → AllClosed σ 𝓟 → (i : ℕ) → i < 𝓟 .servers
+      → (values : ℕ → List ℕ) → ((id : ℕ) → In id (acceptedAt σ 𝓟 i) → MadeOf σ 𝓟 id (values id))
+      → EncodedTotals σ 𝓟 (acceptedAt σ 𝓟 i) values
+  -- 5. Any other return: if its added-up entries do not keep their form, at most p × max(2M + 1, K - 1) pairs let it in
+  pub few : (id : ℕ) → (KeepsForm σ 𝓟 id → ⊥)
+      → countPairs (σ .modulus) (σ .modulus) (letsIn σ (columns σ 𝓟) (𝓟 .servers) (returnOf σ 𝓟 id))
+      ≤ σ .modulus * max (suc (gatesIn (columns σ 𝓟) + gatesIn (columns σ 𝓟))) (testsIn (columns σ 𝓟) - 1)

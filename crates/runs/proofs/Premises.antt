@@ -22,14 +22,10 @@ use Rattle.rules.specs.Ledger.{Call, share, empty, accepted, rejected, Decided,
 use Rattle.rules.specs.WholeRun.{Pool, openedAt, ledgerAt, acceptedAt, returnOf, KeepsForm, Ready, threeCalls, WholeRun}
 use Rattle.rules.specs.Made.{madePart, MadeReturn, Took, MadeOf, CanTake, MadeAccepted, joinedTotals, howMany, EncodedTotals}
 use Rattle.rules.proofs.Computed.Computing.{everything}
-use Rattle.rules.proofs.Computed.Facts.{document01-facts}
 use Rattle.rules.proofs.Histories.MessageBytes.{oneByOne}
 use Rattle.rules.proofs.Histories.Checks.{every-at}
-use Rattle.rules.proofs.Returns.MadeMessages.{makes-return}
 use Rattle.rules.proofs.Runs.WholeRuns.{document01-whole-run}
-use Rattle.rules.proofs.Runs.Delivered.{taken-whole, made-accepted}
-use Rattle.rules.proofs.Runs.FewReturns.{few-for-return}
-use Rattle.rules.proofs.Runs.EncodedTotals.{encoded-totals}
+use Rattle.rules.proofs.Runs.MadeRuns.{document01-made-run}
 use Rattle.runs.proofs.Tests.{bytesCall, opensAt, isPool, poolOf, isFree, isReady, is-ready}
 use Rattle.runs.proofs.TwoServers.{ones, twos, short, sheet, random, honest, false-return, calls, pool, meets-them, ended}
 use Rattle.runs.proofs.TwoServers.{pair-77, pair-78}
@@ -47,7 +43,7 @@ unfolding everything
 not-refused = refl
 
 pub made-77 : MadeReturn document01 sheet 2 77 valueBytes randomBytes
-made-77 = makes-return document01 document01-facts sheet 2 77 valueBytes randomBytes 84 not-refused
+made-77 = document01-made-run pool .made sheet 2 77 valueBytes randomBytes 84 not-refused
 
 -- both servers took their parts of the bytes
 abbrev partAt : ℕ → List ℕ
@@ -89,7 +85,7 @@ took i l = record {
 }
 
 pub whole-77 : MadeOf document01 pool 77 (elementsOf 4 valueBytes)
-whole-77 = taken-whole document01 document01-facts pool 77 valueBytes randomBytes 84 not-refused (lit< tt) took
+whole-77 = document01-made-run pool .delivered 77 valueBytes randomBytes 84 not-refused (lit< tt) took
 
 -- ---- verdicts at server 1: the honest return is let in by its pair, the false one is not
 whole-run : WholeRun document01 pool
@@ -125,7 +121,7 @@ broken-78 (all∷ e es) = omega arith
 
 few-78 : countPairs 2147483647 2147483647 (letsIn document01 (columnsOf sheet) 2 (returnOf document01 pool 78)) ≤ 2147483647 * 3
 few-78 = subst (λ (k : ℕ). countPairs 2147483647 2147483647 (letsIn document01 (columnsOf sheet) 2 (returnOf document01 pool 78))
-    ≤ 2147483647 * k) most (few-for-return document01 document01-facts pool 78 broken-78)
+    ≤ 2147483647 * k) most (document01-made-run pool .few 78 broken-78)
   where
     most : max (suc (gatesIn (columnsOf sheet) + gatesIn (columnsOf sheet))) (testsIn (columnsOf sheet) - 1) ≡ 3
     most = unfold everything in refl
@@ -143,7 +139,7 @@ each-made id h = go (subst (In id) accepted-0 h)
     go (inr k) = absurd k
 
 totals-77 : EncodedTotals document01 pool (acceptedAt document01 pool 0) (λ id. elementsOf 4 valueBytes)
-totals-77 = encoded-totals document01 document01-facts pool meets-them ended 0 (lit< tt) _ each-made
+totals-77 = document01-made-run pool .totals meets-them ended 0 (lit< tt) _ each-made
 
 one-yes : getD (joinedTotals document01 pool) 0 0 ≡ 1
 unfolding everything howMany calls ones twos oneByOne
@@ -181,7 +177,7 @@ can-take = record {
 
 accepted-78 : MadeAccepted document01 earlyPool 78 valueBytes randomBytes 4 9 14
 accepted-78 =
-    made-accepted document01 document01-facts earlyPool 78 valueBytes randomBytes 84 not-refused 4 9 14 can-take
+    document01-made-run earlyPool .accepted 78 valueBytes randomBytes 84 not-refused 4 9 14 can-take
 
 -- the answers of each server to the three calls, in short
 answered : (ℕ → List ℕ) → ℕ → ℕ → ℕ → List ℕ

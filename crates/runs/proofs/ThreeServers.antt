@@ -21,7 +21,7 @@ use Rattle.rules.proofs.Histories.MessageBytes.{oneByOne}
 use Rattle.runs.proofs.Tests.{bytesCall, opensAt, isPool, poolOf, hasWritten, meets, meets-conditions}
 use Rattle.runs.proofs.Tests.{isEnded, allEnded, all-closed, isWhole, made-of}
 use Rattle.rules.proofs.Runs.WholeTotals.{closed-together}
-use Rattle.rules.proofs.Runs.EncodedTotals.{encoded-totals}
+use Rattle.rules.proofs.Runs.MadeRuns.{document01-made-run}
 use Rattle.runs.proofs.TwoServers.{ones, twos, give, short, joinResult}
 
 abbrev sheet : List ℕ
@@ -128,7 +128,7 @@ each-made id h = go (subst (In id) accepted-ids h)
     go (inr (inr k)) = absurd k
 
 pub told : EncodedTotals document01 pool (acceptedAt document01 pool 2) values
-told = encoded-totals document01 document01-facts pool meets-them ended 2 (lit< tt) values each-made
+told = document01-made-run pool .totals meets-them ended 2 (lit< tt) values each-made
 
 -- one says yes; two chose the last option; the numbers add up to 4
 yes-told : getD (joinedTotals document01 pool) 0 0 ≡ 1

@@ -1,6 +1,6 @@
 -- Document 01, "Judging", "Whole runs" and "Who can cause which refusal": a server's table by rows that compute. First
--- the tables within the limits and those past them, then calls on the tables of two servers, the order of a share's
--- refusals, and what is kept of a return. Assumes nothing.
+-- the tables within the limits and those past them, then calls on the tables of two servers, the orders of refusals, and
+-- what is kept of a return. Assumes nothing.
 use mathlib.Core.Bool.{Bool, _&&_, _||_, not}
 use mathlib.Core.List.{List, [], _∷_, _++_}
 use Prim.Native.Nat.{ℕ, _+_, _-_, _*_}
@@ -8,11 +8,11 @@ use lib.Dec.{eqb}
 use lib.ListN.{length, set, take, drop, replicate}
 use Rattle.algebra.specs.Lists.{every, countFrom, tabulate}
 use Rattle.words.specs.Bytes.{bytesOf, bytesOfAll, splice}
-use Rattle.rules.specs.Making.{shareMessage}
-use Rattle.rules.specs.Table.{keptIn, tableSound, openBytes, shareRefused, shareTable, shareBytes, oneRefused, oneTable, oneBytes}
-use Rattle.rules.specs.Table.{twoRefused, twoVerdict, twoTable, dropRefused, dropTable, closeRefused, closeTable, closeBytes}
+use Rattle.rules.specs.Making.{shareMessage, makeRefusal}
+use Rattle.rules.specs.Table.{keptIn, tableSound, openRefusal, openBytes, shareRefused, shareTable, shareBytes, oneRefused, oneTable}
+use Rattle.rules.specs.Table.{oneBytes, twoRefused, twoVerdict, twoTable, dropRefused, dropTable, closeRefused, closeTable, closeBytes}
 use Rattle.rules.specs.Joining.{joinRefusal, joinCount, joinTotals}
-use Rattle.rules.specs.Examples.{Row, row, P, σ, same, honest, cheat}
+use Rattle.rules.specs.Examples.{Row, row, P, σ, same, random, honest, cheat}
 
 -- the table that server i of two opens for sheet 17 and N = 2, 89 bytes
 abbrev fresh : ℕ → List ℕ
@@ -107,7 +107,7 @@ second = judgedBy first cheat 78 3
 abbrev joinedTotals : List ℕ
 joinedTotals = closeBytes σ (second 0) ++ closeBytes σ (second 1)
 
--- the tables after the first share, and after the second was dropped
+-- the tables after the first share, 77, and after that return was dropped
 abbrev waiting : ℕ → List ℕ
 waiting = took fresh honest 77 4
 
@@ -151,6 +151,9 @@ onTables =
     ∷ row "a close while one waits: 11" (eqb (closeRefused σ (waiting 0) 100) 11)
     ∷ row "round two before round one: 11" (eqb (twoRefused σ (waiting 0) (twos fresh honest 77 4)) 11)
     ∷ row "a drop with nothing waiting: 11" (eqb (dropRefused σ (fresh 0)) 11)
+    ∷ row "a drop while awaiting round one: 0" (eqb (dropRefused σ (waiting 0)) 0)
+    ∷ row "a drop while awaiting round two: 0" (eqb (dropRefused σ (summedUp fresh honest 77 4 0)) 0)
+    ∷ row "closed: a drop is 11" (eqb (dropRefused σ (closeTable σ (first 0))) 11)
     ∷ row "closed: a share is 11" (eqb (shareRefused σ (closeTable σ (first 0)) broken 3 9 14) 11)
     ∷ row "closed: a close is 11" (eqb (closeRefused σ (closeTable σ (first 0)) 100) 11)
     ∷ row "a share for another server: 7" (eqb (shareRefused σ (fresh 1) shareOf77 4 9 14) 7)
@@ -182,6 +185,55 @@ inOrder =
     ∷ row "9: r = M" (eqb (shareRefused σ (first 0) share79 1 9 13) 9)
     ∷ row "14: room for 13 bytes" (eqb (shareRefused σ (first 0) share79 2 9 13) 14)
     ∷ row "taken" (eqb (shareRefused σ (first 0) share79 2 9 14) 0)
+    ∷ []
+
+-- The other calls, each at fault in every way that it can be, and then in one way fewer each time
+abbrev wrongSheet : List ℕ
+wrongSheet = 20 ∷ []
+
+abbrev sheet24 : List ℕ
+sheet24 = 19 ∷ 24 ∷ []
+
+abbrev noTotals : List ℕ
+noTotals = (36 ∷ 0 ∷ replicate 8 0) ++ (36 ∷ 1 ∷ replicate 8 0)
+
+abbrev yesBytes : List ℕ
+yesBytes = bytesOf 4 1
+
+unfoldable pub otherOrders : List Row
+otherOrders =
+    -- "Making: sheet, S, 5, 6, 14."
+    row "making: the sheet" (eqb (makeRefusal σ wrongSheet 9 [] [] 83) 1)
+    ∷ row "making: S" (eqb (makeRefusal σ (17 ∷ []) 9 [] [] 83) 2)
+    ∷ row "making: 5, no value" (eqb (makeRefusal σ (17 ∷ []) 2 [] [] 83) 5)
+    ∷ row "making: 6, no random element" (eqb (makeRefusal σ (17 ∷ []) 2 yesBytes [] 83) 6)
+    ∷ row "making: 14, room for 83 bytes" (eqb (makeRefusal σ (17 ∷ []) 2 yesBytes (bytesOfAll 4 random) 83) 14)
+    ∷ row "made" (eqb (makeRefusal σ (17 ∷ []) 2 yesBytes (bytesOfAll 4 random) 84) 0)
+    -- "Opening: S and own number, sheet, N, 4, 14."
+    ∷ row "opening: S" (eqb (openRefusal σ 9 9 wrongSheet 1025 873) 2)
+    ∷ row "opening: own number" (eqb (openRefusal σ 2 2 wrongSheet 1025 873) 2)
+    ∷ row "opening: the sheet" (eqb (openRefusal σ 2 1 wrongSheet 1025 873) 1)
+    ∷ row "opening: N" (eqb (openRefusal σ 2 1 sheet24 1025 873) 2)
+    ∷ row "opening: 4" (eqb (openRefusal σ 2 1 sheet24 129 873) 4)
+    ∷ row "opening: 14, room for 873 bytes" (eqb (openRefusal σ 2 1 sheet24 128 873) 14)
+    ∷ row "opened" (eqb (openRefusal σ 2 1 sheet24 128 874) 0)
+    -- "Round one: 11, 12, 14." "Round two, which writes no message: 11, 12." "Close: 11, 14."
+    ∷ row "round one: 11, nothing waits" (eqb (oneRefused σ (fresh 0) broken 13) 11)
+    ∷ row "round one: 12" (eqb (oneRefused σ (waiting 0) broken 13) 12)
+    ∷ row "round one: 14, room for 13 bytes" (eqb (oneRefused σ (waiting 0) messages 13) 14)
+    ∷ row "round two: 11, awaits round one" (eqb (twoRefused σ (waiting 0) broken) 11)
+    ∷ row "round two: 12" (eqb (twoRefused σ (summedUp fresh honest 77 4 0) broken) 12)
+    ∷ row "close: 11, a return waits" (eqb (closeRefused σ (waiting 0) 9) 11)
+    ∷ row "close: 14, room for 9 bytes" (eqb (closeRefused σ (fresh 0) 9) 14)
+    ∷ row "close: taken" (eqb (closeRefused σ (fresh 0) 10) 0)
+    -- "Joining: S, sheet, N, 4, 12, 14."
+    ∷ row "joining: S" (eqb (joinRefusal σ 9 wrongSheet 1025 broken 3) 2)
+    ∷ row "joining: the sheet" (eqb (joinRefusal σ 2 wrongSheet 1025 broken 3) 1)
+    ∷ row "joining: N" (eqb (joinRefusal σ 2 sheet24 1025 broken 3) 2)
+    ∷ row "joining: 4" (eqb (joinRefusal σ 2 sheet24 129 broken 3) 4)
+    ∷ row "joining: 12" (eqb (joinRefusal σ 2 sheet24 128 broken 3) 12)
+    ∷ row "joining: 14, room for 3 bytes" (eqb (joinRefusal σ 2 sheet24 128 noTotals 3) 14)
+    ∷ row "joined" (eqb (joinRefusal σ 2 sheet24 128 noTotals 4) 0)
     ∷ []
 
 -- the bytes kept for a return that waits are 64: its id, six numbers and nine elements. Where none waits they are all 0

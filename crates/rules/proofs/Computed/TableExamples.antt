@@ -2,7 +2,7 @@
 use mathlib.Core.Bool.{true}
 use mathlib.Core.Path.{_≡_, refl}
 use Rattle.algebra.specs.Lists.{every}
-use Rattle.rules.specs.TableExamples.{limits, onTables, inOrder, erasures}
+use Rattle.rules.specs.TableExamples.{limits, onTables, inOrder, otherOrders, erasures}
 use Rattle.rules.proofs.Computed.Computing.{everything}
 
 pub limits-hold : every (λ row. row .holds) limits ≡ true
@@ -16,6 +16,10 @@ on-tables-hold = refl
 pub in-order-hold : every (λ row. row .holds) inOrder ≡ true
 unfolding everything inOrder
 in-order-hold = refl
+
+pub other-orders-hold : every (λ row. row .holds) otherOrders ≡ true
+unfolding everything otherOrders
+other-orders-hold = refl
 
 pub erasures-hold : every (λ row. row .holds) erasures ≡ true
 unfolding everything erasures

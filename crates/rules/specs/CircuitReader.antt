@@ -1,9 +1,9 @@
 -- Document 01, "Sheet and circuit" and "Who can cause which refusal": the reading of a circuit.
 -- Assumes nothing.
-use mathlib.Core.Bool.{Bool, cond, _&&_}
+use mathlib.Core.Bool.{cond, _&&_}
 use mathlib.Core.List.{List, [], _∷_}
 use mathlib.Core.Option.{Option, some, none}
-use Prim.Native.Nat.{ℕ, zero, suc, _+_, _-_}
+use Prim.Native.Nat.{ℕ, _+_, _-_}
 use lib.Dec.{leb, ltb, eqb}
 use lib.ListN.{length, getD}
 use Rattle.algebra.specs.Lists.{sumOver}
@@ -14,7 +14,8 @@ use Rattle.rules.specs.Settings.{Setting}
 use Rattle.rules.specs.Columns.{within, check, faultIn, listIn, sheetFault, columnsOf}
 use Rattle.rules.specs.Circuit.{Step, constant, entry, add, scale, multiply, test, circuitOf, circuitBytes}
 
--- "The body lengths of step kinds 1 to 6 are 4, 2, 4, 6, 4 and 2 bytes", where 4 and 6 hold a constant of w bytes
+-- "The body lengths of step kinds 1 to 6 are 4, 2, 4, 6, 4 and 2 bytes": wires and entries take 2 bytes each, and
+-- the constants of kinds 1 and 4 take w, which is 4 in document 01's setting
 abbrev pub bodyLengths : Setting → List ℕ
 bodyLengths σ = σ .width ∷ 2 ∷ 4 ∷ (2 + σ .width) ∷ 4 ∷ 2 ∷ []
 

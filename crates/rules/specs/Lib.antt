@@ -1,6 +1,6 @@
 -- Document 01 as definitions, in the order of the paper: settings, columns, circuit, run, values, a return, judging,
--- messages, one server, its table, joining, recount, the ledger of whole runs, and what is promised of whole runs and of
--- returns that making wrote.
+-- messages, one server, its table, joining, recount; the ledger of whole runs, and what is promised of whole runs and of
+-- returns that making wrote; the examples. (Making names the size of a share from Judging.)
 pub mod Settings
 pub mod Columns
 pub mod Circuit
@@ -8,16 +8,16 @@ pub mod CircuitReader
 pub mod Run
 pub mod Walk
 pub mod Values
-pub mod Judging
 pub mod Making
+pub mod Judging
 pub mod Messages
 pub mod Server
 pub mod Table
 pub mod Joining
 pub mod Recount
 pub mod Ledger
-pub mod Examples
-pub mod TableExamples
 pub mod Runs
 pub mod WholeRun
 pub mod Made
+pub mod Examples
+pub mod TableExamples

@@ -1,7 +1,7 @@
 -- Document 01, "Judging" and "Who can cause which refusal": the rules of one server, as functions of what it knows. A
 -- table's bytes say what a server knows (Table), and so does the ledger (Ledger).
 -- Assumes nothing.
-use mathlib.Core.Bool.{Bool, true, false, not, _||_}
+use mathlib.Core.Bool.{Bool, false, not, _||_}
 use mathlib.Core.List.{List, [], _∷_, _++_, map}
 use Prim.Native.Nat.{ℕ, _+_, _*_}
 use lib.Dec.{eqb, ltb, leb}
@@ -13,7 +13,7 @@ use Rattle.rules.specs.Settings.{Setting}
 use Rattle.rules.specs.Columns.{Column, check, publishedIn, publishedFrom, columnsOf, sheetFault}
 use Rattle.rules.specs.Columns.{serversFault, ownFault, returnsFault, totalsFault}
 use Rattle.rules.specs.Judging.{firstOnly, aOf, bOf, cOf, hAt, dOf, eOf, sigmaFrom, tauOf, allowedPair}
-use Rattle.rules.specs.Messages.{idIn, shareElements, headerFault, elementsFault, roundMessage, roundLength, roundFault}
+use Rattle.rules.specs.Messages.{idIn, headerFault, elementsFault, roundMessage, roundLength, roundFault}
 use Rattle.rules.specs.Messages.{firstSum, secondSum}
 
 -- "A server's table opens with S, its own number, a sheet and N."
@@ -59,7 +59,7 @@ unfoldable pub isMember : ℕ → List ℕ → Bool
 isMember x [] = false
 isMember x (y ∷ ys) = eqb y x || isMember x ys
 
--- Opening: "S and own number, sheet, N, 4, 14"; `size` is the length of the table
+-- Opening: "S and own number, sheet, N, 4, 14". The 14, which asks for the table's length, is in `Table.openRefusal`
 unfoldable pub openFault : Setting → ℕ → ℕ → List ℕ → ℕ → ℕ
 openFault σ servers own sheet returns =
     orElse (serversFault servers)

@@ -4,15 +4,15 @@
 use mathlib.Core.Path.{_≡_, refl, sym, _∙_, ap₂, subst}
 use mathlib.Core.Bool.{Bool, true}
 use mathlib.Core.List.{List, [], _∷_}
-use Prim.Native.Nat.{ℕ, zero, suc, _+_, _-_, _*_, _≤_, _<_, max}
+use Prim.Native.Nat.{ℕ, suc, _+_, _-_, _*_, _≤_, _<_, max}
 use native.Mathlib.Omega.{arith}
 use lib.ListN.{length}
-use Rattle.algebra.specs.Lists.{All, Distinct, distinct[], distinct∷, tabulate}
+use Rattle.algebra.specs.Lists.{All, Distinct, tabulate}
 use Rattle.algebra.specs.Ops.{Ops, Field, minus}
 use Rattle.algebra.specs.Polynomial.{PolyFn, step, horner}
 use Rattle.algebra.specs.Count.{countPairs}
 use Rattle.algebra.specs.Claims.{Vanishes, Apart}
-use Rattle.algebra.proofs.Tables.{length-tabulate, tabulate-none, tabulate-front}
+use Rattle.algebra.proofs.Tables.{length-tabulate}
 use Rattle.algebra.proofs.Members.{all-tabulate}
 use Rattle.algebra.proofs.Ring.{sub-zero}
 use Rattle.algebra.proofs.Polynomial.{poly-zero, poly-ext, poly-add, poly-neg, poly-mul, poly-horner, horner-powers}

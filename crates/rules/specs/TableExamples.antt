@@ -9,7 +9,7 @@ use lib.ListN.{length, set, take, drop, replicate}
 use Rattle.algebra.specs.Lists.{every, countFrom, tabulate}
 use Rattle.words.specs.Bytes.{bytesOf, bytesOfAll, splice}
 use Rattle.rules.specs.Making.{shareMessage, makeRefusal}
-use Rattle.rules.specs.Table.{keptIn, tableSound, openRefusal, openBytes, shareRefused, shareTable, shareBytes, oneRefused, oneTable}
+use Rattle.rules.specs.Table.{unusedIn, keptIn, tableSound, openRefusal, openBytes, shareRefused, shareTable, shareBytes, oneRefused, oneTable}
 use Rattle.rules.specs.Table.{oneBytes, twoRefused, twoVerdict, twoTable, dropRefused, dropTable, closeRefused, closeTable, closeBytes}
 use Rattle.rules.specs.Joining.{joinRefusal, joinCount, joinTotals}
 use Rattle.rules.specs.Examples.{Row, row, P, σ, same, random, honest, cheat}
@@ -248,4 +248,6 @@ erasures =
     ∷ row "nor after another was rejected" (nothingKept (second 0) && nothingKept (second 1))
     ∷ row "nor after a drop" (nothingKept (afterDrop 0) && nothingKept (dropTable σ (summedUp fresh honest 77 4 1)))
     ∷ row "nor after the close" (nothingKept (closeTable σ (second 0)) && nothingKept (closeTable σ (second 1)))
+    ∷ row "the room for further ids is 0"
+    (same (unusedIn σ (fresh 0)) (replicate 8 0) && (same (unusedIn σ (first 0)) (replicate 4 0) && same (unusedIn σ (second 0)) []))
     ∷ []

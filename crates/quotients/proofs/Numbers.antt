@@ -15,7 +15,8 @@ use Rattle.algebra.proofs.Weights.{weight-factorial}
 use Rattle.algebra.proofs.Weights as weights
 use Rattle.field.specs.Residues.{prime, residues}
 use Rattle.field.proofs.Below.{inverse-below}
-use Rattle.quotients.specs.Factorials.{inverseFactorial}
+use Rattle.quotients.specs.Factorials.{inverseFactorial, nextOver}
+use Rattle.quotients.proofs.Steps.{weight-next, weight-mirror}
 
 -- the field, and the values of its elements
 abbrev pub 𝓕 : Field
@@ -48,6 +49,26 @@ weight-is n j h l =
     ∙ values .mul _ _
     ∙ ap₂ (residues ._⊗_) (inverse-value j (omega arith))
     (values .mul _ _ ∙ ap₂ (residues ._⊗_) (sign-hom values (n - j)) (inverse-value (n - j) (omega arith)))
+
+pub weight-step : (n j : ℕ) → j < n → n < prime
+    → weight residues n (suc j) ≡ residues ._⊗_ (weight residues n j) (nextOver n j)
+weight-step n j h l =
+    sym (weight-hom values n (suc j))
+    ∙ ap (values .φ) (weight-next 𝓕 n j h (λ i k. not-zero i (omega arith)))
+    ∙ values .mul _ _
+    ∙ ap₂ (residues ._⊗_) (weight-hom values n j)
+    (values .mul _ _
+    ∙ ap₂ (residues ._⊗_)
+    (values .opp _ ∙ ap (residues .neg) (values .num (n - j) ∙ mod-eq-of-lt (omega arith)))
+    (values .rec _ ∙ ap (residues .inv) (values .num (suc j) ∙ mod-eq-of-lt (omega arith))))
+
+pub weight-across : (n j : ℕ) → j ≤ n → n < prime
+    → weight residues n j ≡ residues ._⊗_ (sign residues n) (weight residues n (n - j))
+weight-across n j h l =
+    sym (weight-hom values n j)
+    ∙ ap (values .φ) (weight-mirror 𝓕 n j h (λ i k. not-zero i (omega arith)))
+    ∙ values .mul _ _
+    ∙ ap₂ (residues ._⊗_) (sign-hom values n) (weight-hom values n (n - j))
 
 pub weight-below : (n j : ℕ) → weight residues n j < prime
 unfolding weight

@@ -1,117 +1,75 @@
--- `quotients::weigh` meets its contract: after j turns the buffer holds the weights of the first j points, then what it
--- held before. Assumes nothing.
+-- `quotients::weigh` meets its contract: the part from the middle on is filled, then the front from it. Assumes nothing.
 use borrow.Author.Needs.{needs}
-use mathlib.Core.Path.{_≡_, _∙_}
-use mathlib.Core.List.{_++_}
-use Prim.Native.Nat.{_-_, _≤_}
-use native.Mathlib.Nat.{mod-lt}
+use mathlib.Core.Path.{_≡_, _∙_, ap}
+use Prim.Native.Nat.{_-_, _/_}
 use native.Mathlib.Omega.{arith}
-use lib.Dec.{lit<}
-use lib.ListN.{length, length-set, drop}
+use lib.ListN.{length}
 use Rattle.algebra.specs.Interpolation.{weight}
 use Rattle.algebra.specs.Lists.{tabulate}
-use Rattle.algebra.proofs.Tables.{fill-none, fill-next, fill-all}
 use Rattle.field.specs.Residues.{residues}
-use Rattle.quotients.proofs.Weighing.{factorial-below, weight-from}
+use Rattle.quotients.proofs.Mirroring.{put-long, put-last}
 use Rattle.quotients.proofs.weigh.Statement.{statement}
 use Rattle.quotients.proofs.weigh.Tie as tie
 
-abbrev Inv-loop : tie.InvT-loop
-Inv-loop factorials out₀ n j₀ out j =
-    (j ≤ length out₀)
-    × (length out ≡ length out₀)
-    × (out ≡ tabulate (weight residues (length out₀ - 1)) j ++ drop j out₀)
-
-abbrev μ-loop : tie.MeasureT-loop
-μ-loop factorials out₀ n j₀ out j = length out₀ - j
-
-sub-n : tie.Need-sub-n Inv-loop μ-loop
+sub-n : tie.Need-sub-n
 sub-n c = search needs
 
-loop-holds : tie.Need-loop-holds Inv-loop μ-loop
-loop-holds c = search (needs, fill-none)
+sub-s : tie.Need-sub-s
+sub-s c = search needs
 
-mul-mul : tie.Need-mul-mul Inv-loop μ-loop
-mul-mul c = search needs
+middle-requires : tie.Need-middle-requires
+middle-requires c κs = search needs
 
-shared-slice-read-mul : tie.Need-shared-slice-read-mul Inv-loop μ-loop
-shared-slice-read-mul c = search needs
+mul-rise : tie.Need-mul-rise
+mul-rise c = search needs
 
-sub-signed : tie.Need-sub-signed Inv-loop μ-loop
-sub-signed c = search needs
+sub-rise : tie.Need-sub-rise
+sub-rise c = search needs
 
-sub-signed-2 : tie.Need-sub-signed-2 Inv-loop μ-loop
-sub-signed-2 c = search needs
+part-rise-start : tie.Need-part-rise-start
+part-rise-start c = search needs
 
-mul-signed : tie.Need-mul-signed Inv-loop μ-loop
-mul-signed c = search needs
+part-rise-end : tie.Need-part-rise-end
+part-rise-end c = search needs
 
-shared-slice-read-signed : tie.Need-shared-slice-read-signed Inv-loop μ-loop
-shared-slice-read-signed c = search needs
+rise-requires : tie.Need-rise-requires
+rise-requires c κs = search needs
 
-signed-requires : tie.Need-signed-requires Inv-loop μ-loop
-signed-requires c κs =
-    let s = c .before .before .before .before .before .before in
-    factorial-below (s .args .factorials .now) (s .pre .3) _ (omega arith)
-
-mul-requires : tie.Need-mul-requires Inv-loop μ-loop
-mul-requires c κs =
-    let s = c .before .before .before .before .before .before .before in
-    (factorial-below (s .args .factorials .now) (s .pre .3) _ (omega arith), rw (c .signed .ensures) (mod-lt _ (lit< tt)))
-
-mul-out : tie.Need-mul-out Inv-loop μ-loop
-mul-out c = search needs
-
-slice-write-out : tie.Need-slice-write-out Inv-loop μ-loop
-slice-write-out c = search needs
-
-add-j : tie.Need-add-j Inv-loop μ-loop
-add-j c = search needs
-
-loop-less : tie.Need-loop-less Inv-loop μ-loop
-loop-less c = search needs
-
-loop-again : tie.Need-loop-again Inv-loop μ-loop
-loop-again c =
-    let l = c .before .before .before .before .before .loop in
+mirror-requires : tie.Need-mirror-requires
+mirror-requires c κs =
     let s = c .before .before .before .before .before .before .before .before in
-    let n = length (s .args .out .now) - 1 in
-    let made = weight-from (s .args .factorials .now) (s .pre .3) n (l .j) _ (omega arith) (omega arith) (s .pre .2)
-    (c .before .signed .ensures) in (
-      omega arith,
-      length-set (l .out) (l .j) _ ∙ l .inv .1,
-      fill-next (weight residues n) (s .args .out .now) _ (l .j) _ (omega arith) (l .inv .2) (c .mul .ensures ∙ made),
+    let w = c .before .before .before .rise in
+    let d = s .args .out .now in
+    let p = w .last .1 .1 .1 .1 .0 in
+    let k = w .kept .1 .1 .1 .1 .0 in
+    let l = put-long (length d - 1 - (length d - 1) / 2) d p (omega arith) k in (
+      (rw l (omega arith), rw l (omega arith), rw l (omega arith)),
+      put-last (length d - 1 - (length d - 1) / 2) d p (omega arith) k (w .ensures),
     )
 
-same-length : tie.Need-same-length Inv-loop μ-loop
+same-length : tie.Need-same-length
 same-length c = search needs
 
-returns : tie.Need-returns Inv-loop μ-loop
+returns : tie.Need-returns
 returns c =
-    let l = c .before .loop in
-    let s = c .before .before .before .before in
-    fill-all (weight residues (length (s .args .out .now) - 1)) (s .args .out .now) _ (l .j) (omega arith) (l .inv .0) (l .inv .2)
+    let s = c .before .before .before .before .before .before .before .before .before .before .before in
+    let w = c .before .before .before .before .before .before .rise in
+    let d = s .args .out .now in
+    let l = put-long (length d - 1 - (length d - 1) / 2) d (w .last .1 .1 .1 .1 .0) (omega arith) (w .kept .1 .1 .1 .1 .0) in
+    c .before .before .mirror .ensures ∙ ap (λ k. tabulate (weight residues (k - 1)) k) l
 
 pub weigh-spec : {M : Type 1} → statement M
 weigh-spec =
     tie.close
     (tie.spec
-    Inv-loop
-    μ-loop
     sub-n
-    loop-holds
-    mul-mul
-    shared-slice-read-mul
-    sub-signed
-    sub-signed-2
-    mul-signed
-    shared-slice-read-signed
-    signed-requires
-    mul-requires
-    mul-out
-    slice-write-out
-    add-j
-    loop-less
-    loop-again
+    sub-s
+    middle-requires
+    mul-rise
+    sub-rise
+    part-rise-start
+    part-rise-end
+    rise-requires
+    mirror-requires
     same-length
     returns)

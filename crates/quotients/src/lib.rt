@@ -171,3 +171,29 @@ pub fn fill_weights(out: &mut [u32])
 {
     weigh(&tables::INVERSES, out);
 }
+
+// The same as `fill_two`, with the inverses lent.
+fn weigh_two(inverses: &[u32], first: &mut [u32], second: &mut [u32])
+    requires { ⌜ Inverses (now inverses) × (length (now inverses) ≤ 512) ⌝ }
+    requires { ⌜ (0 < length (now first)) × (length (now first) ≤ suc (length (now inverses))) ⌝ }
+    requires { ⌜ (0 < length (now second)) × (length (now second) ≤ suc (length (now inverses))) ⌝ }
+    ensures { λ _. ⌜ now (first .exit)
+        ≡ tabulate (weight residues (length (now (first .entry)) - 1)) (length (now (first .entry))) ⌝ }
+    ensures { λ _. ⌜ now (second .exit)
+        ≡ tabulate (weight residues (length (now (second .entry)) - 1)) (length (now (second .entry))) ⌝ }
+{
+    weigh(inverses, first);
+    weigh(inverses, second);
+}
+
+// Both as `fill_weights` fills one, with the table named once.
+pub fn fill_two(first: &mut [u32], second: &mut [u32])
+    requires { ⌜ (0 < length (now first)) × (length (now first) ≤ 513) ⌝ }
+    requires { ⌜ (0 < length (now second)) × (length (now second) ≤ 513) ⌝ }
+    ensures { λ _. ⌜ now (first .exit)
+        ≡ tabulate (weight residues (length (now (first .entry)) - 1)) (length (now (first .entry))) ⌝ }
+    ensures { λ _. ⌜ now (second .exit)
+        ≡ tabulate (weight residues (length (now (second .entry)) - 1)) (length (now (second .entry))) ⌝ }
+{
+    weigh_two(&tables::INVERSES, first, second);
+}

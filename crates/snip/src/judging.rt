@@ -55,7 +55,8 @@ fn inputs_from(f0: u32, g0: u32, first: u32, rest: u32, constant: u32) -> Inputs
     }
 }
 
-// The same as `inputs_at`, with the weights of the points 0, 1, .. lent.
+// f and g at r, from a share with l entries and the weights of the points 0, 1, .., one more than multiplications; f(0)
+// stands behind the entries, then g(0).
 fn inputs_with(sheet: &[u8], x: &[u32], l: usize, weights: &[u32], constant: u32, r: u32) -> Inputs
     requires { ⌜ Entries (now sheet) (now x) × (l + 1 < length (now x)) × (gatesIn (columnsOf (now sheet)) ≤ 256)
         × (constant < prime) × (r < prime) ⌝ }
@@ -68,27 +69,13 @@ fn inputs_with(sheet: &[u8], x: &[u32], l: usize, weights: &[u32], constant: u32
     inputs_from(x[l], x[l + 1], first, field::mul(r, q.over), constant)
 }
 
-// f and g at r, from a share with l entries and m multiplications; f(0) stands behind the entries, then g(0).
-fn inputs_at(sheet: &[u8], x: &[u32], l: usize, m: usize, constant: u32, r: u32) -> Inputs
-    requires { ⌜ Entries (now sheet) (now x) × (l + 1 < length (now x)) × (m ≡ gatesIn (columnsOf (now sheet))) × (m ≤ 256)
-        × (constant < prime) × (r < prime) ⌝ }
-    ensures { λ q. ⌜ q ≡ inputsOf (columnsOf (now (sheet .entry))) l constant (now (x .entry)) r ⌝ }
-{
-    let mut weights = [0u32; 257];
-    let points = m + 1;
-    quotients::fill_weights(&mut weights[..points]);
-    inputs_with(sheet, x, l, &weights[..points], constant, r)
-}
-
-// The polynomial through the members of y at the points 0, 1, .., at r.
-fn interpolated(y: &[u32], r: u32) -> u32
+// The polynomial through the members of y at the points 0, 1, .., at r, with the weights of these points.
+fn interpolated(y: &[u32], weights: &[u32], r: u32) -> u32
     requires { ⌜ Elements (now y) × (r < prime) × (0 < length (now y)) × (length (now y) ≤ 513) ⌝ }
+    requires { ⌜ now weights ≡ tabulate (weight residues (length (now y) - 1)) (length (now y)) ⌝ }
     ensures { λ q. ⌜ q ≡ interpolate residues (length (now (y .entry)) - 1) (members (now (y .entry))) r ⌝ }
 {
-    let mut weights = [0u32; 513];
-    let n = y.len();
-    quotients::fill_weights(&mut weights[..n]);
-    interpolation::sum(y, &weights[..n], 0, r).over
+    interpolation::sum(y, weights, 0, r).over
 }
 
 // The sum of s^k times test k, of which there are `tests`.
@@ -105,18 +92,29 @@ fn tau_of(sheet: &[u8], x: &[u32], l: usize, constant: u32, tests: usize, s: u32
     dot::inner(&powers[..tests], &values[..tests])
 }
 
-// What server `own` works out from the share x, with the pair r, s.
-pub fn judge(sheet: &[u8], counts: Counts, own: u32, x: &[u32], r: u32, s: u32) -> Judged
+// The same as `judge`, with the weights of the points 0, .., M and of 0, .., 2 M lent.
+fn judge_with(
+    sheet: &[u8],
+    counts: Counts,
+    own: u32,
+    x: &[u32],
+    single: &[u32],
+    double: &[u32],
+    r: u32,
+    s: u32,
+) -> Judged
     requires { ⌜ Share (now sheet) counts (now x) r s ⌝ }
+    requires { ⌜ now single ≡ tabulate (weight residues (counts .gates)) (suc (counts .gates)) ⌝ }
+    requires { ⌜ now double ≡ tabulate (weight residues (counts .gates + counts .gates)) (suc (counts .gates + counts .gates)) ⌝ }
     ensures { λ q. ⌜ q ≡ judgedOf (columnsOf (now (sheet .entry))) own (now (x .entry)) r s ⌝ }
 {
     let l = counts.entries;
     let m = counts.gates;
     let constant = field::mul(crate::first_only(own), field::P - 1);
-    let at = inputs_at(sheet, x, l, m, constant, r);
+    let at = inputs_with(sheet, x, l, single, constant, r);
     let first = l + 2;
     let last = l + 3 + (m + m);
-    let h = interpolated(&x[first..last], r);
+    let h = interpolated(&x[first..last], double, r);
     let tau = tau_of(sheet, x, l, constant, counts.tests, s);
     Judged {
         d: field::sub(at.f, x[last]),
@@ -124,4 +122,26 @@ pub fn judge(sheet: &[u8], counts: Counts, own: u32, x: &[u32], r: u32, s: u32) 
         rh: field::mul(r, h),
         tau: tau,
     }
+}
+
+// What server `own` works out from the share x, with the pair r, s.
+pub fn judge(sheet: &[u8], counts: Counts, own: u32, x: &[u32], r: u32, s: u32) -> Judged
+    requires { ⌜ Share (now sheet) counts (now x) r s ⌝ }
+    ensures { λ q. ⌜ q ≡ judgedOf (columnsOf (now (sheet .entry))) own (now (x .entry)) r s ⌝ }
+{
+    let mut single = [0u32; 257];
+    let mut double = [0u32; 513];
+    let points = counts.gates + 1;
+    let twice = counts.gates + points;
+    quotients::fill_two(&mut single[..points], &mut double[..twice]);
+    judge_with(
+        sheet,
+        counts,
+        own,
+        x,
+        &single[..points],
+        &double[..twice],
+        r,
+        s,
+    )
 }

@@ -1,224 +1,104 @@
--- `snip::judging::judge` meets its contract: each of the four numbers from the walk over the columns. Assumes nothing.
+-- `snip::judging::judge` meets its contract: with the weights that it makes. Assumes nothing.
 use borrow.Author.Needs.{needs}
-use mathlib.Core.Path.{_≡_, refl, ap, _∙_}
-use mathlib.Core.List.{List}
-use Prim.Native.Nat.{ℕ, suc, _+_, _-_, _<_, _≤_}
-use native.Mathlib.Nat.{mod-lt}
+use mathlib.Core.Path.{_≡_, sym, _∙_}
+use Prim.Native.Nat.{ℕ, _+_, _<_, _≤_}
 use native.Mathlib.Omega.{arith}
-use lib.Dec.{lit<}
-use lib.ListN.{length, take, drop, length-drop}
-use lib.Seq.{length-take-le}
-use Rattle.field.specs.Residues.{prime, residues, Elements}
-use Rattle.field.proofs.Below.{member-below}
-use Rattle.words.proofs.Below.{all-take, all-drop}
-use Rattle.rules.specs.Columns.{columnsOf}
-use Rattle.rules.specs.Judging.{firstOnly}
-use Rattle.snip.specs.declared.judging.Inputs.{Inputs}
-use Rattle.snip.specs.declared.judging.Judged.{Judged}
-use Rattle.snip.proofs.Numbers.{first-below}
-use Rattle.interpolation.proofs.Through.{interpolate-below}
+use lib.ListN.{length-append}
+use lib.Seq.{length-take-le, take-at}
+use Rattle.snip.proofs.Numbers.{weights-to}
 use Rattle.snip.proofs.ShareRoom.{room}
-use Rattle.snip.proofs.RoundNumbers.{d-from, e-from, h-from, tau-from}
 use Rattle.snip.proofs.judging.judge.Statement.{statement}
 use Rattle.snip.proofs.judging.judge.Tie as tie
 
--- four equal fields
-whole : {d d' e e' h h' t t' : ℕ} → d ≡ d' → e ≡ e' → h ≡ h' → t ≡ t'
-    → _≡_ {A = Judged} (record { d = d; e = e; rh = h; tau = t }) (record { d = d'; e = e'; rh = h'; tau = t' })
-whole p q u v = λ i. record { d = p i; e = q i; rh = u i; tau = v i }
+-- one point more than multiplications, and than twice as many
+few : {m : ℕ} → m ≤ 256 → m + 1 ≤ 257
+few h = omega arith
 
--- the values of h
-part-length : (xs : List ℕ) (l m : ℕ) → l + 3 + (m + m) ≤ length xs
-    → length (take (l + 3 + (m + m) - (l + 2)) (drop (l + 2) xs)) ≡ suc (m + m)
-part-length xs l m h =
-    length-take-le (l + 3 + (m + m) - (l + 2)) (drop (l + 2) xs) (rw length-drop (omega arith)) ∙ omega arith
+more : {m : ℕ} → m ≤ 256 → m + (m + 1) ≤ 513
+more h = omega arith
 
-part-elements : (xs : List ℕ) (l m : ℕ) → Elements xs → Elements (take (l + 3 + (m + m) - (l + 2)) (drop (l + 2) xs))
-part-elements xs l m h = all-take _ (l + 3 + (m + m) - (l + 2)) (all-drop _ (l + 2) h)
+points : {a m : ℕ} → a ≡ m + 1 → m ≤ 256 → (0 < a) × (a ≤ 513)
+points e h = (omega arith, omega arith)
 
-first-only-requires : tie.Need-first-only-requires
-first-only-requires c κs = search needs
+twice-points : {a m : ℕ} → a ≡ m + (m + 1) → m ≤ 256 → (0 < a) × (a ≤ 513)
+twice-points e h = (omega arith, omega arith)
 
-sub-mul : tie.Need-sub-mul
-sub-mul c = search needs
+add-points : tie.Need-add-points
+add-points c = omega (arith, room (c .before .before .before .pre) .gates-few)
 
-mul-requires : tie.Need-mul-requires
-mul-requires c κs = (rw (c .first-only .ensures) (first-below (c .before .before .before .args .own)), lit< tt)
+add-twice : tie.Need-add-twice
+add-twice c = omega (arith, room (c .before .before .before .before .pre) .gates-few)
 
-inputs-at-requires : tie.Need-inputs-at-requires
-inputs-at-requires c κs =
-    let s = c .before .before .before .before in
-    let m = room (s .pre) in
-    let fits : s .args .counts .entries + 1 < length (s .args .x .now) = omega (arith, m .long) in
-    (m .entries, fits, m .gates-are, m .gates-few, rw (c .mul .ensures) (mod-lt _ (lit< tt)), s .pre .r-below)
+array-borrow-prefix-single : tie.Need-array-borrow-prefix-single
+array-borrow-prefix-single c = few (room (c .before .before .before .before .pre) .gates-few)
 
-add-first : tie.Need-add-first
-add-first c =
-    let s = c .before .before .before .before .before in
-    let m = room (s .pre) in
-    omega (arith, m .entries-few)
+slice-aggregate-fill-two : tie.Need-slice-aggregate-fill-two
+slice-aggregate-fill-two c = sym (length-take-le _ _ (few (room (c .before .before .before .before .before .pre) .gates-few)))
 
-add-last : tie.Need-add-last
-add-last c =
-    let s = c .before .before .before .before .before in
-    let m = room (s .pre) in
-    omega (arith, m .entries-few)
+array-borrow-prefix-double : tie.Need-array-borrow-prefix-double
+array-borrow-prefix-double c = more (room (c .before .before .before .before .before .pre) .gates-few)
 
-add-last-2 : tie.Need-add-last-2
-add-last-2 c =
-    let s = c .before .before .before .before .before in
-    let m = room (s .pre) in
-    omega (arith, m .gates-few)
+slice-aggregate-fill-two-2 : tie.Need-slice-aggregate-fill-two-2
+slice-aggregate-fill-two-2 c = sym (length-take-le _ _ (more (room (c .before .before .before .before .before .before .pre) .gates-few)))
 
-add-last-3 : tie.Need-add-last-3
-add-last-3 c =
-    let s = c .before .before .before .before .before in
-    let m = room (s .pre) in
-    omega (arith, m .entries-few, m .gates-few)
+fill-two-requires : tie.Need-fill-two-requires
+fill-two-requires c κs =
+    let g = room (c .before .before .before .before .before .before .pre) .gates-few in
+    (points (length-take-le _ _ (few g)) g, twice-points (length-take-le _ _ (more g)) g)
 
-mul-interpolated : tie.Need-mul-interpolated
-mul-interpolated c =
-    let s = c .before .before .before .before .before in
-    let m = room (s .pre) in
-    record { fits = omega (arith, m .entries-few) }
+array-share-prefix-single : tie.Need-array-share-prefix-single
+array-share-prefix-single c =
+    let g = room (c .before .before .before .before .before .before .before .before .before .pre) .gates-few in
+    let l = c .before .before .fill-two .kept .0 ∙ length-take-le _ _ (few g) in
+    rw (length-append, l) (omega arith)
 
-sub-interpolated : tie.Need-sub-interpolated
-sub-interpolated c = search needs
+slice-aggregate-judge-with : tie.Need-slice-aggregate-judge-with
+slice-aggregate-judge-with c =
+    let g = room (c .before .before .before .before .before .before .before .before .before .before .pre) .gates-few in
+    let l = c .before .before .before .fill-two .kept .0 ∙ length-take-le _ _ (few g) in
+    rw (take-at _ _ _ l) (sym l)
 
-part-interpolated-start : tie.Need-part-interpolated-start
-part-interpolated-start c = search needs
+array-share-prefix-double : tie.Need-array-share-prefix-double
+array-share-prefix-double c =
+    let g = room (c .before .before .before .before .before .before .before .before .before .before .pre) .gates-few in
+    let l = c .before .before .before .fill-two .kept .1 .0 ∙ length-take-le _ _ (more g) in
+    rw (length-append, l) (omega arith)
 
-part-interpolated-end : tie.Need-part-interpolated-end
-part-interpolated-end c =
-    let s = c .before .before .before .before .before in
-    let m = room (s .pre) in
-    omega (arith, m .long)
+slice-aggregate-judge-with-2 : tie.Need-slice-aggregate-judge-with-2
+slice-aggregate-judge-with-2 c =
+    let g = room (c .before .before .before .before .before .before .before .before .before .before .before .pre) .gates-few in
+    let l = c .before .before .before .before .fill-two .kept .1 .0 ∙ length-take-le _ _ (more g) in
+    rw (take-at _ _ _ l) (sym l)
 
-interpolated-requires : tie.Need-interpolated-requires
-interpolated-requires c κs =
-    let s = c .before .before .before .before .before .before in
-    let m = room (s .pre) in
-    let k = s .args .counts in
-    let n = part-length (s .args .x .now) (k .entries) (k .gates) (omega (arith, m .long)) in (
-      part-elements (s .args .x .now) (k .entries) (k .gates) (s .pre .elements),
-      s .pre .r-below,
-      rw n (omega arith),
-      rw n (omega (arith, m .gates-few)),
-    )
-
-tau-of-requires : tie.Need-tau-of-requires
-tau-of-requires c κs =
-    let s = c .before .before .before .before .before .before .before in
-    let m = room (s .pre) in (
-      (m .entries, m .outputs),
-      (m .tests-are, m .tests-few, rw (c .before .before .before .mul .ensures) (mod-lt _ (lit< tt)), s .pre .s-below),
-    )
-
-mul-sub : tie.Need-mul-sub
-mul-sub c =
-    let s = c .before .before .before .before .before .before .before .before in
-    let m = room (s .pre) in
-    record { fits = omega (arith, m .entries-few, m .gates-few) }
-
-shared-slice-read-sub : tie.Need-shared-slice-read-sub
-shared-slice-read-sub c =
-    let s = c .before .before .before .before .before .before .before .before .before in
-    let m = room (s .pre) in
-    omega (arith, m .long)
-
-sub-requires : tie.Need-sub-requires
-sub-requires c κs =
-    let s = c .before .before .before .before .before .before .before .before .before in
-    let m = room (s .pre) in
-    let i = c .before .before .before .before .inputs-at .ensures in
-    (rw (ap (λ (u : Inputs). u .f) i) (interpolate-below _ _ _), member-below _ _ (s .pre .elements))
-
-mul-requires-2 : tie.Need-mul-requires-2
-mul-requires-2 c κs =
-    let s = c .before .before .before .before .before .before .before .before .before .before in
-    let m = room (s .pre) in
-    let i = c .before .before .before .before .before .inputs-at .ensures in
-    (s .pre .r-below, rw (ap (λ (u : Inputs). u .g) i) (interpolate-below _ _ _))
-
-add-sub : tie.Need-add-sub
-add-sub c =
+judge-with-requires : tie.Need-judge-with-requires
+judge-with-requires c κs =
     let s = c .before .before .before .before .before .before .before .before .before .before .before in
-    let m = room (s .pre) in
-    omega (arith, m .entries-few, m .gates-few)
-
-mul-sub-2 : tie.Need-mul-sub-2
-mul-sub-2 c =
-    let s = c .before .before .before .before .before .before .before .before .before .before .before in
-    let m = room (s .pre) in
-    record { fits = omega (arith, m .entries-few, m .gates-few) }
-
-shared-slice-read-sub-2 : tie.Need-shared-slice-read-sub-2
-shared-slice-read-sub-2 c =
-    let s = c .before .before .before .before .before .before .before .before .before .before .before .before in
-    let m = room (s .pre) in
-    omega (arith, m .long)
-
-sub-requires-2 : tie.Need-sub-requires-2
-sub-requires-2 c κs =
-    let s = c .before .before .before .before .before .before .before .before .before .before .before .before in
-    let m = room (s .pre) in
-    (rw (c .before .mul2 .ensures) (mod-lt _ (lit< tt)), member-below _ _ (s .pre .elements))
-
-mul-requires-3 : tie.Need-mul-requires-3
-mul-requires-3 c κs =
-    let s = c .before .before .before .before .before .before .before .before .before .before .before .before .before in
-    let m = room (s .pre) in
-    let h = c .before .before .before .before .before .before .interpolated .ensures in
-    (s .pre .r-below, rw h (interpolate-below _ _ _))
+    let g = room (s .pre) .gates-few in
+    let w = c .before .before .before .before .fill-two in
+    let l = length-take-le _ _ (few g) in
+    let k = length-take-le _ _ (more g) in
+    let single = w .kept .0 ∙ l in
+    let double = w .kept .1 .0 ∙ k in
+    rw (take-at _ _ _ single, take-at _ _ _ double)
+    (s .pre, (w .ensures .0 ∙ weights-to (omega (arith, l)), w .ensures .1 ∙ weights-to (omega (arith, k))))
 
 returns : tie.Need-returns
-returns c =
-    let s = c .before .before .before .before .before .before .before .before .before .before .before .before .before .before in
-    let m = room (s .pre) in
-    let a = s .args in
-    let cs = columnsOf (a .sheet .now) in
-    let k = firstOnly residues (a .own) in
-    let xs = a .x .now in
-    let i = c .before .before .before .before .before .before .before .before .before .inputs-at .ensures in
-    let one = c .before .before .before .before .before .before .before .before .before .before .before .first-only .ensures in
-    let factor = c .before .before .before .before .before .before .before .before .before .before .mul .ensures in
-    let ec = factor ∙ ap (λ (t : ℕ). residues ._⊗_ t 2147483646) one in
-    let n = part-length xs (a .counts .entries) (a .counts .gates) (omega (arith, m .long)) in
-    let h = c .before .before .before .before .before .before .before .interpolated .ensures in
-    let tau = c .before .before .before .before .before .before .tau-of .ensures in
-    whole
-    (d-from cs k xs _ _ _ (m .entries-are) (m .gates-are) ec (a .r) _ _ (ap (λ (u : Inputs). u .f) i)
-    (c .before .before .before .before .sub .ensures))
-    (e-from cs k xs _ _ _ (m .entries-are) (m .gates-are) ec (a .r) _ _ _ (ap (λ (u : Inputs). u .g) i)
-    (c .before .before .before .mul2 .ensures) (c .before .sub2 .ensures))
-    (h-from cs k xs _ _ _ (m .entries-are) (m .gates-are) ec (a .r) _ _ _ refl n h (c .mul3 .ensures))
-    (tau-from cs k xs _ _ _ (m .entries-are) (m .gates-are) ec (a .s) _ tau)
+returns c = search needs
 
 pub judge-spec : {M : Type 1} → statement M
 judge-spec =
     tie.close
     (tie.spec
-    first-only-requires
-    sub-mul
-    mul-requires
-    inputs-at-requires
-    add-first
-    add-last
-    add-last-2
-    add-last-3
-    mul-interpolated
-    sub-interpolated
-    part-interpolated-start
-    part-interpolated-end
-    interpolated-requires
-    tau-of-requires
-    mul-sub
-    shared-slice-read-sub
-    sub-requires
-    mul-requires-2
-    add-sub
-    mul-sub-2
-    shared-slice-read-sub-2
-    sub-requires-2
-    mul-requires-3
+    add-points
+    add-twice
+    array-borrow-prefix-single
+    slice-aggregate-fill-two
+    array-borrow-prefix-double
+    slice-aggregate-fill-two-2
+    fill-two-requires
+    array-share-prefix-single
+    slice-aggregate-judge-with
+    array-share-prefix-double
+    slice-aggregate-judge-with-2
+    judge-with-requires
     returns)

@@ -17,7 +17,8 @@ use Rattle.client.proofs.write_return.Statement.{statement}
 use Rattle.client.proofs.write_return.Tie as tie
 
 -- the size is that of the sheet's shares, and fits the array
-size-is : (c : tie.After-share-size) → c .share-size .result ≡ shareSize (columnsOf (c .before .before .before .before .before .args .sheet .now))
+size-is : (c : tie.After-share-size)
+    → c .share-size .result ≡ shareSize (columnsOf (c .before .before .before .before .before .args .sheet .now))
 size-is c = sized (c .before .before .before .before .before .pre) (c .share-size .result) (c .share-size .ensures)
 
 small : (c : tie.After-share-size) → c .share-size .result ≤ 774

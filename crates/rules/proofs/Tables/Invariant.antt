@@ -208,7 +208,8 @@ module _ (σ : Setting) (facts : Facts σ) where
       beside-known =
           ap (tableState σ) (b .is) ∙ known-is σ (o .columns) (b .parts) (b .sized)
           ∙ λ i. record {
-            opened = record { servers = b .opened-as .servers-are i; own = b .opened-as .own-is i; columns = o .columns; returns = b .opened-as .returns-are i };
+            opened = let h = b .opened-as in
+                record { servers = h .servers-are i; own = h .own-is i; columns = o .columns; returns = h .returns-are i };
             stage = staged-told (l .progress) (b .parts .stage) (b .parts .wait) (b .staged) i;
             used = b .tells .used-are i;
             accepted = b .tells .accepted-is i;

@@ -49,7 +49,8 @@ unfoldable pub assemble : Setting → Parts → List ℕ
 assemble σ g = header σ g ++ body g
 
 -- the parts have the lengths of the layout, and the counts fit their bytes
-pub record SizedAs (σ : Setting) (cs : List Column) (sheet : List ℕ) (returns decided accepted : ℕ) (totals ids wait : List ℕ) : Type 0 where
+pub record SizedAs (σ : Setting) (cs : List Column) (sheet : List ℕ) (returns decided accepted : ℕ)
+    (totals ids wait : List ℕ) : Type 0 where
   pub reads : readSheet sheet ≡ ok cs
   pub totals-long : length totals ≡ σ .width * publishedIn cs
   pub ids-long : length ids ≡ 4 * returns

@@ -56,7 +56,8 @@ module _ (σ : Setting) (facts : Facts σ) (o : Opened) (sheet : List ℕ) (open
     below : allBelow (σ .modulus) (shareElements σ m) ≡ true
     pair : allowedPair σ (o .columns) r s ≡ true
 
-  share-sound : (ds : List Decided) (m : List ℕ) (r s room : ℕ) → shareRefusal σ (ledgerState σ o (at isIdle ds)) m r s room ≡ 0 → Sound ds m r s
+  share-sound : (ds : List Decided) (m : List ℕ) (r s room : ℕ)
+      → shareRefusal σ (ledgerState σ o (at isIdle ds)) m r s room ≡ 0 → Sound ds m r s
   unfolding shareRefusal whileIdle ledgerState ledgerStage headerFault elementsFault
   share-sound ds m r s room e =
       let ids = idsOf (notesOf ds) in
@@ -93,7 +94,8 @@ module _ (σ : Setting) (facts : Facts σ) (o : Opened) (sheet : List ℕ) (open
         through : (f : ServerState → ℕ) → orElse (tableFault σ T) (f (tableState σ T)) ≡ f (ledgerState σ o l)
         through f = ap₂ orElse (beside-sound σ facts o sheet open-facts T l b) (ap f same-known) ∙ or-none _
     refusal-same (roundOne joined room) =
-        ap₂ orElse (beside-sound σ facts o sheet open-facts T l b) (ap (λ (k : ServerState). oneRefusal σ k joined room) same-known) ∙ or-none _
+        ap₂ orElse (beside-sound σ facts o sheet open-facts T l b) (ap (λ (k : ServerState). oneRefusal σ k joined room) same-known)
+        ∙ or-none _
     refusal-same (roundTwo joined) =
         ap₂ orElse (beside-sound σ facts o sheet open-facts T l b) (ap (λ (k : ServerState). twoRefusal σ k joined) same-known) ∙ or-none _
     refusal-same drop = ap₂ orElse (beside-sound σ facts o sheet open-facts T l b) (ap dropRefusal same-known) ∙ or-none _
@@ -149,7 +151,8 @@ module _ (σ : Setting) (facts : Facts σ) (o : Opened) (sheet : List ℕ) (open
 
   take-one : (T : List ℕ) (q : Progress) (ds : List Decided) (b : Beside σ o sheet T (at q ds)) (joined : List ℕ) (room : ℕ)
       → refusalOf σ o (at q ds) (roundOne joined room) ≡ 0 → Taken T (at q ds) (roundOne joined room)
-  unfolding refusalOf oneRefusal whileOne ledgerState ledgerStage tableAnswer tableAfter answerOf ledgerAfter sumsNoted ledgerMessage oneBytes summed
+  unfolding refusalOf oneRefusal whileOne ledgerState ledgerStage tableAnswer tableAfter answerOf ledgerAfter sumsNoted ledgerMessage
+      oneBytes summed
   take-one T isIdle ds b joined room e = no-eleven e
   take-one T (waitsOne n) ds b joined room e = record {
     answers =
@@ -219,7 +222,8 @@ module _ (σ : Setting) (facts : Facts σ) (o : Opened) (sheet : List ℕ) (open
 
   take-close : (T : List ℕ) (q : Progress) (ds : List Decided) (b : Beside σ o sheet T (at q ds)) (room : ℕ)
       → refusalOf σ o (at q ds) (close room) ≡ 0 → Taken T (at q ds) (close room)
-  unfolding refusalOf closeRefusal whileIdle tableState ledgerState ledgerStage tableAnswer tableAfter answerOf ledgerAfter closeBytes closingMessage
+  unfolding refusalOf closeRefusal whileIdle tableState ledgerState ledgerStage tableAnswer tableAfter answerOf ledgerAfter closeBytes
+      closingMessage
   take-close T isIdle ds b room e = record {
     answers = ap (λ (k : ServerState). wrote (totalsMessage σ (k .opened) (k .accepted) (k .totals))) (same-known T (at isIdle ds) b);
     after = close-after T ds b;

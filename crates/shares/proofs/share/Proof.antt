@@ -82,7 +82,8 @@ take-requires c κs =
     let u = known q in
     let a = entry u .args in
     let t =
-    takable (a .table .now) (a .m .now) (a .r) (a .s) (a .out .now) _ (sound-table u) (x .result) (x .ensures) (c .before .before .if1 .left) _
+    takable (a .table .now) (a .m .now) (a .r) (a .s) (a .out .now) _ (sound-table u)
+    (x .result) (x .ensures) (c .before .before .if1 .left) _
     (rw (p .before .share-size .ensures) at (p .share-part .ensures)) in
     t
 

@@ -47,7 +47,8 @@ returns c =
     let x = c .before in
     let k = given x .args .k in
     let r = x .returns-refusal in
-    counts-unfit k (bytes x) (fits-not (bytes x) k (given x .pre) _ (x .before .sheet-part .ensures) (r .result) (r .ensures) (c .if1 .taken))
+    counts-unfit k (bytes x)
+    (fits-not (bytes x) k (given x .pre) _ (x .before .sheet-part .ensures) (r .result) (r .ensures) (c .if1 .taken))
 
 length-requires : tie.Need-length-requires
 length-requires c κs = search needs

@@ -1,10 +1,11 @@
 -- `layout::writing::clear` meets its contract. The loop's invariant: the first i bytes are cleared (`clear-next`); the
 -- measure is what is left of them. Assumes nothing.
-use mathlib.Core.Path.{_≡_, refl}
-use Prim.Native.Nat.{_≤_, _-_}
+use mathlib.Core.Path.{_≡_, refl, ap, _∙_}
+use mathlib.Core.List.{List}
+use Prim.Native.Nat.{ℕ, _+_, _≤_, _-_}
 use native.Mathlib.Omega.{arith}
 use borrow.Author.Needs.{needs}
-use lib.ListN.{length, take, replicate, length-set}
+use lib.ListN.{length, set, take, replicate, length-set}
 use Rattle.words.specs.Bytes.{splice}
 use Rattle.words.proofs.Loops.{copy-none}
 use Rattle.layout.proofs.Pieces.{clear-next, clear-all}
@@ -37,7 +38,8 @@ loop-again c =
     let l = c .before in
     let a = l .before in (
       search needs,
-      cc (clear-next (a .args .t .now) (a .args .at) (a .args .n) (l .loop .i) (a .pre) (c .loop-test .taken)),
+      ap (λ (s : List ℕ). set s (a .args .at + l .loop .i) 0) (l .loop .inv .1)
+          ∙ clear-next (a .args .t .now) (a .args .at) (a .args .n) (l .loop .i) (a .pre) (c .loop-test .taken),
       simp length-set (omega arith),
     )
 

@@ -11,3 +11,5 @@ pub mod Decided
 pub mod Run
 pub mod Opens
 pub mod Erased
+pub mod Greatest
+pub mod RoomTold

@@ -64,6 +64,17 @@ columnSteps σ e w (number n) =
     ++ ((scale w (σ .modulus - 1) ∷ [])
     ++ (bitAdds n (suc w) (suc w + 3 * n) ++ (test (suc w + 3 * n + 2 * n) ∷ []))))
 
+-- the additions and the products with a constant among a column's steps: in the bit checks, then in the sum
+unfoldable pub addsOf : Column → ℕ
+addsOf yesNo = 1
+addsOf (choice n) = n + n
+addsOf (number n) = n + n
+
+unfoldable pub scalesOf : Column → ℕ
+scalesOf yesNo = 0
+scalesOf (choice n) = 0
+scalesOf (number n) = suc n
+
 -- the wires, multiplications and tests of a column's steps
 unfoldable pub wiresOf : Column → ℕ
 wiresOf yesNo = 3
@@ -100,3 +111,12 @@ gatesIn (c ∷ cs) = gatesOf c + gatesIn cs
 unfoldable pub testsIn : List Column → ℕ
 testsIn [] = 0
 testsIn (c ∷ cs) = testsOf c + testsIn cs
+
+-- and its additions and products with a constant
+unfoldable pub addsIn : List Column → ℕ
+addsIn [] = 0
+addsIn (c ∷ cs) = addsOf c + addsIn cs
+
+unfoldable pub scalesIn : List Column → ℕ
+scalesIn [] = 0
+scalesIn (c ∷ cs) = scalesOf c + scalesIn cs

@@ -3,7 +3,7 @@
 use mathlib.Core.Bool.{Bool, cond, _&&_, not}
 use mathlib.Core.List.{List, [], _∷_, _++_, map}
 use mathlib.Core.Option.{Option, some, none}
-use Prim.Native.Nat.{ℕ, zero, suc, _+_, _-_, _*_, _^_, _≤_}
+use Prim.Native.Nat.{ℕ, zero, suc, _+_, _-_, _*_, _^_, _≤_, max}
 use lib.Dec.{leb, ltb, eqb}
 use lib.ListN.{getD}
 use Rattle.algebra.specs.Lists.{every, tabulate, countFrom}
@@ -70,6 +70,11 @@ unfoldable pub publishedIn : List Column → ℕ
 publishedIn [] = 0
 publishedIn (c ∷ cs) = publishedOf c + publishedIn cs
 
+-- the largest value of all its columns
+unfoldable pub largestIn : List Column → ℕ
+largestIn [] = 0
+largestIn (c ∷ cs) = max (largestOf c) (largestIn cs)
+
 -- the numbers of the published entries, in entry order, where e entries stand before the columns
 unfoldable pub publishedFrom : ℕ → List Column → List ℕ
 publishedFrom e [] = []
@@ -114,8 +119,11 @@ totalsFit σ n cs = every (λ c. ltb (n * largestOf c) (σ .modulus)) cs
 abbrev pub serversFit : ℕ → Bool
 serversFit servers = within 2 8 servers
 
+abbrev pub mostReturns : ℕ
+mostReturns = 1024
+
 abbrev pub returnsFit : ℕ → Bool
-returnsFit n = within 1 1024 n
+returnsFit n = within 1 mostReturns n
 
 abbrev pub serversFault : ℕ → ℕ
 serversFault servers = check (serversFit servers) 2

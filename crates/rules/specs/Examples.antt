@@ -20,6 +20,7 @@ use Rattle.rules.specs.Making.{madeWhole, madeShare, shareLength, shareM
 use Rattle.rules.specs.Table.{openRefusal, openBytes, shareRefused}
 use Rattle.rules.specs.Joining.{joinRefusal}
 use Rattle.rules.specs.Recount.{recountText}
+use Rattle.rules.specs.Sizes.{sizesOf, circuitSize}
 
 pub record Row : Type 0 where
   pub shows : String
@@ -215,6 +216,31 @@ circuits =
     ∷ row "no test, and then byte 99: 1, the total limits last" (eqb (circuitFault σ 1 (circuitBytes σ (sized 2 1 0) ++ (99 ∷ []))) 1)
     ∷ row "the largest circuit of a sheet: 1,248 wires" (eqb (suc (wiresIn (columnsOf largest))) 1248)
     ∷ row "7,008 bytes" (eqb (length (circuitBytes σ (circuitOf σ (columnsOf largest)))) 7008)
+    ∷ []
+
+-- what a sheet comes to: columns, entries, published entries, wires, multiplications, tests, circuit bytes, share message
+-- bytes, the greatest N
+abbrev weight : List ℕ → List ℕ
+weight s =
+    let z = sizesOf σ s in
+    z .columns ∷ z .entries ∷ z .published ∷ z .wires ∷ z .multiplications ∷ z .tests ∷ z .circuitBytes ∷ z .shareBytes
+    ∷ z .greatestReturns ∷ []
+
+abbrev greatest : List ℕ → ℕ
+greatest s = sizesOf σ s .greatestReturns
+
+-- Room told from the sheet, and the greatest N on both sides
+unfoldable pub sizes : List Row
+sizes =
+    row "sheet 17: 4 wires, 21 bytes, 42 in a share message" (same (weight (17 ∷ [])) (1 ∷ 1 ∷ 1 ∷ 4 ∷ 1 ∷ 1 ∷ 21 ∷ 42 ∷ 1024 ∷ []))
+    ∷ row "one column of each kind" (same (weight allKinds) (3 ∷ 7 ∷ 5 ∷ 28 ∷ 6 ∷ 8 ∷ 156 ∷ 106 ∷ 1024 ∷ []))
+    ∷ row "the largest circuit of a sheet, by the table of body lengths" (eqb (circuitSize σ (columnsOf largest)) 7008)
+    ∷ row "b = 24: 128" (eqb (greatest (19 ∷ 24 ∷ [])) 128)
+    ∷ row "b = 22: 512 opens, 513 is refused 4"
+    (eqb (greatest (19 ∷ 22 ∷ [])) 512 && (eqb (toOpen (19 ∷ 22 ∷ []) 512) 0 && eqb (toOpen (19 ∷ 22 ∷ []) 513) 4))
+    ∷ row "b = 21: 1,024 opens, 1,025 is refused 2"
+    (eqb (greatest (19 ∷ 21 ∷ [])) 1024 && (eqb (toOpen (19 ∷ 21 ∷ []) 1024) 0 && eqb (toOpen (19 ∷ 21 ∷ []) 1025) 2))
+    ∷ row "the largest value of all columns decides" (eqb (greatest (19 ∷ 22 ∷ 17 ∷ 19 ∷ 23 ∷ 18 ∷ 3 ∷ [])) 256)
     ∷ []
 
 -- a share of sheet 18 2 whose elements are 10, 20, 30, ..: h(1) = 60, h(2) = 70 and, at server 0, 10 + 20 - 1 are tested

@@ -3,7 +3,7 @@
 -- Assumes nothing.
 use mathlib.Core.Path.{_≡_, refl, _∙_, ap}
 use mathlib.Core.List.{List, [], _∷_, _++_}
-use Prim.Native.Nat.{ℕ, zero, suc, _+_, _*_, _≤_}
+use Prim.Native.Nat.{ℕ, zero, suc, _+_, _-_, _*_, _≤_}
 use native.Mathlib.Nat.{mul-le-mul-right}
 use native.Mathlib.Omega.{arith}
 use lib.ListN.{length, length-append}
@@ -14,6 +14,8 @@ use Rattle.rules.specs.Settings.{Setting, Facts}
 use Rattle.rules.specs.Columns.{Column, yesNo, choice, number, entriesOf, entriesIn, readSheet}
 use Rattle.rules.specs.Circuit.{Step, constant, entry, add, scale, multiply, test, stepBytes, circuitBytes, bitCheck}
 use Rattle.rules.specs.Circuit.{bitChecks, optionAdds, bitAdds, columnSteps, wiresOf, circuitFrom, circuitOf}
+use Rattle.rules.specs.Circuit.{addsOf, scalesOf, gatesOf, testsOf, addsIn, scalesIn, gatesIn, testsIn}
+use Rattle.rules.specs.Sizes.{weighed, columnSize, circuitSize}
 use Rattle.rules.proofs.Circuits.Limits.{InLimits, limits, numbersIn}
 
 module _ (σ : Setting) where
@@ -65,21 +67,29 @@ module _ (σ : Setting) where
   weights-size zero w q = size-none ∙ omega arith
   weights-size (suc n) w q = simp (size-append, size-next, size-none, weights-size n w q) (omega arith)
 
-  columnSize : Column → ℕ
-  columnSize yesNo = 16
-  columnSize (choice n) = 21 * n + 3
-  columnSize (number n) = (24 + σ .width) * n + 9 + σ .width
-
-  column-size : (c : Column) (e w : ℕ) → size (columnSteps σ e w c) ≡ columnSize c
-  unfolding columnSteps stepSize columnSize
-  column-size yesNo e w = bits-size 1 e w
+  -- a column's steps have the bytes that the table of body lengths tells
+  pub column-size : (c : Column) (e w : ℕ) → size (columnSteps σ e w c) ≡ columnSize σ c
+  unfolding columnSteps stepSize columnSize weighed entriesOf addsOf scalesOf gatesOf testsOf
+  column-size yesNo e w = bits-size 1 e w ∙ omega arith
   column-size (choice n) e w = simp (size-append, size-next, size-none, bits-size, options-size) (omega arith)
   column-size (number n) e w = simp (size-append, size-next, size-none, bits-size, weights-size) (omega arith)
+
+  from-size : (cs : List Column) (e w : ℕ) → size (circuitFrom σ e w cs) + suc (σ .width) ≡ circuitSize σ cs
+  unfolding circuitFrom circuitSize columnSize weighed entriesIn addsIn scalesIn gatesIn testsIn
+  from-size [] e w = rw size-none (omega arith)
+  from-size (c ∷ cs) e w =
+      let r = from-size cs (e + entriesOf c) (w + wiresOf c) in
+      rw (size-append, column-size) (omega arith)
+
+  -- and so has a sheet's circuit
+  pub circuit-size-is : (cs : List Column) → size (circuitOf σ cs) ≡ circuitSize σ cs
+  unfolding circuitOf stepSize
+  circuit-size-is cs = size-next (constant (σ .modulus - 1)) (circuitFrom σ 0 1 cs) ∙ omega (arith, from-size cs 0 1)
 
   -- the two bounds, of which the second is for elements of 4 bytes
   sheet-size : (cs : List Column) → All InLimits cs → (e w : ℕ)
       → size (circuitFrom σ e w cs) + 15 * numbersIn cs ≤ entriesIn cs * (24 + σ .width)
-  unfolding circuitFrom columnSize entriesIn entriesOf numbersIn
+  unfolding circuitFrom columnSize weighed entriesIn entriesOf addsOf scalesOf gatesOf testsOf numbersIn
   sheet-size [] all[] e w = rw size-none (omega arith)
   sheet-size (yesNo ∷ cs) (all∷ h hs) e w =
       let r = sheet-size cs hs (e + 1) (w + wiresOf yesNo) in
@@ -93,7 +103,7 @@ module _ (σ : Setting) where
 
   sheet-size' : σ .width ≡ 4 → (cs : List Column) → All InLimits cs → (e w : ℕ)
       → 2 * size (circuitFrom σ e w cs) ≤ 45 * entriesIn cs + 245 * numbersIn cs
-  unfolding circuitFrom columnSize entriesIn entriesOf numbersIn
+  unfolding circuitFrom columnSize weighed entriesIn entriesOf addsOf scalesOf gatesOf testsOf numbersIn
   sheet-size' four [] all[] e w = rw size-none (omega arith)
   sheet-size' four (yesNo ∷ cs) (all∷ h hs) e w =
       let r = sheet-size' four cs hs (e + 1) (w + wiresOf yesNo) in

@@ -30,6 +30,9 @@ use Rattle.rules.specs.Server.{totalsMessage, totalsLength, whileIdle, w
 use Rattle.rules.specs.Server.{shareRefusal, oneRefusal, twoRefusal, dropRefusal, closeRefusal}
 use Rattle.rules.specs.Table.{totalsPlace, idsPlace, waitPlace, sharePlace, tableLength, stageIn, tableState}
 use Rattle.rules.specs.Table.{headerSound, countsSound, waitingSound, tableSound, tableFault, openLength}
+use Rattle.rules.specs.Sizes.{greatestUpTo, sizesOf, weighed, columnSize, circuitSize}
+use Rattle.rules.specs.Columns.{largestIn}
+use Rattle.rules.specs.Circuit.{addsOf, scalesOf, addsIn, scalesIn}
 use Rattle.rules.specs.Table.{openRefusal, openBytes, shareRefused, shareTable, shareBytes, oneRefused, oneTable}
 use Rattle.rules.specs.Table.{oneBytes, decidedTable, addedTotals, twoRefused, twoVerdict, twoTable, dropRefused}
 use Rattle.rules.specs.Table.{dropTable, closeRefused, closeTable, closeBytes}
@@ -118,7 +121,8 @@ unfolding ledgerAnswers tableRefusal tableAfter tableAnswer runTable tableAnswer
 part18 = tt
 
 unfoldable pub part19 : Unit {0}
-unfolding closingsFrom firstsFrom secondsFrom
+unfolding closingsFrom firstsFrom secondsFrom largestIn addsOf scalesOf addsIn scalesIn greatestUpTo sizesOf weighed
+    columnSize circuitSize
 part19 = tt
 
 unfoldable pub everything : Unit {0}

@@ -2,7 +2,7 @@
 use mathlib.Core.Bool.{true}
 use mathlib.Core.Path.{_≡_, refl}
 use Rattle.algebra.specs.Lists.{every}
-use Rattle.rules.specs.Examples.{marked, unmarked, circuits, taus}
+use Rattle.rules.specs.Examples.{marked, unmarked, circuits, sizes, taus}
 use Rattle.rules.proofs.Computed.Computing.{everything}
 
 pub marked-hold : every (λ row. row .holds) marked ≡ true
@@ -16,6 +16,10 @@ unmarked-hold = refl
 pub circuits-hold : every (λ row. row .holds) circuits ≡ true
 unfolding everything circuits
 circuits-hold = refl
+
+pub sizes-hold : every (λ row. row .holds) sizes ≡ true
+unfolding everything sizes
+sizes-hold = refl
 
 pub taus-hold : every (λ row. row .holds) taus ≡ true
 unfolding everything taus

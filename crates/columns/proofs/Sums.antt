@@ -1,14 +1,14 @@
--- Counts that a sheet's columns add up to: entries, published entries, multiplications, tests. Each is a sum over the
--- columns, so each law of such sums is said once, for any of them. Assumes nothing.
+-- Counts that a sheet's columns add up to: entries, published entries, steps of each kind. Each is a sum over the columns, so
+-- each law of such sums is said once, for any of them; the largest value is a maximum instead. Assumes nothing.
 use mathlib.Core.Path.{_≡_, refl, sym, ap, _∙_}
 use mathlib.Core.List.{List, [], _∷_, _++_}
-use Prim.Native.Nat.{ℕ, _+_, _≤_, _<_}
+use Prim.Native.Nat.{ℕ, _+_, _≤_, _<_, max}
 use native.Mathlib.Numerals.{add-one}
 use native.Mathlib.Omega.{arith}
 use lib.ListN.{length, getD, take, drop, take-append-drop}
 use lib.Seq.{take-suc}
-use Rattle.rules.specs.Columns.{Column, yesNo, entriesOf, publishedOf, entriesIn, publishedIn}
-use Rattle.rules.specs.Circuit.{gatesOf, testsOf, gatesIn, testsIn}
+use Rattle.rules.specs.Columns.{Column, yesNo, entriesOf, publishedOf, largestOf, entriesIn, publishedIn, largestIn}
+use Rattle.rules.specs.Circuit.{addsOf, scalesOf, gatesOf, testsOf, addsIn, scalesIn, gatesIn, testsIn}
 
 -- `In` adds up `of` over the columns
 pub record Total (of : Column → ℕ) (In : List Column → ℕ) : Type 0 where
@@ -22,6 +22,14 @@ entries = record { nothing = refl; next = λ c cs. refl }
 pub published : Total publishedOf publishedIn
 unfolding publishedIn
 published = record { nothing = refl; next = λ c cs. refl }
+
+pub adds : Total addsOf addsIn
+unfolding addsIn
+adds = record { nothing = refl; next = λ c cs. refl }
+
+pub scales : Total scalesOf scalesIn
+unfolding scalesIn
+scales = record { nothing = refl; next = λ c cs. refl }
 
 pub gates : Total gatesOf gatesIn
 unfolding gatesIn
@@ -51,3 +59,13 @@ module _ {of : Column → ℕ} {In : List Column → ℕ} (t : Total of In) wher
       let e : In cs ≡ In (take (k + 1) cs) + In (drop (k + 1) cs)
       = ap In (sym (take-append-drop (k + 1) cs)) ∙ total-append (take (k + 1) cs) (drop (k + 1) cs) in
       omega (arith, e, total-next cs k h)
+
+-- ---- the largest value
+pub largest-append : (a b : List Column) → largestIn (a ++ b) ≡ max (largestIn a) (largestIn b)
+unfolding largestIn
+largest-append [] b = omega arith
+largest-append (c ∷ a) b = omega (arith, largest-append a b)
+
+pub largest-one : (c : Column) → largestIn (c ∷ []) ≡ largestOf c
+unfolding largestIn
+largest-one c = omega arith

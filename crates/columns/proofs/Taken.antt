@@ -3,58 +3,94 @@
 use mathlib.Core.Path.{_≡_, refl, sym, ap, _∙_, subst}
 use mathlib.Core.Bool.{Bool, true, false, cond}
 use mathlib.Core.List.{List, [], _∷_}
-use Prim.Native.Nat.{ℕ, _+_, _^_, _≤_}
+use Prim.Native.Nat.{ℕ, _^_, _≤_}
 use native.Mathlib.Nat.{pow-le-pow-right}
-use native.Mathlib.Numerals.{add-one}
 use native.Mathlib.Omega.{arith}
 use lib.Dec.{eqb}
 use lib.ListN.{getD}
 use Rattle.records.specs.Outcome.{Outcome, ok, refused}
 use Rattle.rules.specs.Columns.{Column, yesNo, choice, number, within, limitedColumn, columnOf}
-use Rattle.rules.specs.Columns.{entriesOf, publishedOf, entriesIn, publishedIn, largestOf}
-use Rattle.rules.specs.Circuit.{gatesOf, testsOf, gatesIn, testsIn}
+use Rattle.algebra.specs.Lists.{All, all[], all∷}
+use Rattle.rules.specs.Columns.{entriesOf, publishedOf, largestOf, entriesIn, publishedIn, largestIn}
+use Rattle.rules.specs.Circuit.{addsOf, scalesOf, gatesOf, testsOf, addsIn, scalesIn, gatesIn, testsIn}
 use Rattle.rules.proofs.Circuits.Limits.{InLimits, within-both}
 use Rattle.columns.specs.declared.Column as code
 use Rattle.columns.specs.declared.Column.the-variants as kind
 use Rattle.columns.specs.declared.Judged.the-variants as answer
-use Rattle.columns.specs.Counting.{countsOf, oneColumn, Small}
+use Rattle.columns.specs.declared.Counts.{Counts}
+use Rattle.columns.specs.Counting.{countsOf, Small}
 use Rattle.columns.specs.Kinds.{toCode, fromCode, judgedOf, columnIn}
 use Rattle.columns.proofs.ColumnBytes.{from-to-code}
-use Rattle.columns.proofs.Sums.{entries, published, gates, tests, total-one}
+use Rattle.columns.proofs.Sums.{entries, published, adds, scales, gates, tests, total-one, largest-one}
 
 -- ---- what one column comes to
-pub counts-choice : (n : ℕ) → countsOf (choice n ∷ []) ≡ oneColumn n n n (n + 1)
-unfolding entriesOf publishedOf gatesOf testsOf
-counts-choice n =
+pub counts-one : (c : Column)
+    → countsOf (c ∷ [])
+    ≡ record {
+      columns = 1;
+      entries = entriesOf c;
+      published = publishedOf c;
+      adds = addsOf c;
+      scales = scalesOf c;
+      gates = gatesOf c;
+      tests = testsOf c;
+      largest = largestOf c;
+    }
+counts-one c =
     rw (
-      total-one entries (choice n),
-      total-one published (choice n),
-      total-one gates (choice n),
-      total-one tests (choice n),
+      total-one entries c,
+      total-one published c,
+      total-one adds c,
+      total-one scales c,
+      total-one gates c,
+      total-one tests c,
+      largest-one c,
     )
-
-pub counts-number : (n : ℕ) → countsOf (number n ∷ []) ≡ oneColumn (n + 1) 1 n (n + 1)
-unfolding entriesOf publishedOf gatesOf testsOf
-counts-number n =
-    rw (
-      total-one entries (number n),
-      total-one published (number n),
-      total-one gates (number n),
-      total-one tests (number n),
-      add-one,
-    )
-
-pub column-small : (a : Column) → InLimits a → Small 64 (countsOf (a ∷ []))
-unfolding entriesOf publishedOf gatesOf testsOf entriesIn publishedIn gatesIn testsIn
-column-small yesNo h = search arith
-column-small (choice n) h = search arith
-column-small (number n) h = search arith
 
 pub largest-most : (a : Column) → InLimits a → largestOf a ≤ 16777215
 unfolding largestOf
 largest-most yesNo h = omega arith
 largest-most (choice n) h = omega arith
 largest-most (number n) h = let p : 2 ^ n ≤ 2 ^ 24 = pow-le-pow-right (omega arith) (h .1) in omega arith
+
+pub column-small : (a : Column) → InLimits a → Small 64 (countsOf (a ∷ []))
+unfolding entriesOf publishedOf addsOf scalesOf gatesOf testsOf
+column-small yesNo h = rw (counts-one yesNo) (let l = largest-most yesNo h in search arith)
+column-small (choice n) h = rw (counts-one (choice n)) (let l = largest-most (choice n) h in search arith)
+column-small (number n) h = rw (counts-one (number n)) (let l = largest-most (number n) h in search arith)
+
+-- and what columns come to
+columns-bounded : (cs : List Column) → All InLimits cs → Small (entriesIn cs) (countsOf cs)
+unfolding entriesIn publishedIn addsIn scalesIn gatesIn testsIn largestIn
+columns-bounded [] all[] = search arith
+columns-bounded (c ∷ cs) (all∷ h hs) =
+    let one = rw (counts-one c) at (column-small c h) in
+    let rest = columns-bounded cs hs in
+    record {
+      entries-most = omega arith;
+      columns-most = omega (arith, one .columns-most, rest .columns-most);
+      published-most = omega (arith, one .published-most, rest .published-most);
+      adds-most = omega (arith, one .adds-most, rest .adds-most);
+      scales-most = omega (arith, one .scales-most, rest .scales-most);
+      gates-most = omega (arith, one .gates-most, rest .gates-most);
+      tests-most = omega (arith, one .tests-most, rest .tests-most);
+      largest-most = omega (arith, one .largest-most, rest .largest-most);
+    }
+
+pub small-more : {a b : ℕ} {c : Counts} → a ≤ b → Small a c → Small b c
+small-more l h = record {
+  entries-most = omega (arith, h .entries-most);
+  columns-most = h .columns-most;
+  published-most = h .published-most;
+  adds-most = h .adds-most;
+  scales-most = h .scales-most;
+  gates-most = h .gates-most;
+  tests-most = h .tests-most;
+  largest-most = h .largest-most;
+}
+
+pub columns-small : (e : ℕ) (cs : List Column) → All InLimits cs → entriesIn cs ≤ e → Small e (countsOf cs)
+columns-small e cs h l = small-more l (columns-bounded cs h)
 
 -- ---- what a record says
 -- a column within its limits, or refusal 2

@@ -3,8 +3,8 @@
 use mathlib.Core.List.{List}
 use Prim.Native.Nat.{ℕ, _*_, _≤_}
 use lib.ListN.{length}
-use Rattle.rules.specs.Columns.{Column, entriesIn, publishedIn}
-use Rattle.rules.specs.Circuit.{gatesIn, testsIn}
+use Rattle.rules.specs.Columns.{Column, entriesIn, publishedIn, largestIn}
+use Rattle.rules.specs.Circuit.{addsIn, scalesIn, gatesIn, testsIn}
 use Rattle.columns.specs.declared.Counts.{Counts}
 
 abbrev pub countsOf : List Column → Counts
@@ -13,18 +13,20 @@ countsOf cs =
       columns = length cs;
       entries = entriesIn cs;
       published = publishedIn cs;
+      adds = addsIn cs;
+      scales = scalesIn cs;
       gates = gatesIn cs;
       tests = testsIn cs;
+      largest = largestIn cs;
     }
 
--- one column of so many entries, published entries, multiplications and tests
-abbrev pub oneColumn : ℕ → ℕ → ℕ → ℕ → Counts
-oneColumn e p g t = record { columns = 1; entries = e; published = p; gates = g; tests = t }
-
--- at most e entries, and the other counts bounded by them
+-- at most e entries, the other counts bounded by them, and the largest value by that of 24 bits
 pub record Small (e : ℕ) (c : Counts) : Type 0 where
   pub entries-most : c .entries ≤ e
   pub columns-most : c .columns ≤ c .entries
   pub published-most : c .published ≤ c .entries
+  pub adds-most : c .adds ≤ 2 * c .entries
+  pub scales-most : c .scales ≤ c .entries
   pub gates-most : c .gates ≤ c .entries
   pub tests-most : c .tests ≤ 2 * c .entries
+  pub largest-most : c .largest ≤ 16777215

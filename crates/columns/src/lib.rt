@@ -6,16 +6,20 @@ ghost use Prim.Native.Nat.{_+_, _^_, _≤_};
 ghost use lib.ListN.{length};
 ghost use Rattle.rules.specs.Columns.{choice, number, within, limitedColumn, columnOf, largestOf};
 ghost use Rattle.rules.proofs.Circuits.Limits.{InLimits};
-ghost use Rattle.columns.specs.Counting.{countsOf, oneColumn};
+ghost use Rattle.columns.specs.Counting.{countsOf};
 ghost use Rattle.columns.specs.Kinds.{bytesOfKind, judgedOf, fromCode};
 
-// What columns come to: entries, published entries, multiplications and tests.
+// What columns come to: entries, published entries, the steps of their circuit by kind (there is one entry step for each
+// entry), and their largest value.
 pub struct Counts {
     pub columns: usize,
     pub entries: usize,
     pub published: usize,
+    pub adds: usize,
+    pub scales: usize,
     pub gates: usize,
     pub tests: usize,
+    pub largest: u32,
 }
 
 // A column: yes/no, a choice of so many options, a number of so many bits.
@@ -39,8 +43,11 @@ pub fn none() -> Counts
         columns: 0,
         entries: 0,
         published: 0,
+        adds: 0,
+        scales: 0,
         gates: 0,
         tests: 0,
+        largest: 0,
     }
 }
 
@@ -106,31 +113,6 @@ pub fn column_of(kind: u8, body: &[u8]) -> Judged
     number_of(wide(body[0]))
 }
 
-// One column of so many entries, published entries, multiplications and tests.
-fn one(entries: usize, published: usize, gates: usize, tests: usize) -> Counts
-    ensures { λ r. ⌜ r ≡ oneColumn entries published gates tests ⌝ }
-{
-    Counts {
-        columns: 1,
-        entries,
-        published,
-        gates,
-        tests,
-    }
-}
-
-// What one column comes to.
-pub fn counts_of(column: Column) -> Counts
-    requires { ⌜ InLimits (fromCode column) ⌝ }
-    ensures { λ r. ⌜ r ≡ countsOf (fromCode column ∷ []) ⌝ }
-{
-    match column {
-        Column::YesNo => one(1, 1, 1, 1),
-        Column::Choice(n) => one(n, n, n, n + 1),
-        Column::Number(n) => one(n + 1, 1, n, n + 1),
-    }
-}
-
 // 2 to the n.
 pub fn power(n: usize) -> u32
     requires { ⌜ n ≤ 24 ⌝ }
@@ -148,5 +130,45 @@ pub fn largest_of(column: Column) -> u32
         Column::YesNo => 1,
         Column::Choice(_) => 1,
         Column::Number(n) => power(n) - 1,
+    }
+}
+
+// What one column comes to.
+pub fn counts_of(column: Column) -> Counts
+    requires { ⌜ InLimits (fromCode column) ⌝ }
+    ensures { λ r. ⌜ r ≡ countsOf (fromCode column ∷ []) ⌝ }
+{
+    let largest = largest_of(column);
+    match column {
+        Column::YesNo => Counts {
+            columns: 1,
+            entries: 1,
+            published: 1,
+            adds: 1,
+            scales: 0,
+            gates: 1,
+            tests: 1,
+            largest,
+        },
+        Column::Choice(n) => Counts {
+            columns: 1,
+            entries: n,
+            published: n,
+            adds: n + n,
+            scales: 0,
+            gates: n,
+            tests: n + 1,
+            largest,
+        },
+        Column::Number(n) => Counts {
+            columns: 1,
+            entries: n + 1,
+            published: 1,
+            adds: n + n,
+            scales: n + 1,
+            gates: n,
+            tests: n + 1,
+            largest,
+        },
     }
 }

@@ -2,7 +2,7 @@
 -- Assumes nothing.
 use mathlib.Core.Bool.{cond}
 use mathlib.Core.List.{List}
-use Prim.Native.Nat.{ℕ, _+_}
+use Prim.Native.Nat.{ℕ, _+_, max}
 use lib.Dec.{leb}
 use Rattle.records.specs.Outcome.{Outcome, ok, refused}
 use Rattle.rules.specs.Columns.{Column, within, readSheet}
@@ -26,8 +26,11 @@ plus c d =
       columns = c .columns + d .columns;
       entries = c .entries + d .entries;
       published = c .published + d .published;
+      adds = c .adds + d .adds;
+      scales = c .scales + d .scales;
       gates = c .gates + d .gates;
       tests = c .tests + d .tests;
+      largest = max (c .largest) (d .largest);
     }
 
 -- one column more; past the limit of entries nothing is counted any more

@@ -1,6 +1,7 @@
 // The sheet: its reader, a cursor over its columns, and the limit on returns. The definitions that the contracts cite are
 // those of the crate rules and of specs/.
 ghost use mathlib.Core.Path.{_≡_};
+ghost use Prim.Native.Nat.{max};
 ghost use Rattle.columns.specs.Counting.{Small};
 ghost use Rattle.sheet.specs.Reading.{more, limited, readingOf};
 
@@ -21,6 +22,13 @@ pub enum Reading {
     Refused(u32),
 }
 
+// The larger of two values.
+fn larger(a: u32, b: u32) -> u32
+    ensures { λ r. ⌜ r ≡ max a b ⌝ }
+{
+    if a < b { b } else { a }
+}
+
 // One column more. Past the limit of entries nothing is counted any more.
 fn with(c: Counts, d: Counts) -> Counts
     requires { ⌜ Small 320 c × Small 64 d ⌝ }
@@ -33,8 +41,11 @@ fn with(c: Counts, d: Counts) -> Counts
         columns: c.columns + d.columns,
         entries: c.entries + d.entries,
         published: c.published + d.published,
+        adds: c.adds + d.adds,
+        scales: c.scales + d.scales,
         gates: c.gates + d.gates,
         tests: c.tests + d.tests,
+        largest: larger(c.largest, d.largest),
     }
 }
 

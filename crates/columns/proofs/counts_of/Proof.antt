@@ -1,67 +1,76 @@
 -- `columns::counts_of` meets its contract: each arm is one case of the counts. Assumes nothing.
-use mathlib.Core.Path.{refl, sym, _∙_}
+use mathlib.Core.Path.{refl}
+use native.Mathlib.Numerals.{add-one}
 use native.Mathlib.Omega.{arith}
 use borrow.Author.Needs.{needs}
-use Rattle.rules.specs.Columns.{entriesOf, publishedOf, entriesIn, publishedIn}
-use Rattle.rules.specs.Circuit.{gatesOf, testsOf, gatesIn, testsIn}
-use Rattle.columns.proofs.Taken.{counts-choice, counts-number}
+use Rattle.rules.specs.Columns.{entriesOf, publishedOf}
+use Rattle.rules.specs.Circuit.{addsOf, scalesOf, gatesOf, testsOf}
+use Rattle.columns.proofs.Taken.{counts-one}
 use Rattle.columns.proofs.counts_of.Statement.{statement}
 use Rattle.columns.proofs.counts_of.Tie as tie
+
+largest-of-requires : tie.Need-largest-of-requires
+largest-of-requires c κs = search needs
 
 enum-told : tie.Need-enum-told
 enum-told c = search needs
 
-one-requires : tie.Need-one-requires
-one-requires c κs = search needs
-
 enum-known-column : tie.Need-enum-known-column
 enum-known-column c = search needs
 
-add-one : tie.Need-add-one
-add-one c = let l = rw (c .before .column .given .1) at (c .before .before .before .pre) in omega arith
+add-t6 : tie.Need-add-t6
+add-t6 c = let l = rw (c .before .column .given .1) at (c .before .before .before .before .pre) in omega arith
 
-one-requires-2 : tie.Need-one-requires-2
-one-requires-2 c κs = search needs
+add-t7 : tie.Need-add-t7
+add-t7 c = let l = rw (c .before .column .given .1) at (c .before .before .before .before .pre) in omega arith
 
 enum-known-column-2 : tie.Need-enum-known-column-2
 enum-known-column-2 c = search needs
 
-add-one-2 : tie.Need-add-one-2
-add-one-2 c = let l = rw (c .before .column2 .given .1) at (c .before .before .before .pre) in omega arith
+add-t8 : tie.Need-add-t8
+add-t8 c = let l = rw (c .before .column2 .given .1) at (c .before .before .before .before .pre) in omega arith
 
-add-one-3 : tie.Need-add-one-3
-add-one-3 c = let l = rw (c .before .column2 .given .1) at (c .before .before .before .pre) in omega arith
+add-t9 : tie.Need-add-t9
+add-t9 c = let l = rw (c .before .column2 .given .1) at (c .before .before .before .before .pre) in omega arith
 
-one-requires-3 : tie.Need-one-requires-3
-one-requires-3 c κs = search needs
+add-t10 : tie.Need-add-t10
+add-t10 c = let l = rw (c .before .column2 .given .1) at (c .before .before .before .before .pre) in omega arith
+
+add-t11 : tie.Need-add-t11
+add-t11 c = let l = rw (c .before .column2 .given .1) at (c .before .before .before .before .pre) in omega arith
 
 returns : tie.Need-returns
-unfolding entriesOf publishedOf gatesOf testsOf entriesIn publishedIn gatesIn testsIn
-returns c = c .one .ensures ∙ rw (c .before .enum-told .given .1) refl
+unfolding entriesOf publishedOf addsOf scalesOf gatesOf testsOf
+returns c =
+    let l = c .before .before .largest-of .ensures in
+    rw (counts-one _, l, c .enum-told .given .1) refl
 
 returns-2 : tie.Need-returns-2
+unfolding entriesOf publishedOf addsOf scalesOf gatesOf testsOf
 returns-2 c =
-    let g = c .before .before .column .given in
-    c .one2 .ensures ∙ rw (g .1) (sym (counts-choice (g .0 .0)))
+    let l = c .before .before .before .largest-of .ensures in
+    rw (counts-one _, l, c .before .column .given .1) refl
 
 returns-3 : tie.Need-returns-3
+unfolding entriesOf publishedOf addsOf scalesOf gatesOf testsOf
 returns-3 c =
-    let g = c .before .before .column2 .given in
-    c .one3 .ensures ∙ rw (g .1) (sym (counts-number (g .0 .0)))
+    let l = c .before .before .before .largest-of .ensures in
+    rw (counts-one _, l, c .before .column2 .given .1, add-one) refl
 
 pub counts-of-spec : {M : Type 1} → statement M
 counts-of-spec =
     tie.close
     (tie.spec
+    largest-of-requires
     enum-told
-    one-requires
     enum-known-column
-    add-one
-    one-requires-2
+    add-t6
+    add-t7
     enum-known-column-2
-    add-one-2
-    add-one-3
-    one-requires-3
+    add-t8
+    add-t9
+    add-t10
+    add-t11
     returns
     returns-2
     returns-3)

@@ -11,9 +11,8 @@ use Rattle.rules.specs.Settings.{document01}
 use Rattle.rules.specs.Columns.{readSheet, columnsOf}
 use Rattle.rules.specs.Judging.{shareSize}
 use Rattle.rules.specs.Table.{sheetIn, columnsIn}
-use Rattle.columns.specs.declared.Counts.{Counts}
-use Rattle.columns.specs.Counting.{countsOf}
-use Rattle.snip.specs.Judged.{Share, judgedOf}
+use Rattle.snip.specs.declared.judging.Shape.{Shape}
+use Rattle.snip.specs.Judged.{Share, shapeOf, judgedOf}
 use Rattle.limits.specs.Sheets.{sizeOf}
 use Rattle.layout.specs.declared.Table.{Table}
 use Rattle.table.specs.Reading.{tableOf, Sound}
@@ -26,16 +25,9 @@ use Rattle.shares.specs.Taking.{Judgeable}
 abbrev pub sheetCut : List ℕ → Table → List ℕ
 sheetCut T k = part 12 (k .sheet) T
 
--- what the sheet comes to, as the table says
-abbrev pub countsAt : Table → Counts
-countsAt k =
-    record {
-      columns = k .columns;
-      entries = k .entries;
-      published = k .published;
-      gates = k .gates;
-      tests = k .tests;
-    }
+-- the shape of the sheet, as the table says
+abbrev pub shapeAt : Table → Shape
+shapeAt k = record { entries = k .entries; gates = k .gates; tests = k .tests }
 
 module _ (T : List ℕ) (k : Table) (h : Sound T k) where
   sheet-cut : sheetCut T k ≡ sheetIn document01 T
@@ -45,9 +37,9 @@ module _ (T : List ℕ) (k : Table) (h : Sound T k) where
   sheet-reads : readSheet (sheetCut T k) ≡ ok (columnsOf (sheetCut T k))
   sheet-reads = cut-reads T k (headed-of T k h) (sheetCut T k) refl
 
-  counts-are : countsAt k ≡ countsOf (columnsOf (sheetCut T k))
+  shape-is : shapeAt k ≡ shapeOf (columnsOf (sheetCut T k))
   unfolding tableOf
-  counts-are = rw (sheet-cut, h .says)
+  shape-is = rw (sheet-cut, h .says)
 
   size-is : sizeOf (k .entries) (k .gates) ≡ shareSize (columnsOf (sheetCut T k))
   unfolding tableOf shareSize
@@ -55,10 +47,10 @@ module _ (T : List ℕ) (k : Table) (h : Sound T k) where
 
 -- ---- the elements xs of the share's bytes x
 module _ (T : List ℕ) (k : Table) (x : List ℕ) (r s : ℕ) (h : Judgeable T k x r s) (xs : List ℕ) (ex : xs ≡ elementsOf 4 x) where
-  pub the-share : length xs ≡ sizeOf (k .entries) (k .gates) → Share (sheetCut T k) (countsAt k) xs r s
+  pub the-share : length xs ≡ sizeOf (k .entries) (k .gates) → Share (sheetCut T k) (shapeAt k) xs r s
   the-share l = record {
     is-read = sheet-reads T k (h .table);
-    counts-are = counts-are T k (h .table);
+    shape-is = shape-is T k (h .table);
     size = l ∙ size-is T k (h .table);
     elements = rw ex (all-of-below 2147483647 (elementsOf 4 x) (h .elements));
     r-below = h .r-below;

@@ -9,13 +9,13 @@ ghost use Rattle.rules.specs.Table.{columnsIn, shareTable, shareBytes};
 ghost use Rattle.snip.specs.Judged.{judgedOf};
 ghost use Rattle.shares.specs.Calls.{Shares};
 ghost use Rattle.shares.specs.Taking.{waitBytes, Judgeable, Takable};
-use columns::Counts;
 use layout::AWAITS_ONE;
 use layout::Table;
 use layout::places::sheet_part;
 use records::Written;
 use share_checks::share_refusal;
 use snip::judging::Judged;
+use snip::judging::Shape;
 use snip::judging::judge;
 use table::Found;
 use table::read;
@@ -28,14 +28,12 @@ fn judged(t: &[u8], k: Table, x: &[u8], r: u32, s: u32) -> Judged
     let mut share = [0u32; 774];
     let size = k.share_size();
     elements::read(x, &mut share[..size]);
-    let counts = Counts {
-        columns: k.columns,
+    let shape = Shape {
         entries: k.entries,
-        published: k.published,
         gates: k.gates,
         tests: k.tests,
     };
-    judge(sheet_part(t, k.sheet), counts, k.own, &share[..size], r, s)
+    judge(sheet_part(t, k.sheet), shape, k.own, &share[..size], r, s)
 }
 
 // Writes the return that waits, but for its elements.

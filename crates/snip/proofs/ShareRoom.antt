@@ -1,5 +1,5 @@
--- What a share of a sheet that is read has room for: its length by the counts, and the limits of these. Assumes nothing.
-use mathlib.Core.Path.{_≡_, ap, _∙_}
+-- What a share of a sheet that is read has room for: its length by the sheet's shape, and the limits of that. Assumes nothing.
+use mathlib.Core.Path.{_≡_, ap}
 use mathlib.Core.List.{List}
 use Prim.Native.Nat.{ℕ, _+_, _≤_}
 use native.Mathlib.Omega.{arith}
@@ -8,29 +8,29 @@ use Rattle.rules.specs.Columns.{columnsOf, entriesIn}
 use Rattle.rules.specs.Circuit.{gatesIn, testsIn}
 use Rattle.rules.specs.Judging.{shareSize}
 use Rattle.rules.proofs.Circuits.Limits.{limits}
-use Rattle.columns.specs.declared.Counts.{Counts}
+use Rattle.snip.specs.declared.judging.Shape.{Shape}
 use Rattle.snip.specs.Judged.{Share}
 use Rattle.walk.specs.Walks.{Entries, Outputs}
 
-pub record Room (s : List ℕ) (counts : Counts) (xs : List ℕ) : Type 0 where
-  pub entries-are : counts .entries ≡ entriesIn (columnsOf s)
-  pub gates-are : counts .gates ≡ gatesIn (columnsOf s)
-  pub tests-are : counts .tests ≡ testsIn (columnsOf s)
-  pub long : length xs ≡ counts .entries + (counts .gates + counts .gates) + 6
-  pub entries-few : counts .entries ≤ 256
-  pub gates-few : counts .gates ≤ 256
-  pub tests-few : counts .tests ≤ 384
+pub record Room (s : List ℕ) (shape : Shape) (xs : List ℕ) : Type 0 where
+  pub entries-are : shape .entries ≡ entriesIn (columnsOf s)
+  pub gates-are : shape .gates ≡ gatesIn (columnsOf s)
+  pub tests-are : shape .tests ≡ testsIn (columnsOf s)
+  pub long : length xs ≡ shape .entries + (shape .gates + shape .gates) + 6
+  pub entries-few : shape .entries ≤ 256
+  pub gates-few : shape .gates ≤ 256
+  pub tests-few : shape .tests ≤ 384
   pub entries : Entries s xs
-  pub outputs : Outputs s xs (counts .entries)
+  pub outputs : Outputs s xs (shape .entries)
 
-pub room : {s : List ℕ} {counts : Counts} {xs : List ℕ} {r t : ℕ} → Share s counts xs r t → Room s counts xs
+pub room : {s : List ℕ} {shape : Shape} {xs : List ℕ} {r t : ℕ} → Share s shape xs r t → Room s shape xs
 unfolding shareSize
-room {s} {counts} {xs} h =
-    let e : counts .entries ≡ entriesIn (columnsOf s) = ap (λ (c : Counts). c .entries) (h .counts-are) in
-    let g : counts .gates ≡ gatesIn (columnsOf s) = ap (λ (c : Counts). c .gates) (h .counts-are) in
-    let k : counts .tests ≡ testsIn (columnsOf s) = ap (λ (c : Counts). c .tests) (h .counts-are) in
+room {s} {shape} {xs} h =
+    let e : shape .entries ≡ entriesIn (columnsOf s) = ap (λ (c : Shape). c .entries) (h .shape-is) in
+    let g : shape .gates ≡ gatesIn (columnsOf s) = ap (λ (c : Shape). c .gates) (h .shape-is) in
+    let k : shape .tests ≡ testsIn (columnsOf s) = ap (λ (c : Shape). c .tests) (h .shape-is) in
     let m = limits s (columnsOf s) (h .is-read) in
-    let size : length xs ≡ counts .entries + (counts .gates + counts .gates) + 6 = omega (arith, h .size) in
+    let size : length xs ≡ shape .entries + (shape .gates + shape .gates) + 6 = omega (arith, h .size) in
     record {
       entries-are = e;
       gates-are = g;

@@ -2,21 +2,20 @@
 -- Assumes nothing.
 use mathlib.Core.Path.{_≡_}
 use mathlib.Core.List.{List}
-use Prim.Native.Nat.{ℕ, suc, _+_, _<_}
+use Prim.Native.Nat.{ℕ, _+_, _<_}
 use lib.ListN.{length}
 use Rattle.records.specs.Outcome.{ok}
 use Rattle.algebra.specs.Ops.{minus}
 use Rattle.algebra.specs.Interpolation.{interpolate}
 use Rattle.field.specs.Residues.{prime, residues, Elements}
 use Rattle.rules.specs.Settings.{document01}
-use Rattle.rules.specs.Columns.{Column, readSheet, columnsOf}
-use Rattle.rules.specs.Circuit.{gatesIn}
+use Rattle.rules.specs.Columns.{Column, entriesIn, readSheet, columnsOf}
+use Rattle.rules.specs.Circuit.{gatesIn, testsIn}
 use Rattle.rules.specs.Judging.{shareSize, firstOnly, zeroThen, hAt, dOf, eOf, tauOf}
 use Rattle.rules.specs.Walk.{walkLefts, walkRights}
-use Rattle.columns.specs.declared.Counts.{Counts}
-use Rattle.columns.specs.Counting.{countsOf}
 use Rattle.snip.specs.declared.judging.Judged.{Judged}
 use Rattle.snip.specs.declared.judging.Inputs.{Inputs}
+use Rattle.snip.specs.declared.judging.Shape.{Shape}
 use Rattle.walk.specs.Walks.{plain, members}
 
 -- "d_i = f_i(r) - a_i, e_i = r × g_i(r) - b_i", r × h_i(r) and tau_i at server `own` with the share xs
@@ -47,10 +46,14 @@ inputsFrom f0 g0 first rest m = record {
   g = residues ._⊕_ (residues ._⊗_ first (minus residues g0 m)) (residues ._⊕_ rest m);
 }
 
--- the sheet s is read and comes to these counts, xs has the length of a share, and all are elements
-pub record Share (s : List ℕ) (counts : Counts) (xs : List ℕ) (r t : ℕ) : Type 0 where
+-- what a sheet comes to, as far as judging needs it
+abbrev pub shapeOf : List Column → Shape
+shapeOf cs = record { entries = entriesIn cs; gates = gatesIn cs; tests = testsIn cs }
+
+-- the sheet s is read and has this shape, xs has the length of a share, and all are elements
+pub record Share (s : List ℕ) (shape : Shape) (xs : List ℕ) (r t : ℕ) : Type 0 where
   pub is-read : readSheet s ≡ ok (columnsOf s)
-  pub counts-are : counts ≡ countsOf (columnsOf s)
+  pub shape-is : shape ≡ shapeOf (columnsOf s)
   pub size : length xs ≡ shareSize (columnsOf s)
   pub elements : Elements xs
   pub r-below : r < prime

@@ -13,13 +13,19 @@ ghost use Rattle.rules.specs.Judging.{folded};
 ghost use Rattle.rules.specs.Walk.{walkLefts, walkTests};
 ghost use Rattle.snip.specs.Judged.{judgedOf, inputsOf, inputsFrom, Share};
 ghost use Rattle.walk.specs.Walks.{held, plain, members, outputs, Entries, Outputs};
-use columns::Counts;
 use interpolation::Fraction;
 
 // f and g at r.
 pub struct Inputs {
     pub f: u32,
     pub g: u32,
+}
+
+// What a sheet comes to, as far as judging needs it.
+pub struct Shape {
+    pub entries: usize,
+    pub gates: usize,
+    pub tests: usize,
 }
 
 // d, e, r h(r) and tau of one server.
@@ -95,7 +101,7 @@ fn tau_of(sheet: &[u8], x: &[u32], l: usize, constant: u32, tests: usize, s: u32
 // The same as `judge`, with the weights of the points 0, .., M and of 0, .., 2 M lent.
 fn judge_with(
     sheet: &[u8],
-    counts: Counts,
+    shape: Shape,
     own: u32,
     x: &[u32],
     single: &[u32],
@@ -103,19 +109,19 @@ fn judge_with(
     r: u32,
     s: u32,
 ) -> Judged
-    requires { ⌜ Share (now sheet) counts (now x) r s ⌝ }
-    requires { ⌜ now single ≡ tabulate (weight residues (counts .gates)) (suc (counts .gates)) ⌝ }
-    requires { ⌜ now double ≡ tabulate (weight residues (counts .gates + counts .gates)) (suc (counts .gates + counts .gates)) ⌝ }
+    requires { ⌜ Share (now sheet) shape (now x) r s ⌝ }
+    requires { ⌜ now single ≡ tabulate (weight residues (shape .gates)) (suc (shape .gates)) ⌝ }
+    requires { ⌜ now double ≡ tabulate (weight residues (shape .gates + shape .gates)) (suc (shape .gates + shape .gates)) ⌝ }
     ensures { λ q. ⌜ q ≡ judgedOf (columnsOf (now (sheet .entry))) own (now (x .entry)) r s ⌝ }
 {
-    let l = counts.entries;
-    let m = counts.gates;
+    let l = shape.entries;
+    let m = shape.gates;
     let constant = field::mul(crate::first_only(own), field::P - 1);
     let at = inputs_with(sheet, x, l, single, constant, r);
     let first = l + 2;
     let last = l + 3 + (m + m);
     let h = interpolated(&x[first..last], double, r);
-    let tau = tau_of(sheet, x, l, constant, counts.tests, s);
+    let tau = tau_of(sheet, x, l, constant, shape.tests, s);
     Judged {
         d: field::sub(at.f, x[last]),
         e: field::sub(field::mul(r, at.g), x[last + 1]),
@@ -125,18 +131,18 @@ fn judge_with(
 }
 
 // What server `own` works out from the share x, with the pair r, s.
-pub fn judge(sheet: &[u8], counts: Counts, own: u32, x: &[u32], r: u32, s: u32) -> Judged
-    requires { ⌜ Share (now sheet) counts (now x) r s ⌝ }
+pub fn judge(sheet: &[u8], shape: Shape, own: u32, x: &[u32], r: u32, s: u32) -> Judged
+    requires { ⌜ Share (now sheet) shape (now x) r s ⌝ }
     ensures { λ q. ⌜ q ≡ judgedOf (columnsOf (now (sheet .entry))) own (now (x .entry)) r s ⌝ }
 {
     let mut single = [0u32; 257];
     let mut double = [0u32; 513];
-    let points = counts.gates + 1;
-    let twice = counts.gates + points;
+    let points = shape.gates + 1;
+    let twice = shape.gates + points;
     quotients::fill_two(&mut single[..points], &mut double[..twice]);
     judge_with(
         sheet,
-        counts,
+        shape,
         own,
         x,
         &single[..points],

@@ -52,7 +52,7 @@ inputs-with-requires : tie.Need-inputs-with-requires
 inputs-with-requires c κs =
     let s = c .before .before .before .before .before .before in
     let m = room (s .pre .0) in
-    let fits : s .args .counts .entries + 1 < length (s .args .x .now) = omega (arith, m .long) in
+    let fits : s .args .shape .entries + 1 < length (s .args .x .now) = omega (arith, m .long) in
     let few : gatesIn (columnsOf (s .args .sheet .now)) ≤ 256 = omega (arith, m .gates-are, m .gates-few) in (
       (m .entries, fits, few, rw (c .mul .ensures) (mod-lt _ (lit< tt)), s .pre .0 .r-below),
       s .pre .1 .0 ∙ ap (λ k. tabulate (weight residues k) (suc k)) (m .gates-are),
@@ -104,7 +104,7 @@ interpolated-requires : tie.Need-interpolated-requires
 interpolated-requires c κs =
     let s = c .before .before .before .before .before .before .before .before in
     let m = room (s .pre .0) in
-    let k = s .args .counts in
+    let k = s .args .shape in
     let n = part-length (s .args .x .now) (k .entries) (k .gates) (omega (arith, m .long)) in (
       (
         part-elements (s .args .x .now) (k .entries) (k .gates) (s .pre .0 .elements),
@@ -193,7 +193,7 @@ returns c =
     let one = b .before .before .first-only .ensures in
     let factor = b .before .mul .ensures in
     let ec = factor ∙ ap (λ (t : ℕ). residues ._⊗_ t 2147483646) one in
-    let n = part-length xs (a .counts .entries) (a .counts .gates) (omega (arith, m .long)) in
+    let n = part-length xs (a .shape .entries) (a .shape .gates) (omega (arith, m .long)) in
     let h = c .before .before .before .before .before .before .before .interpolated .ensures in
     let tau = c .before .before .before .before .before .before .tau-of .ensures in
     whole

@@ -1,6 +1,6 @@
 -- The answers of the circuit writer: which refusal there is, and what each answer leaves in the buffer. The sheet's refusal
 -- comes first, then 14. Assumes nothing.
-use mathlib.Core.Path.{_≡_, ap}
+use mathlib.Core.Path.{_≡_, sym}
 use mathlib.Core.List.{List}
 use Prim.Native.Nat.{ℕ, _≤_, _<_}
 use native.Mathlib.Omega.{arith}
@@ -13,10 +13,16 @@ use Rattle.rules.specs.Settings.{document01}
 use Rattle.rules.specs.Columns.{readSheet, columnsOf}
 use Rattle.rules.specs.CircuitReader.{sheetCircuit, sheetCircuitRefusal}
 use Rattle.rules.proofs.Circuits.Refusals.{sheet-fault}
+use Rattle.rules.specs.Sizes.{circuitSize}
+use Rattle.rules.proofs.Circuits.Limits.{limits}
+use Rattle.rules.proofs.Circuits.Size.{circuit-size-is}
 use Rattle.columns.specs.declared.Counts.{Counts}
+use Rattle.columns.specs.Counting.{countsOf, Small}
+use Rattle.columns.proofs.Taken.{columns-small}
+use Rattle.sizes.specs.Room.{stepsSize}
 use Rattle.sheet.specs.Reading.{readingOf}
 use Rattle.sheet.specs.declared.Reading.the-variants as sheet
-use Rattle.sheet.proofs.Answers.{reading-refused, reading-counts}
+use Rattle.sheet.proofs.Answers.{reading-refused}
 use Rattle.records.specs.declared.Written.{Written}
 use Rattle.records.specs.Answers.{answered, onlyIf}
 use Rattle.compile.specs.Writing.{writtenOf, circuitIn}
@@ -52,7 +58,13 @@ module _ (s out : List ℕ) where
         = rw (sheet-fault s (columnsOf s) is-read .0, or-none, le-leb (length (sheetCircuit document01 s)) (length out) fits) in
         (rw (none, e), rw none p)
 
--- a sheet that is read, with its number of columns
-pub read-counts : (s : List ℕ) (c : Counts) → readingOf s ≡ sheet.Counts c
-    → (readSheet s ≡ ok (columnsOf s)) × (c .columns ≡ length (columnsOf s))
-read-counts s c e = let r = reading-counts s c e in (r .0, ap (λ (x : Counts). x .columns) (r .1))
+-- ---- a sheet that is read, by its counts
+module _ (s : List ℕ) where
+  pub counts-small : readSheet s ≡ ok (columnsOf s) → (c : Counts) → c ≡ countsOf (columnsOf s) → Small 256 c
+  counts-small is-read c e =
+      let l = limits s (columnsOf s) is-read in
+      rw e (columns-small 256 (columnsOf s) (l .in-limits) (l .entries-most))
+
+  pub size-is : (c : Counts) → c ≡ countsOf (columnsOf s) → stepsSize 1 c ≡ length (sheetCircuit document01 s)
+  unfolding stepsSize circuitSize sheetCircuit
+  size-is c e = rw e (sym (circuit-size-is document01 (columnsOf s)))

@@ -14,11 +14,12 @@ use Rattle.rules.specs.Settings.{document01}
 use Rattle.rules.specs.Columns.{Column, yesNo, choice, number, entriesOf, entriesIn, columnsOf}
 use Rattle.rules.specs.Circuit.{Step, entry, scale, test, stepBytes, circuitBytes, bitChecks, optionAdds, optionSum, bitAdds}
 use Rattle.rules.specs.Circuit.{columnSteps, wiresOf, circuitFrom, circuitOf, wiresIn}
+use Rattle.rules.specs.Circuit.{addsOf, scalesOf, gatesOf, testsOf}
 use Rattle.rules.specs.CircuitReader.{sheetCircuit}
+use Rattle.rules.specs.Sizes.{weighed, columnSize}
+use Rattle.rules.proofs.Circuits.Size.{column-size}
 use Rattle.columns.proofs.Sums.{Total}
-use Rattle.compile.specs.Writing.{columnSize}
-use Rattle.compile.proofs.Runs.{bytes, bytes-none, bytes-append, bytes-one, bytes-more, checks-long, options-long}
-use Rattle.compile.proofs.Runs.{weights-long}
+use Rattle.compile.proofs.Runs.{bytes, bytes-none, bytes-append, bytes-one}
 
 -- ---- a column
 pub choice-is : (n e w : ℕ)
@@ -35,37 +36,25 @@ unfolding columnSteps
 number-is n e w =
     simp (add-one, bytes-append, bytes-one, append-assoc)
 
-yes-no-is : (e w : ℕ) → bytes (columnSteps document01 e w yesNo) ≡ bytes (bitChecks 1 e w)
-unfolding columnSteps
-yes-no-is e w = refl
+-- how many bytes a column's steps have, by the table of body lengths
+pub choice-size : (n : ℕ) → columnSize document01 (choice n) ≡ 21 * n + 3
+unfolding columnSize weighed entriesOf addsOf scalesOf gatesOf testsOf
+choice-size n = omega arith
 
-entry-long : (e : ℕ) → length (stepBytes document01 (entry e)) ≡ 3
-unfolding stepBytes
-entry-long e = ap suc (length-bytes 2 e)
+pub number-size : (n : ℕ) → columnSize document01 (number n) ≡ 28 * n + 13
+unfolding columnSize weighed entriesOf addsOf scalesOf gatesOf testsOf
+number-size n = omega arith
 
-test-long : (a : ℕ) → length (stepBytes document01 (test a)) ≡ 3
-unfolding stepBytes
-test-long a = ap suc (length-bytes 2 a)
-
-scale-long : (a c : ℕ) → length (stepBytes document01 (scale a c)) ≡ 7
-unfolding stepBytes
-scale-long a c = ap suc (length-append (bytesOf 2 a) (bytesOf 4 c) ∙ rw (length-bytes 2 a, length-bytes 4 c))
-
-column-long : (c : Column) (e w : ℕ) → length (bytes (columnSteps document01 e w c)) ≡ columnSize c
-unfolding columnSize
-column-long yesNo e w = ap length (yes-no-is e w) ∙ checks-long 1 e w
-column-long (choice n) e w =
-    rw (choice-is, bytes-more) (simp (length-append, test-long, checks-long, options-long) (omega arith))
-column-long (number n) e w =
-    rw (number-is, bytes-more)
-    (simp (length-append, entry-long, scale-long, test-long, checks-long, weights-long) (omega arith))
+pub yes-no-size : columnSize document01 yesNo ≡ 16
+unfolding columnSize weighed entriesOf addsOf scalesOf gatesOf testsOf
+yes-no-size = refl
 
 -- ---- sums over columns
 unfoldable pub sizesIn : List Column → ℕ
 sizesIn [] = 0
-sizesIn (c ∷ cs) = columnSize c + sizesIn cs
+sizesIn (c ∷ cs) = columnSize document01 c + sizesIn cs
 
-pub sizes : Total columnSize sizesIn
+pub sizes : Total (columnSize document01) sizesIn
 unfolding sizesIn
 sizes = record { nothing = refl; next = λ c cs. refl }
 
@@ -115,7 +104,7 @@ from-long [] e w = ap length bytes-none
 from-long (c ∷ cs) e w =
     ap length (bytes-append (columnSteps document01 e w c) (circuitFrom document01 (e + entriesOf c) (w + wiresOf c) cs))
     ∙ length-append (bytes (columnSteps document01 e w c)) _
-    ∙ ap₂ _+_ (column-long c e w) (from-long cs (e + entriesOf c) (w + wiresOf c))
+    ∙ ap₂ _+_ (column-size document01 c e w) (from-long cs (e + entriesOf c) (w + wiresOf c))
 
 -- ---- the whole circuit
 pub sheet-is : (s : List ℕ)

@@ -1,6 +1,6 @@
--- A walk over the columns of a sheet that is read: how many bytes the first k columns' steps have, and what is written of
--- them. Each law takes one column, or the end. Assumes that the sheet is read, where it is said.
-use mathlib.Core.Path.{_≡_, refl, sym, ap, _∙_}
+-- A walk over the columns of a sheet that is read: what is written of the first k columns' steps. Each law takes one column,
+-- or the end. Assumes that the sheet is read, where it is said.
+use mathlib.Core.Path.{_≡_, refl, ap, _∙_}
 use mathlib.Core.List.{List, _∷_}
 use Prim.Native.Nat.{ℕ, _+_, _≤_}
 use native.Mathlib.Omega.{arith}
@@ -11,40 +11,28 @@ use Rattle.rules.specs.Settings.{document01}
 use Rattle.rules.specs.Columns.{Column, yesNo, entriesIn, columnsOf}
 use Rattle.rules.specs.Circuit.{columnSteps, wiresOf, circuitFrom, wiresIn}
 use Rattle.rules.specs.CircuitReader.{sheetCircuit}
+use Rattle.rules.specs.Sizes.{columnSize}
 use Rattle.rules.proofs.Circuits.Limits.{limits}
-use Rattle.rules.proofs.Circuits.Size.{circuit-most}
 use Rattle.columns.specs.Kinds.{fromCode}
 use Rattle.columns.proofs.Sums.{entries, total-next, total-most}
 use Rattle.sheet.specs.declared.cursor.Cursor.{Cursor}
 use Rattle.sheet.specs.declared.cursor.Step.{Step}
 use Rattle.sheet.specs.Cursor.{stepAt, Stands}
 use Rattle.sheet.proofs.Walks.{next-index, column-seen}
-use Rattle.compile.specs.Writing.{Put, columnSize}
+use Rattle.compile.specs.Writing.{Put}
 use Rattle.compile.proofs.Puts.{put-on, put-as, put-none}
 use Rattle.compile.proofs.Runs.{bytes}
 use Rattle.compile.proofs.Columns.{sizesIn, sizes, wires, from-none, from-next, sheet-is, sheet-long}
-
--- the bytes of the first k columns' steps, with wire 0
-pub record Length (s : List ℕ) (k total : ℕ) : Type 0 where
-  pub so-far : total ≡ 5 + sizesIn (take k (columnsOf s))
 
 -- what the first k columns have written, from a place on
 pub record Wrote (s out : List ℕ) (from k wire : ℕ) (now : List ℕ) (at : ℕ) : Type 0 where
   pub wire-is : wire ≡ 1 + wiresIn (take k (columnsOf s))
   pub so-far : Put out from (sizesIn (take k (columnsOf s))) (bytes (circuitFrom document01 0 1 (take k (columnsOf s)))) now at
 
-pub length-start : (s : List ℕ) → Length s 0 5
-unfolding sizesIn
-length-start s = record { so-far = refl }
-
 pub wrote-start : (s out : List ℕ) (from : ℕ) → from ≤ length out → Wrote s out from 0 1 out from
 unfolding sizesIn wiresIn
 wrote-start s out from h =
     record { wire-is = refl; so-far = put-as (put-none out from h) 0 _ _ refl from-none refl }
-
-pub length-end : {s : List ℕ} {k total : ℕ} → Length s k total → length (columnsOf s) ≤ k
-    → total ≡ length (sheetCircuit document01 s)
-length-end {s} {k} {total} l h = l .so-far ∙ rw (take-all k (columnsOf s) h) (sym (sheet-long s))
 
 pub wrote-end : {s out first now : List ℕ} {from k wire at : ℕ} → Wrote s first from k wire now at → length (columnsOf s) ≤ k
     → Put out 0 5 (1 ∷ bytesOf 4 2147483646) first from
@@ -58,27 +46,12 @@ module _ {s : List ℕ} {c : Cursor} (h : Stands s c) (r : Step) (e : r ≡ step
   abbrev cs : List Column
   cs = columnsOf s
 
-  sheet-most : length (sheetCircuit document01 s) ≤ 7008
-  unfolding sheetCircuit
-  sheet-most = circuit-most document01 s cs (h .is-read) refl
-
-  pub length-room : {total : ℕ} → Length s (c .index) total → total + columnSize (fromCode (r .column)) ≤ 7008
-  length-room l =
-      rw (column-seen h r e) (omega (arith, l .so-far, total-most sizes cs (c .index) (h .within), sheet-long s, sheet-most))
-
-  pub length-next : {total size : ℕ} → Length s (c .index) total → size ≡ columnSize (fromCode (r .column))
-      → Length s (r .next .index) (total + size)
-  length-next {size = size} l q =
-      let n : size ≡ columnSize (getD cs (c .index) yesNo) = q ∙ ap columnSize (column-seen h r e) in
-      rw (next-index h r e)
-      (record { so-far = omega (arith, l .so-far, total-next sizes cs (c .index) (h .within)) })
-
   entry-is : c .entry ≡ entriesIn (take (c .index) cs)
   entry-is = ap (λ (x : Cursor). x .entry) (h .here)
 
   -- there is room for the column, and its numbers are small
   pub record Room (now : List ℕ) (wire at : ℕ) : Type 0 where
-    pub room : at + columnSize (fromCode (r .column)) ≤ length now
+    pub room : at + columnSize document01 (fromCode (r .column)) ≤ length now
     pub entry-most : c .entry ≤ 256
     pub wire-most : wire + wiresOf (fromCode (r .column)) ≤ 1248
 
@@ -96,7 +69,7 @@ module _ {s : List ℕ} {c : Cursor} (h : Stands s c) (r : Step) (e : r ≡ step
 
   pub wrote-next : {out now next : List ℕ} {from wire at end moved : ℕ} → Wrote s out from (c .index) wire now at
       → moved ≡ wiresOf (fromCode (r .column))
-      → Put now at (columnSize (fromCode (r .column))) (bytes (columnSteps document01 (c .entry) wire (fromCode (r .column)))) next end
+      → Put now at (columnSize document01 (fromCode (r .column))) (bytes (columnSteps document01 (c .entry) wire (fromCode (r .column)))) next end
       → Wrote s out from (r .next .index) (wire + moved) next end
   wrote-next {moved = moved} w y p =
       let n : moved ≡ wiresOf (getD cs (c .index) yesNo) = y ∙ ap wiresOf (column-seen h r e) in

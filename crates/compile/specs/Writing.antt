@@ -1,11 +1,10 @@
 -- What the functions that write do to a buffer, and the answer of the circuit writer. Assumes nothing.
 use mathlib.Core.Path.{_≡_}
 use mathlib.Core.List.{List}
-use Prim.Native.Nat.{ℕ, _+_, _*_, _≤_}
+use Prim.Native.Nat.{ℕ, _+_, _≤_}
 use lib.ListN.{length}
 use Rattle.words.specs.Bytes.{splice}
 use Rattle.rules.specs.Settings.{document01}
-use Rattle.rules.specs.Columns.{Column, yesNo, choice, number}
 use Rattle.rules.specs.CircuitReader.{sheetCircuit, sheetCircuitRefusal}
 use Rattle.records.specs.Answers.{answered, onlyIf}
 use Rattle.records.specs.declared.Written.{Written}
@@ -17,12 +16,6 @@ pub record Put (s : List ℕ) (at n : ℕ) (ys t : List ℕ) (next : ℕ) : Type
   pub behind : next ≡ at + n
   pub room : at + n ≤ length s
   pub same : length t ≡ length s
-
--- the bytes of a column's steps, at document 01's setting
-unfoldable pub columnSize : Column → ℕ
-columnSize yesNo = 16
-columnSize (choice n) = 21 * n + 3
-columnSize (number n) = 28 * n + 13
 
 -- the answer where a buffer of so many bytes is lent
 unfoldable pub writtenOf : List ℕ → ℕ → Written

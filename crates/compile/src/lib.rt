@@ -13,9 +13,13 @@ ghost use Rattle.rules.specs.Circuit.{circuitBytes, bitCheck, bitChecks, option
 ghost use Rattle.rules.specs.Circuit.{columnSteps, wiresOf};
 ghost use Rattle.rules.specs.CircuitReader.{sheetCircuit};
 ghost use Rattle.rules.proofs.Circuits.Limits.{InLimits};
+ghost use Rattle.rules.specs.Sizes.{columnSize};
+ghost use Rattle.columns.specs.Counting.{countsOf};
 ghost use Rattle.columns.specs.Kinds.{fromCode};
-ghost use Rattle.compile.specs.Writing.{Put, columnSize, writtenOf, circuitIn};
+ghost use Rattle.compile.specs.Writing.{Put, writtenOf, circuitIn};
 use columns::Column;
+use columns::Counts;
+use columns::counts_of;
 use records::Written;
 use sheet::Reading;
 
@@ -121,8 +125,8 @@ fn bit_sum(out: &mut [u8], at: usize, n: u32, w: u32, q: u32) -> usize
 
 // A choice of `n` options, whose first entry is `e`.
 fn put_choice(out: &mut [u8], at: usize, n: u32, e: u32, w: u32) -> usize
-    requires { ⌜ (at + (21 * n + 3) ≤ length (now out)) × (n ≤ 64) × (e < 16384) × (w < 16384) ⌝ }
-    ensures { λ r. ⌜ Put (now (out .entry)) at (21 * n + 3)
+    requires { ⌜ (at + columnSize document01 (choice n) ≤ length (now out)) × (n ≤ 64) × (e < 16384) × (w < 16384) ⌝ }
+    ensures { λ r. ⌜ Put (now (out .entry)) at (columnSize document01 (choice n))
         (circuitBytes document01 (columnSteps document01 e w (choice n))) (now (out .exit)) r ⌝ }
 {
     let sum = bit_checks(out, at, n, e, w);
@@ -131,8 +135,8 @@ fn put_choice(out: &mut [u8], at: usize, n: u32, e: u32, w: u32) -> usize
 
 // A number of `n` bits, whose first entry is `e`.
 fn put_number(out: &mut [u8], at: usize, n: u32, e: u32, w: u32) -> usize
-    requires { ⌜ (at + (28 * n + 13) ≤ length (now out)) × (n ≤ 24) × (e < 16384) × (w < 16384) ⌝ }
-    ensures { λ r. ⌜ Put (now (out .entry)) at (28 * n + 13)
+    requires { ⌜ (at + columnSize document01 (number n) ≤ length (now out)) × (n ≤ 24) × (e < 16384) × (w < 16384) ⌝ }
+    ensures { λ r. ⌜ Put (now (out .entry)) at (columnSize document01 (number n))
         (circuitBytes document01 (columnSteps document01 e w (number n))) (now (out .exit)) r ⌝ }
 {
     let bits = put_one(out, at, 2, e);
@@ -143,8 +147,8 @@ fn put_number(out: &mut [u8], at: usize, n: u32, e: u32, w: u32) -> usize
 
 // The steps of a column, whose first entry is `e`.
 fn put_column(out: &mut [u8], at: usize, column: Column, e: u32, w: u32) -> usize
-    requires { ⌜ (at + columnSize (fromCode column) ≤ length (now out)) × InLimits (fromCode column) × (e < 16384) × (w < 16384) ⌝ }
-    ensures { λ r. ⌜ Put (now (out .entry)) at (columnSize (fromCode column))
+    requires { ⌜ (at + columnSize document01 (fromCode column) ≤ length (now out)) × InLimits (fromCode column) × (e < 16384) × (w < 16384) ⌝ }
+    ensures { λ r. ⌜ Put (now (out .entry)) at (columnSize document01 (fromCode column))
         (circuitBytes document01 (columnSteps document01 e w (fromCode column))) (now (out .exit)) r ⌝ }
 {
     match column {
@@ -154,44 +158,12 @@ fn put_column(out: &mut [u8], at: usize, column: Column, e: u32, w: u32) -> usiz
     }
 }
 
-// The bytes of a column's steps.
-fn size_of(column: Column) -> usize
-    requires { ⌜ InLimits (fromCode column) ⌝ }
-    ensures { λ r. ⌜ r ≡ columnSize (fromCode column) ⌝ }
-{
-    match column {
-        Column::YesNo => 16,
-        Column::Choice(n) => 21 * n + 3,
-        Column::Number(n) => 28 * n + 13,
-    }
-}
-
 // The wires of a column's steps.
 fn wires_of(column: Column) -> u32
     requires { ⌜ InLimits (fromCode column) ⌝ }
     ensures { λ r. ⌜ r ≡ wiresOf (fromCode column) ⌝ }
 {
-    match column {
-        Column::YesNo => 3,
-        Column::Choice(n) => 4 * (n as u32),
-        Column::Number(n) => 5 * (n as u32) + 2,
-    }
-}
-
-// The length of the circuit of a sheet that is read, which has so many columns.
-fn circuit_length(sheet: &[u8], columns: usize) -> usize
-    requires { ⌜ (readSheet (now sheet) ≡ ok (columnsOf (now sheet))) × (columns ≡ length (columnsOf (now sheet))) ⌝ }
-    ensures { λ r. ⌜ r ≡ length (sheetCircuit document01 (now (sheet .entry))) ⌝ }
-{
-    let mut total: usize = 5;
-    let mut c = sheet::cursor::start();
-    while c.index < columns {
-        let step = sheet::cursor::next(sheet, c);
-        let column = step.column;
-        total += size_of(column);
-        c = step.next;
-    }
-    total
+    sizes::columns_wires(counts_of(column))
 }
 
 // Writes the circuit of a sheet that is read, which has so many columns, where there is room for it.
@@ -214,17 +186,17 @@ fn put_circuit(sheet: &[u8], columns: usize, out: &mut [u8]) -> usize
     at
 }
 
-// Writes the circuit of a sheet that is read, or refuses where the buffer is too short for it.
-fn write_read(sheet: &[u8], columns: usize, out: &mut [u8]) -> Written
-    requires { ⌜ (readSheet (now sheet) ≡ ok (columnsOf (now sheet))) × (columns ≡ length (columnsOf (now sheet))) ⌝ }
+// Writes the circuit of a sheet that is read, which comes to these counts, or refuses where the buffer is too short for it.
+fn write_read(sheet: &[u8], counts: Counts, out: &mut [u8]) -> Written
+    requires { ⌜ (readSheet (now sheet) ≡ ok (columnsOf (now sheet))) × (counts ≡ countsOf (columnsOf (now sheet))) ⌝ }
     ensures { λ r. ⌜ (r ≡ writtenOf (now (sheet .entry)) (length (now (out .entry))))
         × (now (out .exit) ≡ circuitIn (now (sheet .entry)) (now (out .entry))) ⌝ }
 {
-    let n = circuit_length(sheet, columns);
+    let n = sizes::circuit_size(counts);
     if out.len() < n {
         return Written::Refused(14);
     }
-    put_circuit(sheet, columns, out);
+    put_circuit(sheet, counts.columns, out);
     Written::Done(n)
 }
 
@@ -235,7 +207,7 @@ pub fn write(sheet: &[u8], out: &mut [u8]) -> Written
 {
     let reading = sheet::read(sheet);
     match reading {
-        Reading::Counts(counts) => write_read(sheet, counts.columns, out),
+        Reading::Counts(counts) => write_read(sheet, counts, out),
         Reading::Refused(n) => Written::Refused(n),
     }
 }

@@ -3,12 +3,12 @@ use mathlib.Core.Path.{refl}
 use native.Mathlib.Omega.{arith}
 use borrow.Author.Needs.{needs}
 use Rattle.compile.proofs.Puts.{put-on, put-as}
-use Rattle.compile.proofs.Columns.{choice-is}
+use Rattle.compile.proofs.Columns.{choice-is, choice-size}
 use Rattle.compile.proofs.put_choice.Statement.{statement}
 use Rattle.compile.proofs.put_choice.Tie as tie
 
 bit-checks-requires : tie.Need-bit-checks-requires
-bit-checks-requires c κs = search needs
+bit-checks-requires c κs = let z = choice-size (c .before .before .args .n) in search needs
 
 mul-option-sum : tie.Need-mul-option-sum
 mul-option-sum c = search needs
@@ -17,7 +17,7 @@ add-option-sum : tie.Need-add-option-sum
 add-option-sum c = search needs
 
 option-sum-requires : tie.Need-option-sum-requires
-option-sum-requires c κs = search needs
+option-sum-requires c κs = let z = choice-size (c .before .before .before .before .before .before .args .n) in search needs
 
 same-length : tie.Need-same-length
 same-length c = search needs
@@ -27,7 +27,8 @@ returns c =
     let p2 = c .before .before in
     let p1 = p2 .before .before .before .before in
     let a = p1 .before .before .before .args in
-    put-as (put-on (p1 .bit-checks .ensures) (p2 .option-sum .ensures)) _ _ _ (omega arith) (choice-is (a .n) (a .e) (a .w)) refl
+    put-as (put-on (p1 .bit-checks .ensures) (p2 .option-sum .ensures)) _ _ _
+    (omega (arith, choice-size (a .n))) (choice-is (a .n) (a .e) (a .w)) refl
 
 pub put-choice-spec : {M : Type 1} → statement M
 put-choice-spec =

@@ -2,7 +2,7 @@
 use native.Mathlib.Omega.{arith}
 use borrow.Author.Needs.{needs}
 use Rattle.rules.specs.Circuit.{columnSteps}
-use Rattle.compile.specs.Writing.{columnSize}
+use Rattle.compile.proofs.Columns.{yes-no-size}
 use Rattle.compile.proofs.put_column.Statement.{statement}
 use Rattle.compile.proofs.put_column.Tie as tie
 
@@ -10,10 +10,9 @@ enum-told : tie.Need-enum-told
 enum-told c = search needs
 
 bit-checks-requires : tie.Need-bit-checks-requires
-unfolding columnSize
 bit-checks-requires c κs =
     let a = c .before .before .before .before in
-    let room = rw (c .before .enum-told .given .1) at (a .pre .0) in
+    let room = rw (c .before .enum-told .given .1, yes-no-size) at (a .pre .0) in
     (room, omega arith, omega arith, omega arith)
 
 enum-known-column : tie.Need-enum-known-column
@@ -26,7 +25,6 @@ cast-put-choice c =
     omega arith
 
 put-choice-requires : tie.Need-put-choice-requires
-unfolding columnSize
 put-choice-requires c κs =
     let a = c .before .before .before .before .before in
     let few = rw (c .before .before .column .given .1) at (a .pre .1) in
@@ -43,7 +41,6 @@ cast-put-number c =
     omega arith
 
 put-number-requires : tie.Need-put-number-requires
-unfolding columnSize
 put-number-requires c κs =
     let a = c .before .before .before .before .before in
     let few = rw (c .before .before .column2 .given .1) at (a .pre .1) in
@@ -54,23 +51,21 @@ same-length : tie.Need-same-length
 same-length c = search needs
 
 returns : tie.Need-returns
-unfolding columnSize columnSteps
+unfolding columnSteps
 returns c =
     let b = c .before .before .before .before in
-    rw (b .enum-told .given .1) (c .before .before .bit-checks .ensures)
+    rw (b .enum-told .given .1, yes-no-size) (c .before .before .bit-checks .ensures)
 
 same-length-2 : tie.Need-same-length-2
 same-length-2 c = search needs
 
 returns-2 : tie.Need-returns-2
-unfolding columnSize
 returns-2 c = rw (c .before .before .before .before .before .column .given .1) (c .before .before .put-choice .ensures)
 
 same-length-3 : tie.Need-same-length-3
 same-length-3 c = search needs
 
 returns-3 : tie.Need-returns-3
-unfolding columnSize
 returns-3 c = rw (c .before .before .before .before .before .column2 .given .1) (c .before .before .put-number .ensures)
 
 pub put-column-spec : {M : Type 1} → statement M

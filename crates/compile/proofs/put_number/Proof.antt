@@ -5,12 +5,12 @@ use native.Mathlib.Omega.{arith}
 use borrow.Author.Needs.{needs}
 use Rattle.rules.specs.Circuit.{stepBytes}
 use Rattle.compile.proofs.Puts.{put-on, put-as}
-use Rattle.compile.proofs.Columns.{number-is}
+use Rattle.compile.proofs.Columns.{number-is, number-size}
 use Rattle.compile.proofs.put_number.Statement.{statement}
 use Rattle.compile.proofs.put_number.Tie as tie
 
 put-one-requires : tie.Need-put-one-requires
-put-one-requires c κs = search needs
+put-one-requires c κs = let z = number-size (c .before .before .args .n) in search needs
 
 add-bit-checks : tie.Need-add-bit-checks
 add-bit-checks c = search needs
@@ -19,13 +19,13 @@ add-bit-checks-2 : tie.Need-add-bit-checks-2
 add-bit-checks-2 c = search needs
 
 bit-checks-requires : tie.Need-bit-checks-requires
-bit-checks-requires c κs = search needs
+bit-checks-requires c κs = let z = number-size (c .before .before .before .before .before .before .args .n) in search needs
 
 sub-put-scale : tie.Need-sub-put-scale
 sub-put-scale c = search needs
 
 put-scale-requires : tie.Need-put-scale-requires
-put-scale-requires c κs = search needs
+put-scale-requires c κs = let z = number-size (c .before .before .before .before .before .before .before .before .before .before .args .n) in search needs
 
 add-bit-sum : tie.Need-add-bit-sum
 add-bit-sum c = search needs
@@ -40,7 +40,7 @@ add-bit-sum-3 : tie.Need-add-bit-sum-3
 add-bit-sum-3 c = search needs
 
 bit-sum-requires : tie.Need-bit-sum-requires
-bit-sum-requires c κs = search needs
+bit-sum-requires c κs = let z = number-size (c .before .before .before .before .before .before .before .before .before .before .before .before .before .before .args .n) in search needs
 
 same-length : tie.Need-same-length
 same-length c = search needs
@@ -55,7 +55,7 @@ returns c =
     let a = p1 .before .before .before .args in
     put-as
     (put-on (put-on (put-on (p1 .put-one .ensures) (p2 .bit-checks .ensures)) (p3 .put-scale .ensures)) (p4 .bit-sum .ensures))
-    _ _ _ (omega arith) (number-is (a .n) (a .e) (a .w)) refl
+    _ _ _ (omega (arith, number-size (a .n))) (number-is (a .n) (a .e) (a .w)) refl
 
 pub put-number-spec : {M : Type 1} → statement M
 put-number-spec =

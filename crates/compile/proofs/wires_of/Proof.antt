@@ -1,68 +1,37 @@
--- `compile::wires_of` meets its contract: each arm is one case of the definition. Assumes nothing.
+-- `compile::wires_of` meets its contract: a column's wires are those of its steps of kinds 2 to 5. Assumes nothing.
+use mathlib.Core.Path.{_≡_, ap, _∙_}
+use mathlib.Core.List.{[], _∷_}
 use native.Mathlib.Omega.{arith}
 use borrow.Author.Needs.{needs}
+use Rattle.rules.specs.Columns.{Column}
 use Rattle.rules.specs.Circuit.{wiresOf}
+use Rattle.rules.proofs.Tables.RoomTold.{column-wires}
+use Rattle.columns.specs.Counting.{countsOf}
+use Rattle.columns.specs.Kinds.{fromCode}
+use Rattle.columns.proofs.Sums.{entries, adds, scales, gates, total-one}
+use Rattle.columns.proofs.Taken.{column-small, small-more}
+use Rattle.sizes.specs.Room.{wiresMade}
 use Rattle.compile.proofs.wires_of.Statement.{statement}
 use Rattle.compile.proofs.wires_of.Tie as tie
 
-enum-told : tie.Need-enum-told
-enum-told c = search needs
+wires-one : (k : Column) → wiresMade (countsOf (k ∷ [])) ≡ wiresOf k
+unfolding wiresMade
+wires-one k =
+    omega (arith, total-one entries k, total-one adds k, total-one scales k, total-one gates k, column-wires k)
 
-enum-known-column : tie.Need-enum-known-column
-enum-known-column c = search needs
+counts-of-requires : tie.Need-counts-of-requires
+counts-of-requires c κs = search needs
 
-cast-result : tie.Need-cast-result
-cast-result c =
-    let few = rw (c .before .column .given .1) at (c .before .before .before .pre) in
-    omega arith
-
-mul-result : tie.Need-mul-result
-mul-result c =
-    let few = rw (c .before .column .given .1) at (c .before .before .before .pre) in
-    omega arith
-
-enum-known-column-2 : tie.Need-enum-known-column-2
-enum-known-column-2 c = search needs
-
-cast-result-2 : tie.Need-cast-result-2
-cast-result-2 c =
-    let few = rw (c .before .column2 .given .1) at (c .before .before .before .pre) in
-    omega arith
-
-mul-result-2 : tie.Need-mul-result-2
-mul-result-2 c =
-    let few = rw (c .before .column2 .given .1) at (c .before .before .before .pre) in
-    omega arith
-
-add-result : tie.Need-add-result
-add-result c =
-    let few = rw (c .before .column2 .given .1) at (c .before .before .before .pre) in
-    omega arith
+columns-wires-requires : tie.Need-columns-wires-requires
+columns-wires-requires c κs =
+    let small = column-small (fromCode (c .before .args .column)) (c .before .pre) in
+    rw (c .counts-of .ensures) (small-more (omega arith) small)
 
 returns : tie.Need-returns
-unfolding wiresOf
-returns c = rw (c .enum-told .given .1)
-
-returns-2 : tie.Need-returns-2
-unfolding wiresOf
-returns-2 c = rw (c .before .column .given .1) (omega arith)
-
-returns-3 : tie.Need-returns-3
-unfolding wiresOf
-returns-3 c = rw (c .before .column2 .given .1) (omega arith)
+returns c =
+    c .columns-wires .ensures
+    ∙ ap wiresMade (c .before .counts-of .ensures)
+    ∙ wires-one (fromCode (c .before .before .args .column))
 
 pub wires-of-spec : {M : Type 1} → statement M
-wires-of-spec =
-    tie.close
-    (tie.spec
-    enum-told
-    enum-known-column
-    cast-result
-    mul-result
-    enum-known-column-2
-    cast-result-2
-    mul-result-2
-    add-result
-    returns
-    returns-2
-    returns-3)
+wires-of-spec = tie.close (tie.spec counts-of-requires columns-wires-requires returns)

@@ -1,8 +1,9 @@
--- `compile::write` meets its contract: the sheet's refusal comes first (`refuse-sheet`); a sheet that is read has as
--- many columns as its counts say (`read-counts`). Assumes nothing.
+-- `compile::write` meets its contract: the sheet's refusal comes first (`refuse-sheet`); a sheet that is read comes
+-- to its counts (`reading-counts`). Assumes nothing.
 use mathlib.Core.Path.{sym, _∙_}
 use borrow.Author.Needs.{needs}
-use Rattle.compile.proofs.Answers.{refuse-sheet, read-counts}
+use Rattle.sheet.proofs.Answers.{reading-counts}
+use Rattle.compile.proofs.Answers.{refuse-sheet}
 use Rattle.compile.proofs.write.Statement.{statement}
 use Rattle.compile.proofs.write.Tie as tie
 
@@ -17,7 +18,7 @@ write-read-requires c κs =
     let r = c .before .before in
     let q = r .before .before in
     let a = q .before .before .before in
-    read-counts (a .args .sheet .now) _ (sym (q .read .ensures) ∙ r .reading .given .1)
+    reading-counts (a .args .sheet .now) _ (sym (q .read .ensures) ∙ r .reading .given .1)
 
 enum-known-reading-2 : tie.Need-enum-known-reading-2
 enum-known-reading-2 c = search needs

@@ -1,0 +1,25 @@
+-- `sizes::columns_wires` meets its contract: each count is far from its type's limit. Assumes nothing.
+use mathlib.Core.Path.{refl}
+use borrow.Author.Needs.{needs}
+use Rattle.sizes.specs.Room.{wiresMade}
+use Rattle.sizes.proofs.columns_wires.Statement.{statement}
+use Rattle.sizes.proofs.columns_wires.Tie as tie
+
+add-result : tie.Need-add-result
+add-result c = search needs
+
+add-result-2 : tie.Need-add-result-2
+add-result-2 c = search needs
+
+add-result-3 : tie.Need-add-result-3
+add-result-3 c = search needs
+
+cast-result : tie.Need-cast-result
+cast-result c = search needs
+
+returns : tie.Need-returns
+unfolding wiresMade
+returns c = refl
+
+pub columns-wires-spec : {M : Type 1} → statement M
+columns-wires-spec = tie.close (tie.spec add-result add-result-2 add-result-3 cast-result returns)

@@ -1,0 +1,70 @@
+-- `sizes::steps_size` meets its contract: the bytes of each kind are added up. Assumes nothing.
+use native.Mathlib.Omega.{arith}
+use borrow.Author.Needs.{needs}
+use Rattle.sizes.proofs.Room.{steps-are}
+use Rattle.sizes.proofs.steps_size.Statement.{statement}
+use Rattle.sizes.proofs.steps_size.Tie as tie
+
+kind-size-requires : tie.Need-kind-size-requires
+kind-size-requires c κs = search needs
+
+kind-size-requires-2 : tie.Need-kind-size-requires-2
+kind-size-requires-2 c κs = search needs
+
+add-result : tie.Need-add-result
+add-result c = search needs
+
+kind-size-requires-3 : tie.Need-kind-size-requires-3
+kind-size-requires-3 c κs = search needs
+
+add-result-2 : tie.Need-add-result-2
+add-result-2 c = search needs
+
+kind-size-requires-4 : tie.Need-kind-size-requires-4
+kind-size-requires-4 c κs = search needs
+
+add-result-3 : tie.Need-add-result-3
+add-result-3 c = search needs
+
+kind-size-requires-5 : tie.Need-kind-size-requires-5
+kind-size-requires-5 c κs = search needs
+
+add-result-4 : tie.Need-add-result-4
+add-result-4 c = search needs
+
+kind-size-requires-6 : tie.Need-kind-size-requires-6
+kind-size-requires-6 c κs = search needs
+
+add-result-5 : tie.Need-add-result-5
+add-result-5 c = search needs
+
+returns : tie.Need-returns
+returns c =
+    let f = c .before .before .before .before .before in
+    omega (
+      arith,
+      f .kind-size .ensures .0,
+      c .before .before .before .before .kind-size2 .ensures .0,
+      c .before .before .before .kind-size3 .ensures .0,
+      c .before .before .kind-size4 .ensures .0,
+      c .before .kind-size5 .ensures .0,
+      c .kind-size6 .ensures .0,
+      steps-are (f .before .args .constants) (f .before .args .c),
+    )
+
+pub steps-size-spec : {M : Type 1} → statement M
+steps-size-spec =
+    tie.close
+    (tie.spec
+    kind-size-requires
+    kind-size-requires-2
+    add-result
+    kind-size-requires-3
+    add-result-2
+    kind-size-requires-4
+    add-result-3
+    kind-size-requires-5
+    add-result-4
+    kind-size-requires-6
+    add-result-5
+    returns)

@@ -1,0 +1,2 @@
+-- What the crate's code answers, in the numbers of code.
+pub mod Room

@@ -1,62 +1,42 @@
--- What pool_read_sheet leaves, from the answer of the sheet's reader. A sheet that is read has few of everything.
--- Assumes nothing.
+-- What pool_sizes leaves, from the answer of `sizes::measure`: by the cases of the sheet's refusal. Assumes nothing.
 use mathlib.Core.Path.{_≡_, refl, sym}
+use mathlib.Core.Bool.{Bool, true, false, cond}
 use mathlib.Core.List.{List}
-use Prim.Native.Nat.{ℕ, _≤_}
+use Prim.Native.Nat.{ℕ}
 use native.Mathlib.Omega.{arith}
-use borrow.Author.Tests.{ne-eqb}
-use Rattle.rules.specs.Columns.{columnsOf}
-use Rattle.rules.proofs.Circuits.Refusals.{sheet-fault}
-use Rattle.rules.proofs.Circuits.Limits.{limits}
-use Rattle.columns.specs.declared.Counts.{Counts}
-use Rattle.sheet.specs.declared.Reading.the-variants as answer
-use Rattle.sheet.specs.Reading.{readingOf}
-use Rattle.sheet.proofs.Answers.{reading-refused, reading-counts}
-use Rattle.records.specs.Answers.{ifDone}
-use Rattle.pool_sheets.specs.Calls.{ReadsSheet}
-
-pub record Few (k : Counts) : Type 0 where
-  pub columns-few : k .columns ≤ 256
-  pub entries-few : k .entries ≤ 256
-  pub gates-few : k .gates ≤ 256
-  pub published-few : k .published ≤ 256
+use borrow.Author.Tests.{eqb-true}
+use lib.Dec.{eqb}
+use Rattle.rules.specs.Settings.{document01}
+use Rattle.rules.specs.Columns.{sheetFault}
+use Rattle.rules.specs.Sizes as rules
+use Rattle.sizes.specs.declared.Sizes as code
+use Rattle.sizes.specs.declared.Told.the-variants as answer
+use Rattle.sizes.specs.Room.{inCode, toldOf}
+use Rattle.pool_sheets.specs.Calls.{nine, TellsSizes}
 
 module _ (s : List ℕ) where
-  pub sheet-few : (k : Counts) → readingOf s ≡ answer.Counts k → Few k
-  sheet-few k h =
-      let r = reading-counts s k h in
-      let l = limits s (columnsOf s) (r .0) in
-      rw (r .1) (record {
-        columns-few = omega (arith, l .columns-most, l .entries-most);
-        entries-few = l .entries-most;
-        gates-few = omega (arith, l .gates-most, l .entries-most);
-        published-few = omega (arith, l .published-most, l .entries-most);
-      })
+  pub sizes-refused : (before : rules.Sizes) (n : ℕ) → toldOf s ≡ answer.Refused n → TellsSizes s before n before
+  unfolding toldOf
+  sizes-refused before n = by-fault (eqb (sheetFault s) 0) refl
+    where
+      by-fault : (b : Bool) → eqb (sheetFault s) 0 ≡ b
+          → cond b (answer.Sizes (inCode (rules.sizesOf document01 s))) (answer.Refused (sheetFault s)) ≡ answer.Refused n
+          → TellsSizes s before n before
+      by-fault true e h = let z : _≡_ {A = ℕ} 0 1 = cc in absurd (omega arith)
+      by-fault false e h = let same : sheetFault s ≡ n = cc in record { answer-is = sym same; sizes-are = rw e refl }
 
-  module _ (c e m p : ℕ) where
-    pub sheet-refused : (n : ℕ) → readingOf s ≡ answer.Refused n → ReadsSheet s c e m p n c e m p
-    unfolding ifDone
-    sheet-refused n h =
-        let r = reading-refused s n h in
-        let none = ne-eqb n 0 (r .1) in
-        record {
-          answer-is = sym (r .0);
-          columns-is = rw (r .0, none) refl;
-          entries-is = rw (r .0, none) refl;
-          multiplications-is = rw (r .0, none) refl;
-          published-is = rw (r .0, none) refl;
-        }
-
-    pub sheet-counted : (k : Counts) → readingOf s ≡ answer.Counts k
-        → ReadsSheet s c e m p 0 (k .columns) (k .entries) (k .gates) (k .published)
-    unfolding ifDone
-    sheet-counted k h =
-        let r = reading-counts s k h in
-        let none = sheet-fault s (columnsOf s) (r .0) .0 in
-        rw (r .1) (record {
-          answer-is = sym none;
-          columns-is = rw none refl;
-          entries-is = rw none refl;
-          multiplications-is = rw none refl;
-          published-is = rw none refl;
-        })
+  pub sizes-told : (before : rules.Sizes) (z : code.Sizes) → toldOf s ≡ answer.Sizes z
+      → TellsSizes s before 0
+      (nine (z .columns) (z .entries) (z .published) (z .wires) (z .multiplications) (z .tests) (z .circuit) (z .share) (z .greatest))
+  unfolding toldOf inCode
+  sizes-told before z = by-fault (eqb (sheetFault s) 0) refl
+    where
+      by-fault : (b : Bool) → eqb (sheetFault s) 0 ≡ b
+          → cond b (answer.Sizes (inCode (rules.sizesOf document01 s))) (answer.Refused (sheetFault s)) ≡ answer.Sizes z
+          → TellsSizes s before 0
+          (nine (z .columns) (z .entries) (z .published) (z .wires) (z .multiplications) (z .tests) (z .circuit) (z .share)
+          (z .greatest))
+      by-fault true e h =
+          let same : inCode (rules.sizesOf document01 s) ≡ z = cc in
+          record { answer-is = sym (eqb-true (sheetFault s) 0 e); sizes-are = rw (e, sym same) refl }
+      by-fault false e h = let z : _≡_ {A = ℕ} 0 1 = cc in absurd (omega arith)

@@ -1,22 +1,34 @@
 -- The C functions of whoever writes a sheet. Each promise is an equality with rules' definitions at document 01's setting.
 -- Assumes nothing.
 use mathlib.Core.Path.{_≡_}
+use mathlib.Core.Bool.{cond}
 use mathlib.Core.List.{List}
 use Prim.Native.Nat.{ℕ}
+use lib.Dec.{eqb}
 use lib.ListN.{length}
 use Rattle.records.specs.Answers.{Writes, ifDone}
 use Rattle.rules.specs.Settings.{document01}
-use Rattle.rules.specs.Columns.{sheetFault, columnsOf, entriesIn, publishedIn}
-use Rattle.rules.specs.Circuit.{gatesIn}
+use Rattle.rules.specs.Columns.{sheetFault}
 use Rattle.rules.specs.CircuitReader.{sheetCircuit, sheetCircuitRefusal, circuitFault, countIn, stepWires, stepGates, stepTests}
+use Rattle.rules.specs.Sizes.{Sizes, sizesOf}
 
--- pool_read_sheet: the counts behind the pointers
-pub record ReadsSheet (sheet : List ℕ) (c e m p : ℕ) (r c' e' m' p' : ℕ) : Type 0 where
+-- pool_sizes: the nine numbers behind the pointers, before and after
+abbrev pub nine : ℕ → ℕ → ℕ → ℕ → ℕ → ℕ → ℕ → ℕ → ℕ → Sizes
+nine c e p w m k b s n = record {
+  columns = c;
+  entries = e;
+  published = p;
+  wires = w;
+  multiplications = m;
+  tests = k;
+  circuitBytes = b;
+  shareBytes = s;
+  greatestReturns = n;
+}
+
+pub record TellsSizes (sheet : List ℕ) (before : Sizes) (r : ℕ) (after : Sizes) : Type 0 where
   pub answer-is : r ≡ sheetFault sheet
-  pub columns-is : c' ≡ ifDone (sheetFault sheet) (length (columnsOf sheet)) c
-  pub entries-is : e' ≡ ifDone (sheetFault sheet) (entriesIn (columnsOf sheet)) e
-  pub multiplications-is : m' ≡ ifDone (sheetFault sheet) (gatesIn (columnsOf sheet)) m
-  pub published-is : p' ≡ ifDone (sheetFault sheet) (publishedIn (columnsOf sheet)) p
+  pub sizes-are : after ≡ cond (eqb (sheetFault sheet) 0) (sizesOf document01 sheet) before
 
 -- pool_circuit
 abbrev pub WritesCircuit : List ℕ → List ℕ → ℕ → ℕ → List ℕ → ℕ → Type 0

@@ -2,28 +2,42 @@
 // rules of its own.
 // include/pool.h tells a host how to use them. Each takes any arguments and returns 0 or the number of the refusal; the
 // promises (specs/Calls) are equalities with rules' definitions at document 01's setting.
-ghost use Rattle.pool_sheets.specs.Calls.{ReadsSheet, WritesCircuit, ReadsCircuit};
-use sheet::Reading;
+ghost use Rattle.pool_sheets.specs.Calls.{nine, TellsSizes, WritesCircuit, ReadsCircuit};
+use sizes::Told;
 
 #[no_mangle]
-pub extern "C" fn pool_read_sheet(
+pub extern "C" fn pool_sizes(
     sheet: &[u8],
     columns: &mut u32,
     entries: &mut u32,
-    multiplications: &mut u32,
     published: &mut u32,
+    wires: &mut u32,
+    multiplications: &mut u32,
+    tests: &mut u32,
+    circuit: &mut u32,
+    share: &mut u32,
+    greatest: &mut u32,
 ) -> u32
-    ensures { λ r. ⌜ ReadsSheet (now (sheet .entry))
-        (now (columns .entry)) (now (entries .entry)) (now (multiplications .entry)) (now (published .entry))
-        r (now (columns .exit)) (now (entries .exit)) (now (multiplications .exit)) (now (published .exit)) ⌝ }
+    ensures { λ r. ⌜ TellsSizes (now (sheet .entry))
+        (nine (now (columns .entry)) (now (entries .entry)) (now (published .entry)) (now (wires .entry))
+        (now (multiplications .entry)) (now (tests .entry)) (now (circuit .entry)) (now (share .entry))
+        (now (greatest .entry))) r
+        (nine (now (columns .exit)) (now (entries .exit)) (now (published .exit)) (now (wires .exit))
+        (now (multiplications .exit)) (now (tests .exit)) (now (circuit .exit)) (now (share .exit))
+        (now (greatest .exit))) ⌝ }
 {
-    match sheet::read(sheet) {
-        Reading::Refused(refusal) => refusal,
-        Reading::Counts(counts) => {
-            *columns = counts.columns as u32;
-            *entries = counts.entries as u32;
-            *multiplications = counts.gates as u32;
-            *published = counts.published as u32;
+    match sizes::measure(sheet) {
+        Told::Refused(refusal) => refusal,
+        Told::Sizes(told) => {
+            *columns = told.columns;
+            *entries = told.entries;
+            *published = told.published;
+            *wires = told.wires;
+            *multiplications = told.multiplications;
+            *tests = told.tests;
+            *circuit = told.circuit;
+            *share = told.share;
+            *greatest = told.greatest;
             0
         }
     }

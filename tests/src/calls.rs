@@ -1,9 +1,11 @@
 //! A call as plain data, and carrying it out on the library with every lent buffer between guards.
 
+mod sheets;
+mod tables;
+
 use second::gen::Rng;
 
-use crate::c;
-use crate::guard::{word32, word_size, Lent, Word};
+use crate::guard::{Lent, Word};
 
 /// The functions of pool.h.
 #[derive(Clone, Copy, Debug, PartialEq, Eq, PartialOrd, Ord)]
@@ -95,179 +97,6 @@ impl Call {
             Function::Join => self.join(rng),
         }
     }
-
-    fn read_sheet(&self, rng: &mut Rng) -> Result<Outcome, String> {
-        let sheet = Lent::of("sheet", &self.sheet, rng);
-        let names = ["columns", "entries", "multiplications", "published"];
-        let mut words = names.map(|name| word32(name, rng));
-        let [w0, w1, w2, w3] = &mut words;
-        let (p0, p1, p2, p3) = (w0.pointer(), w1.pointer(), w2.pointer(), w3.pointer());
-        let answer = unsafe { c::pool_read_sheet(sheet.pointer(), sheet.length(), p0, p1, p2, p3) };
-        sheet.kept()?;
-        numbers(answer, &words)
-    }
-
-    fn circuit(&self, rng: &mut Rng) -> Result<Outcome, String> {
-        let sheet = Lent::of("sheet", &self.sheet, rng);
-        let mut out = Lent::room("out", self.room, rng);
-        let mut written = word_size("written", rng);
-        let (to, room) = (out.pointer_mut(), out.length());
-        let answer = unsafe { c::pool_circuit(sheet.pointer(), sheet.length(), to, room, written.pointer()) };
-        sheet.kept()?;
-        wrote(answer, &out, &written, &[])
-    }
-
-    fn read_circuit(&self, rng: &mut Rng) -> Result<Outcome, String> {
-        let circuit = Lent::of("circuit", &self.message, rng);
-        let mut words = ["wires", "multiplications", "tests"].map(|name| word32(name, rng));
-        let [w0, w1, w2] = &mut words;
-        let (p0, p1, p2) = (w0.pointer(), w1.pointer(), w2.pointer());
-        let (from, length) = (circuit.pointer(), circuit.length());
-        let answer = unsafe { c::pool_read_circuit(self.entries, from, length, p0, p1, p2) };
-        circuit.kept()?;
-        numbers(answer, &words)
-    }
-
-    fn make(&self, rng: &mut Rng) -> Result<Outcome, String> {
-        let sheet = Lent::of("sheet", &self.sheet, rng);
-        let values = Lent::of("values", &self.values, rng);
-        let random = Lent::of("random", &self.random, rng);
-        let mut out = Lent::room("out", self.room, rng);
-        let mut written = word_size("written", rng);
-        let answer = unsafe {
-            c::pool_make(
-                sheet.pointer(),
-                sheet.length(),
-                self.servers,
-                self.id,
-                values.pointer(),
-                values.length(),
-                random.pointer(),
-                random.length(),
-                out.pointer_mut(),
-                out.length(),
-                written.pointer(),
-            )
-        };
-        sheet.kept()?;
-        values.kept()?;
-        random.kept()?;
-        wrote(answer, &out, &written, &[])
-    }
-
-    fn open(&self, rng: &mut Rng) -> Result<Outcome, String> {
-        let sheet = Lent::of("sheet", &self.sheet, rng);
-        let mut table = Lent::room("table", self.room, rng);
-        let mut written = word_size("written", rng);
-        let answer = unsafe {
-            c::pool_open(
-                self.servers,
-                self.own,
-                sheet.pointer(),
-                sheet.length(),
-                self.returns,
-                table.pointer_mut(),
-                table.length(),
-                written.pointer(),
-            )
-        };
-        sheet.kept()?;
-        wrote(answer, &table, &written, &[])
-    }
-
-    fn share(&self, rng: &mut Rng) -> Result<Outcome, String> {
-        let mut table = Lent::of("table", &self.table, rng);
-        let message = Lent::of("message", &self.message, rng);
-        let mut out = Lent::room("out", self.room, rng);
-        let mut written = word_size("written", rng);
-        let answer = unsafe {
-            c::pool_share(
-                table.pointer_mut(),
-                table.length(),
-                message.pointer(),
-                message.length(),
-                self.r,
-                self.s,
-                out.pointer_mut(),
-                out.length(),
-                written.pointer(),
-            )
-        };
-        message.kept()?;
-        on_table(&table, wrote(answer, &out, &written, &[])?)
-    }
-
-    fn round_one(&self, rng: &mut Rng) -> Result<Outcome, String> {
-        let mut table = Lent::of("table", &self.table, rng);
-        let joined = Lent::of("joined", &self.message, rng);
-        let mut out = Lent::room("out", self.room, rng);
-        let mut written = word_size("written", rng);
-        let answer = unsafe {
-            c::pool_round_one(
-                table.pointer_mut(),
-                table.length(),
-                joined.pointer(),
-                joined.length(),
-                out.pointer_mut(),
-                out.length(),
-                written.pointer(),
-            )
-        };
-        joined.kept()?;
-        on_table(&table, wrote(answer, &out, &written, &[])?)
-    }
-
-    fn round_two(&self, rng: &mut Rng) -> Result<Outcome, String> {
-        let mut table = Lent::of("table", &self.table, rng);
-        let joined = Lent::of("joined", &self.message, rng);
-        let mut accepted = word32("accepted", rng);
-        let (at, length) = (table.pointer_mut(), table.length());
-        let (from, size) = (joined.pointer(), joined.length());
-        let answer = unsafe { c::pool_round_two(at, length, from, size, accepted.pointer()) };
-        joined.kept()?;
-        on_table(&table, numbers(answer, &[accepted])?)
-    }
-
-    fn drop(&self, rng: &mut Rng) -> Result<Outcome, String> {
-        let mut table = Lent::of("table", &self.table, rng);
-        let answer = unsafe { c::pool_drop(table.pointer_mut(), table.length()) };
-        on_table(&table, numbers(answer, &[])?)
-    }
-
-    fn close(&self, rng: &mut Rng) -> Result<Outcome, String> {
-        let mut table = Lent::of("table", &self.table, rng);
-        let mut out = Lent::room("out", self.room, rng);
-        let mut written = word_size("written", rng);
-        let (at, length) = (table.pointer_mut(), table.length());
-        let (to, room) = (out.pointer_mut(), out.length());
-        let answer = unsafe { c::pool_close(at, length, to, room, written.pointer()) };
-        on_table(&table, wrote(answer, &out, &written, &[])?)
-    }
-
-    fn join(&self, rng: &mut Rng) -> Result<Outcome, String> {
-        let sheet = Lent::of("sheet", &self.sheet, rng);
-        let joined = Lent::of("joined", &self.message, rng);
-        let mut out = Lent::room("out", self.room, rng);
-        let mut accepted = word32("accepted", rng);
-        let mut written = word_size("written", rng);
-        let answer = unsafe {
-            c::pool_join(
-                self.servers,
-                sheet.pointer(),
-                sheet.length(),
-                self.returns,
-                joined.pointer(),
-                joined.length(),
-                out.pointer_mut(),
-                out.length(),
-                accepted.pointer(),
-                written.pointer(),
-            )
-        };
-        sheet.kept()?;
-        joined.kept()?;
-        wrote(answer, &out, &written, &[accepted])
-    }
 }
 
 /// The answer of a call whose results are numbers.
@@ -294,18 +123,6 @@ fn wrote(answer: u32, out: &Lent, written: &Word<usize>, words: &[Word<u32>]) ->
             }
             out.kept_past(length)?;
             done.bytes = out.bytes(length).to_vec();
-        }
-    }
-    Ok(outcome)
-}
-
-/// Adds the table after the call; a refused call leaves it as it was.
-fn on_table(table: &Lent, mut outcome: Outcome) -> Result<Outcome, String> {
-    match &mut outcome {
-        Err(_) => table.kept()?,
-        Ok(done) => {
-            table.kept_past(table.length())?;
-            done.table = table.bytes(table.length()).to_vec();
         }
     }
     Ok(outcome)

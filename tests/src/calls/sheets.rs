@@ -1,0 +1,93 @@
+//! Carrying out the calls on a sheet or a circuit, and joining.
+
+use second::gen::Rng;
+
+use super::{numbers, wrote, Call, Outcome};
+use crate::c;
+use crate::guard::{word32, word_size, Lent};
+
+impl Call {
+    pub(super) fn read_sheet(&self, rng: &mut Rng) -> Result<Outcome, String> {
+        let sheet = Lent::of("sheet", &self.sheet, rng);
+        let names = ["columns", "entries", "multiplications", "published"];
+        let mut words = names.map(|name| word32(name, rng));
+        let [w0, w1, w2, w3] = &mut words;
+        let (p0, p1, p2, p3) = (w0.pointer(), w1.pointer(), w2.pointer(), w3.pointer());
+        let answer = unsafe { c::pool_read_sheet(sheet.pointer(), sheet.length(), p0, p1, p2, p3) };
+        sheet.kept()?;
+        numbers(answer, &words)
+    }
+
+    pub(super) fn circuit(&self, rng: &mut Rng) -> Result<Outcome, String> {
+        let sheet = Lent::of("sheet", &self.sheet, rng);
+        let mut out = Lent::room("out", self.room, rng);
+        let mut written = word_size("written", rng);
+        let (to, room) = (out.pointer_mut(), out.length());
+        let answer = unsafe { c::pool_circuit(sheet.pointer(), sheet.length(), to, room, written.pointer()) };
+        sheet.kept()?;
+        wrote(answer, &out, &written, &[])
+    }
+
+    pub(super) fn read_circuit(&self, rng: &mut Rng) -> Result<Outcome, String> {
+        let circuit = Lent::of("circuit", &self.message, rng);
+        let mut words = ["wires", "multiplications", "tests"].map(|name| word32(name, rng));
+        let [w0, w1, w2] = &mut words;
+        let (p0, p1, p2) = (w0.pointer(), w1.pointer(), w2.pointer());
+        let (from, length) = (circuit.pointer(), circuit.length());
+        let answer = unsafe { c::pool_read_circuit(self.entries, from, length, p0, p1, p2) };
+        circuit.kept()?;
+        numbers(answer, &words)
+    }
+
+    pub(super) fn make(&self, rng: &mut Rng) -> Result<Outcome, String> {
+        let sheet = Lent::of("sheet", &self.sheet, rng);
+        let values = Lent::of("values", &self.values, rng);
+        let random = Lent::of("random", &self.random, rng);
+        let mut out = Lent::room("out", self.room, rng);
+        let mut written = word_size("written", rng);
+        let answer = unsafe {
+            c::pool_make(
+                sheet.pointer(),
+                sheet.length(),
+                self.servers,
+                self.id,
+                values.pointer(),
+                values.length(),
+                random.pointer(),
+                random.length(),
+                out.pointer_mut(),
+                out.length(),
+                written.pointer(),
+            )
+        };
+        sheet.kept()?;
+        values.kept()?;
+        random.kept()?;
+        wrote(answer, &out, &written, &[])
+    }
+
+    pub(super) fn join(&self, rng: &mut Rng) -> Result<Outcome, String> {
+        let sheet = Lent::of("sheet", &self.sheet, rng);
+        let joined = Lent::of("joined", &self.message, rng);
+        let mut out = Lent::room("out", self.room, rng);
+        let mut accepted = word32("accepted", rng);
+        let mut written = word_size("written", rng);
+        let answer = unsafe {
+            c::pool_join(
+                self.servers,
+                sheet.pointer(),
+                sheet.length(),
+                self.returns,
+                joined.pointer(),
+                joined.length(),
+                out.pointer_mut(),
+                out.length(),
+                accepted.pointer(),
+                written.pointer(),
+            )
+        };
+        sheet.kept()?;
+        joined.kept()?;
+        wrote(answer, &out, &written, &[accepted])
+    }
+}

@@ -1,11 +1,11 @@
-//! A second program for the figures pool of document 01, written from the paper
-//! alone.
+//! A second program for the figures pool of document 01 and the further calls of
+//! document 02, written from the papers alone.
 //!
 //! Three forms of the same rules live here:
 //!
 //! * the plain form, one module for each part of the paper: [`field`], [`sheet`],
-//!   [`mod@circuit`], [`values`], [`making`], [`judging`], [`table`], [`joining`]
-//!   and [`mod@recount`];
+//!   [`mod@circuit`], [`mod@sizes`], [`values`], [`making`], [`judging`], [`table`],
+//!   [`joining`] and [`mod@recount`];
 //! * the fast form, [`fast`], with the same calls and the same answers;
 //! * the lent form, [`lent`], with the calls on a table in bytes that the host lends.
 //!
@@ -30,6 +30,7 @@ pub mod making;
 pub mod recount;
 pub mod refusal;
 pub mod sheet;
+pub mod sizes;
 pub mod table;
 pub mod values;
 
@@ -38,4 +39,5 @@ pub use joining::{join, Joined};
 pub use making::make;
 pub use recount::recount;
 pub use sheet::{Column, Sheet};
+pub use sizes::{sizes, Sizes};
 pub use table::{close, drop, open, round_one, round_two, share, Stage, Table, Verdict};

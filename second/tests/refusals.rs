@@ -159,6 +159,7 @@ fn any_bytes_at_every_call() {
         let bytes = rng.bytes(length);
         let (r, s) = (rng.next_u64(), rng.next_u64());
         let number = rng.next_u64() as u32;
+        let _ = second::sizes(&bytes);
         let _ = second::circuit(&bytes, ROOM);
         let _ = second::read_circuit(number % 300, &bytes);
         let _ = second::recount(&bytes);

@@ -1,17 +1,20 @@
-//! Single calls that no table takes part in: sheet to circuit, reading a circuit, making,
-//! opening, joining and recount.
+//! Single calls that no table takes part in: sizes, sheet to circuit, reading a circuit,
+//! making, opening, joining and recount.
 
 mod random;
 
 use crate::circuit::{circuit, read_circuit, Circuit};
 use crate::joining::{join, Joined};
 use crate::recount::recount;
+use crate::sizes::{sizes, Sizes};
 use crate::{fast, making, table};
 
 /// One call with its arguments.
 #[derive(Clone, Debug, PartialEq, Eq)]
 #[allow(missing_docs)]
 pub enum Case {
+    /// What a sheet comes to.
+    Sizes { sheet: Vec<u8> },
     /// Sheet to circuit.
     Circuit { sheet: Vec<u8>, room: usize },
     /// Reading a circuit.
@@ -48,6 +51,8 @@ pub enum Case {
 #[derive(Clone, Debug, PartialEq, Eq)]
 #[allow(missing_docs)]
 pub enum CaseAnswer {
+    /// What a sheet comes to.
+    Sizes(Sizes),
     /// The bytes written by sheet to circuit or by making.
     Bytes(Vec<u8>),
     /// A circuit was read, with these counts.
@@ -109,6 +114,7 @@ impl Case {
     /// The answer of a form; the forms differ in making and opening alone.
     fn answer<T>(&self, make: Make, open: Open<T>) -> CaseAnswer {
         let answer = match self {
+            Case::Sizes { sheet } => sizes(sheet).map(CaseAnswer::Sizes),
             Case::Circuit { sheet, room } => circuit(sheet, *room).map(CaseAnswer::Bytes),
             Case::ReadCircuit { entries, bytes } => read_circuit(*entries, bytes).map(counts),
             Case::Make {

@@ -10,14 +10,21 @@ use crate::sheet::Sheet;
 impl Case {
     /// A random case: half of them good, the rest with one fault or more.
     pub fn random(rng: &mut Rng) -> Case {
-        match rng.below(6) {
-            0 => Case::random_circuit(rng),
-            1 => Case::random_read_circuit(rng),
-            2 => Case::random_make(rng),
-            3 => Case::random_open(rng),
-            4 => Case::random_join(rng),
+        match rng.below(7) {
+            0 => Case::random_sizes(rng),
+            1 => Case::random_circuit(rng),
+            2 => Case::random_read_circuit(rng),
+            3 => Case::random_make(rng),
+            4 => Case::random_open(rng),
+            5 => Case::random_join(rng),
             _ => Case::random_recount(rng),
         }
+    }
+
+    /// What a sheet comes to.
+    pub fn random_sizes(rng: &mut Rng) -> Case {
+        let sheet = any_sheet(rng, 256, 40);
+        Case::Sizes { sheet }
     }
 
     /// Sheet to circuit.

@@ -5,6 +5,7 @@
  * sees one share, which alone says nothing. The servers check the form of a return together, in two rounds of short
  * messages, add up what they accept, and publish totals.
  *
+ *     every party       pool_sizes -----> what the sheet comes to, and so the length of every buffer
  *     workshop          pool_make ------> S share messages, one for each server
  *     each server       pool_open         once: a table
  *                       pool_share ------> its round-one message (14 bytes)    } for each return
@@ -94,18 +95,18 @@ extern "C" {
 #define POOL_CHOICE 18
 #define POOL_NUMBER 19
 
-/* Sizes of buffers, in bytes, from S (2 to 8) and a sheet's entries, multiplications and published entries. */
-#define POOL_SHARE_ELEMENTS(entries, multiplications) ((size_t)(entries) + 2 * (size_t)(multiplications) + 6)
-#define POOL_SHARE_BYTES(entries, multiplications) (6 + 4 * POOL_SHARE_ELEMENTS(entries, multiplications))
-#define POOL_RANDOM_BYTES(servers, entries, multiplications) \
-    (4 * (((size_t)(servers) - 1) * POOL_SHARE_ELEMENTS(entries, multiplications) + 4))
-#define POOL_MAKE_BYTES(servers, entries, multiplications) ((size_t)(servers) * POOL_SHARE_BYTES(entries, multiplications))
+/*
+ * Sizes of buffers, in bytes, from S (2 to 8), N and what pool_sizes tells of the sheet: its columns, published entries and
+ * share_bytes. A circuit has circuit_bytes, a share message share_bytes.
+ */
+#define POOL_VALUES_BYTES(columns) (4 * (size_t)(columns))
+#define POOL_RANDOM_BYTES(servers, share_bytes) (((size_t)(servers) - 1) * ((size_t)(share_bytes) - 6) + 16)
+#define POOL_MAKE_BYTES(servers, share_bytes) ((size_t)(servers) * (size_t)(share_bytes))
 #define POOL_ROUND_BYTES 14
 #define POOL_TOTALS_BYTES(published) (6 + 4 * (size_t)(published))
 #define POOL_JOIN_BYTES(published) (4 * (size_t)(published))
-#define POOL_TABLE_BYTES(sheet_len, entries, multiplications, published, returns)                             \
-    (12 + (size_t)(sheet_len) + 4 * (size_t)(published) + 4 * (size_t)(returns) + 28                         \
-     + 4 * POOL_SHARE_ELEMENTS(entries, multiplications))
+#define POOL_TABLE_BYTES(sheet_len, published, share_bytes, returns) \
+    (12 + (size_t)(sheet_len) + 4 * (size_t)(published) + 4 * (size_t)(returns) + 28 + (size_t)(share_bytes) - 6)
 
 /* Sizes that are enough for every sheet and S. */
 #define POOL_MAX_SHEET_BYTES 256
@@ -119,14 +120,26 @@ extern "C" {
 #define POOL_MAX_TABLE_BYTES 8512
 
 /*
- * Reads a sheet and counts: its columns, entries, multiplications M, and published entries.
+ * Tells what a sheet comes to, from its bytes alone and without building its circuit. A host calls it once for a sheet: with
+ * S and N the results give the length of every buffer (see above). An author learns what a new sheet will cost.
+ *     columns            the questions: a return has one value for each
+ *     entries            L, the numbers that a return is encoded as
+ *     published          the entries whose totals are published
+ *     wires              of the circuit that pool_circuit writes, wire 0 too
+ *     multiplications    M of this circuit: r is above it
+ *     tests              K of this circuit
+ *     circuit_bytes      the length of this circuit
+ *     share_bytes        the length of one share message
+ *     greatest_returns   the greatest N that pool_open takes with this sheet: 1,024, or less where numbers are long
  * Refusals: 1 or 2 by the first column at fault; 2 for no entries or more than 256.
  */
-uint32_t pool_read_sheet(const uint8_t *sheet, size_t sheet_len,
-                         uint32_t *columns, uint32_t *entries, uint32_t *multiplications, uint32_t *published);
+uint32_t pool_sizes(const uint8_t *sheet, size_t sheet_len,
+                    uint32_t *columns, uint32_t *entries, uint32_t *published,
+                    uint32_t *wires, uint32_t *multiplications, uint32_t *tests,
+                    uint32_t *circuit_bytes, uint32_t *share_bytes, uint32_t *greatest_returns);
 
 /*
- * Writes the circuit of a sheet.
+ * Writes the circuit of a sheet, circuit_bytes.
  * Refusals: the sheet's, 14.
  */
 uint32_t pool_circuit(const uint8_t *sheet, size_t sheet_len, uint8_t *out, size_t out_len, size_t *written);
@@ -140,9 +153,9 @@ uint32_t pool_read_circuit(uint32_t entries, const uint8_t *circuit, size_t circ
                            uint32_t *wires, uint32_t *multiplications, uint32_t *tests);
 
 /*
- * Makes a return: writes the S share messages one after another in server order, POOL_SHARE_BYTES each.
+ * Makes a return: writes the S share messages one after another in server order, share_bytes each: POOL_MAKE_BYTES.
  *     id        any number, given to one return only
- *     values    4 bytes for each column, in the order of the sheet
+ *     values    POOL_VALUES_BYTES: 4 bytes for each column, in the order of the sheet
  *     random    POOL_RANDOM_BYTES of random elements, each drawn evenly below p, never used twice
  * Refusals: the sheet's, 2 for S, 5, 6, 14.
  */
@@ -151,7 +164,8 @@ uint32_t pool_make(const uint8_t *sheet, size_t sheet_len, uint32_t servers, uin
                    uint8_t *out, size_t out_len, size_t *written);
 
 /*
- * Opens a table of server `own` (0 to S - 1) for `returns` decided returns (N, 1 to 1,024): writes POOL_TABLE_BYTES.
+ * Opens a table of server `own` (0 to S - 1) for `returns` decided returns (N, 1 to 1,024): writes POOL_TABLE_BYTES. An N above
+ * the sheet's greatest_returns is refused.
  * Refusals: 2 for S, 2 for the own number, the sheet's, 2 for N, 4, 14.
  */
 uint32_t pool_open(uint32_t servers, uint32_t own, const uint8_t *sheet, size_t sheet_len, uint32_t returns,
@@ -195,7 +209,7 @@ uint32_t pool_close(uint8_t *table, size_t table_len, uint8_t *out, size_t out_l
 
 /*
  * Joins the S totals messages, in server order, of tables opened with this S, sheet and N: *accepted is the count of
- * accepted returns, and the totals of the published entries are written as elements in entry order.
+ * accepted returns, and the totals of the published entries are written as elements in entry order, POOL_JOIN_BYTES.
  * Refusals: 2 for S, the sheet's, 2 for N, 4, 12, 14.
  */
 uint32_t pool_join(uint32_t servers, const uint8_t *sheet, size_t sheet_len, uint32_t returns,

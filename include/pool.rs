@@ -3,13 +3,18 @@
 
 #[link(name = "pool", kind = "static")]
 extern "C" {
-    pub fn pool_read_sheet(
+    pub fn pool_sizes(
         sheet: *const u8,
         sheet_len: usize,
         columns: *mut u32,
         entries: *mut u32,
-        multiplications: *mut u32,
         published: *mut u32,
+        wires: *mut u32,
+        multiplications: *mut u32,
+        tests: *mut u32,
+        circuit_bytes: *mut u32,
+        share_bytes: *mut u32,
+        greatest_returns: *mut u32,
     ) -> u32;
 
     pub fn pool_circuit(sheet: *const u8, sheet_len: usize, out: *mut u8, out_len: usize, written: *mut usize) -> u32;

@@ -9,7 +9,7 @@
 
 #include "host.h"
 
-enum { SERVERS = 3, RETURNS = 16, COLUMNS = 3, PUBLISHED = 6, MAX_RANDOM_BYTES = 4096 };
+enum { SERVERS = 3, RETURNS = 16, COLUMNS = 3, PUBLISHED = 6 };
 
 static const uint8_t sheet[] = {POOL_YES_NO, POOL_CHOICE, 4, POOL_NUMBER, 8};
 
@@ -39,11 +39,10 @@ static const struct workshop {
 };
 enum { WORKSHOPS = sizeof workshops / sizeof workshops[0] };
 
-/* What every party reads from the sheet. */
+/* What the sheet comes to: every party asks once. */
 static struct {
-    uint32_t columns, entries, multiplications, published;
-    size_t share; /* bytes of a share message */
-} counts;
+    uint32_t columns, entries, published, wires, multiplications, tests, circuit_bytes, share_bytes, greatest_returns;
+} sizes;
 
 /* A server has its table, and the last message that it wrote. */
 static struct server {
@@ -55,9 +54,14 @@ static struct server {
 
 static void read_sheet(void)
 {
-    host_must("pool_read_sheet", pool_read_sheet(sheet, sizeof sheet, &counts.columns, &counts.entries,
-                                                 &counts.multiplications, &counts.published));
-    counts.share = POOL_SHARE_BYTES(counts.entries, counts.multiplications);
+    host_must("pool_sizes", pool_sizes(sheet, sizeof sheet, &sizes.columns, &sizes.entries, &sizes.published,
+                                       &sizes.wires, &sizes.multiplications, &sizes.tests, &sizes.circuit_bytes,
+                                       &sizes.share_bytes, &sizes.greatest_returns));
+    printf("The sheet: %u questions, %u entries, %u totals; a circuit of %u wires, %u multiplications and %u tests.\n",
+           (unsigned)sizes.columns, (unsigned)sizes.entries, (unsigned)sizes.published, (unsigned)sizes.wires,
+           (unsigned)sizes.multiplications, (unsigned)sizes.tests);
+    printf("A share has %u bytes, and a pool takes at most %u returns.\n", (unsigned)sizes.share_bytes,
+           (unsigned)sizes.greatest_returns);
 }
 
 static void open_servers(void)
@@ -67,13 +71,11 @@ static void open_servers(void)
                                          sizeof servers[i].table, &servers[i].table_len));
 }
 
-/* The workshop: makes its return. The share of server i begins at shares + i * counts.share. */
+/* The workshop: makes its return. The share of server i begins at shares + i * sizes.share_bytes. */
 static void make(uint32_t id, const uint32_t values[COLUMNS], uint8_t *shares, size_t shares_len)
 {
-    uint8_t value_bytes[4 * COLUMNS], random[MAX_RANDOM_BYTES];
-    size_t random_len = POOL_RANDOM_BYTES(SERVERS, counts.entries, counts.multiplications), written;
-    if (random_len > sizeof random)
-        host_must("random numbers", POOL_ROOM);
+    uint8_t value_bytes[POOL_VALUES_BYTES(COLUMNS)], random[POOL_MAX_RANDOM_BYTES];
+    size_t random_len = POOL_RANDOM_BYTES(SERVERS, sizes.share_bytes), written;
     for (int k = 0; k < COLUMNS; k++)
         host_put_u32(value_bytes + 4 * k, values[k]);
     host_elements(random, random_len);
@@ -102,11 +104,11 @@ static size_t join_messages(uint8_t *joined)
 /* Every server takes its share. The challenges are drawn now: the workshop could not know them. */
 static void take_shares(const uint8_t *shares)
 {
-    uint64_t r = host_challenge(counts.multiplications), s = host_element();
+    uint64_t r = host_challenge(sizes.multiplications), s = host_element();
     for (size_t i = 0; i < SERVERS; i++) {
         struct server *v = &servers[i];
-        host_must("pool_share", pool_share(v->table, v->table_len, shares + i * counts.share, counts.share, r, s,
-                                           v->message, sizeof v->message, &v->message_len));
+        host_must("pool_share", pool_share(v->table, v->table_len, shares + i * sizes.share_bytes, sizes.share_bytes,
+                                           r, s, v->message, sizeof v->message, &v->message_len));
     }
 }
 
@@ -151,7 +153,7 @@ static int handle(uint32_t id, const struct workshop *w)
         alter(shares);
     printf("  %-7s", w->name);
     for (size_t i = 0; i < SERVERS; i++)
-        printf(" %11u", (unsigned)host_u32(shares + i * counts.share + 6));
+        printf(" %11u", (unsigned)host_u32(shares + i * sizes.share_bytes + 6));
     take_shares(shares);
     round_one();
     if (w->conduct == UNFINISHED) {
@@ -175,7 +177,7 @@ static void add_plain(const struct workshop *w, uint32_t sums[PUBLISHED])
 /* Closes every server and joins the totals. Gives the count of accepted returns. */
 static uint32_t close_and_join(uint32_t totals[PUBLISHED])
 {
-    uint8_t joined[SERVERS * POOL_MAX_TOTALS_BYTES], out[4 * PUBLISHED];
+    uint8_t joined[SERVERS * POOL_MAX_TOTALS_BYTES], out[POOL_JOIN_BYTES(PUBLISHED)];
     uint32_t accepted;
     size_t written;
     for (struct server *v = servers; v < servers + SERVERS; v++)
@@ -194,8 +196,7 @@ int main(void)
     uint32_t plain[PUBLISHED] = {0}, totals[PUBLISHED], plain_count = 0;
     read_sheet();
     open_servers();
-    printf("%d workshops answer a sheet of %u questions. Each splits its return into %d shares, one for each server.\n",
-           WORKSHOPS, (unsigned)counts.columns, SERVERS);
+    printf("%d workshops answer it. Each splits its return into %d shares, one for each server.\n", WORKSHOPS, SERVERS);
     printf("What each server sees of the first answer, and what the servers decide together:\n\n");
     printf("  %-7s %11s %11s %11s\n", "", "server 0", "server 1", "server 2");
     for (uint32_t k = 0; k < WORKSHOPS; k++) {

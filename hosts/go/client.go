@@ -20,7 +20,7 @@ func (c *Client) Make(id uint32, values []uint32) ([][]byte, error) {
 	// Outside these limits nothing is drawn: the core refuses before it looks at random elements.
 	if minServers <= c.Servers && c.Servers <= maxServers {
 		random = make([]byte, c.Sheet.randomBytes(c.Servers))
-		out = make([]byte, int(c.Servers)*c.Sheet.shareBytes())
+		out = make([]byte, c.Sheet.makeBytes(c.Servers))
 	}
 	if err := drawElements(c.Random, random); err != nil {
 		return nil, err
@@ -29,7 +29,7 @@ func (c *Client) Make(id uint32, values []uint32) ([][]byte, error) {
 	if number != 0 {
 		return nil, answer("make", number)
 	}
-	return split(out[:n], c.Sheet.shareBytes()), nil
+	return split(out[:n], c.Sheet.sizes.ShareBytes), nil
 }
 
 // elements writes numbers in 4 bytes each, lowest byte first.

@@ -4,19 +4,13 @@ package pool
 // #cgo LDFLAGS: ${SRCDIR}/../../target/staticlib/libpool.a
 // #include "pool.h"
 //
-// // The sizes of buffers, which the header gives as macros.
-// static size_t share_bytes(uint32_t entries, uint32_t multiplications)
+// // The sizes of buffers, which the header gives as macros of what pool_sizes tells.
+// static size_t random_bytes(uint32_t servers, uint32_t share) { return POOL_RANDOM_BYTES(servers, share); }
+// static size_t make_bytes(uint32_t servers, uint32_t share) { return POOL_MAKE_BYTES(servers, share); }
+// static size_t join_bytes(uint32_t published) { return POOL_JOIN_BYTES(published); }
+// static size_t table_bytes(size_t sheet, uint32_t published, uint32_t share, uint32_t returns)
 // {
-//     return POOL_SHARE_BYTES(entries, multiplications);
-// }
-// static size_t random_bytes(uint32_t servers, uint32_t entries, uint32_t multiplications)
-// {
-//     return POOL_RANDOM_BYTES(servers, entries, multiplications);
-// }
-// static size_t table_bytes(size_t sheet, uint32_t entries, uint32_t multiplications, uint32_t published,
-//                           uint32_t returns)
-// {
-//     return POOL_TABLE_BYTES(sheet, entries, multiplications, published, returns);
+//     return POOL_TABLE_BYTES(sheet, published, share, returns);
 // }
 import "C"
 
@@ -30,27 +24,31 @@ const (
 	maxReturns   = C.POOL_MAX_RETURNS
 	roundBytes   = C.POOL_ROUND_BYTES
 	maxTotals    = C.POOL_MAX_TOTALS_BYTES
-	maxCircuit   = C.POOL_MAX_CIRCUIT_BYTES
 	kindYesNo    = C.POOL_YES_NO
 	kindChoice   = C.POOL_CHOICE
 	kindNumber   = C.POOL_NUMBER
 	elementBytes = 4
 )
 
-// shareBytes is the length of a share message.
-func (s *Sheet) shareBytes() int {
-	return int(C.share_bytes(C.uint32_t(s.entries), C.uint32_t(s.multiplications)))
-}
-
 // randomBytes is the length of the random elements of a return for so many servers.
 func (s *Sheet) randomBytes(servers uint32) int {
-	return int(C.random_bytes(C.uint32_t(servers), C.uint32_t(s.entries), C.uint32_t(s.multiplications)))
+	return int(C.random_bytes(C.uint32_t(servers), C.uint32_t(s.sizes.ShareBytes)))
+}
+
+// makeBytes is the length of the share messages of a return for so many servers.
+func (s *Sheet) makeBytes(servers uint32) int {
+	return int(C.make_bytes(C.uint32_t(servers), C.uint32_t(s.sizes.ShareBytes)))
+}
+
+// joinBytes is the length of the joined totals.
+func (s *Sheet) joinBytes() int {
+	return int(C.join_bytes(C.uint32_t(s.sizes.Published)))
 }
 
 // tableBytes is the length of a table for so many returns.
 func (s *Sheet) tableBytes(returns uint32) int {
-	return int(C.table_bytes(C.size_t(len(s.bytes)), C.uint32_t(s.entries), C.uint32_t(s.multiplications),
-		C.uint32_t(s.published), C.uint32_t(returns)))
+	return int(C.table_bytes(C.size_t(len(s.bytes)), C.uint32_t(s.sizes.Published), C.uint32_t(s.sizes.ShareBytes),
+		C.uint32_t(returns)))
 }
 
 // lend gives the pointer and length of a slice; an empty one has no pointer.
@@ -61,11 +59,13 @@ func lend(b []byte) (*C.uint8_t, C.size_t) {
 	return (*C.uint8_t)(&b[0]), C.size_t(len(b))
 }
 
-func coreReadSheet(sheet []byte) (columns, entries, multiplications, published, answer uint32) {
-	var c, e, m, p C.uint32_t
+func coreSizes(sheet []byte) (sizes Sizes, answer uint32) {
+	var columns, entries, published, wires, multiplications, tests, circuit, share, returns C.uint32_t
 	at, n := lend(sheet)
-	answer = uint32(C.pool_read_sheet(at, n, &c, &e, &m, &p))
-	return uint32(c), uint32(e), uint32(m), uint32(p), answer
+	answer = uint32(C.pool_sizes(at, n, &columns, &entries, &published, &wires, &multiplications, &tests, &circuit,
+		&share, &returns))
+	return Sizes{int(columns), int(entries), int(published), int(wires), int(multiplications), int(tests),
+		int(circuit), int(share), int(returns)}, answer
 }
 
 func coreCircuit(sheet, out []byte) (written int, answer uint32) {

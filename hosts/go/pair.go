@@ -12,7 +12,7 @@ type Pair struct {
 
 // DrawPair draws a server's part of a pair, itself a pair; nil stands for crypto/rand.
 func (s *Sheet) DrawPair(random io.Reader) (Pair, error) {
-	low := uint32(s.multiplications) + 1
+	low := uint32(s.sizes.Multiplications) + 1
 	r, err := drawBelow(random, prime-low)
 	if err != nil {
 		return Pair{}, err
@@ -27,7 +27,7 @@ func (s *Sheet) DrawPair(random io.Reader) (Pair, error) {
 // AddPairs adds the servers' parts, each a pair, to one pair. As soon as one part is drawn evenly and without knowledge
 // of the others, each pair is as likely as any.
 func (s *Sheet) AddPairs(parts ...Pair) Pair {
-	low := uint64(s.multiplications) + 1
+	low := uint64(s.sizes.Multiplications) + 1
 	span := uint64(prime) - low
 	var sum Pair
 	for _, part := range parts {

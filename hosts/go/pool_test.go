@@ -109,9 +109,6 @@ func TestSheet(t *testing.T) {
 	if want := []Column{YesNo(), Choice(3), Number(4)}; !reflect.DeepEqual(sheet.Columns(), want) {
 		t.Errorf("columns %v, want %v", sheet.Columns(), want)
 	}
-	if sheet.Entries() != 9 || sheet.Multiplications() != 8 || sheet.published != 5 {
-		t.Errorf("counts %d, %d, %d", sheet.Entries(), sheet.Multiplications(), sheet.published)
-	}
 	for _, test := range []struct {
 		sheet []byte
 		want  Refusal
@@ -163,7 +160,7 @@ func TestPools(t *testing.T) {
 		limits := []uint32{2, 5, 1024, 2, 2}
 		client := Client{Sheet: sheet, Servers: n}
 		all := openAll(t, n, sheet, 6)
-		plain := make([]uint32, sheet.published)
+		plain := make([]uint32, sheet.Sizes().Published)
 		for id := uint32(0); id < 6; id++ {
 			values := make([]uint32, len(limits))
 			for k, limit := range limits {
@@ -240,7 +237,7 @@ func TestErased(t *testing.T) {
 			if err != nil {
 				t.Fatal(err)
 			}
-			waiting := b[len(b)-28-(sheet.shareBytes()-6):]
+			waiting := b[len(b)-28-(sheet.Sizes().ShareBytes-6):]
 			if got := !bytes.Equal(waiting, make([]byte, len(waiting))); got != want {
 				t.Errorf("%s, server %d: a return in the table: %v, want %v", stage, own, got, want)
 			}

@@ -46,9 +46,22 @@ func (c Column) published() int {
 
 // Sheet is a list of questions that was read and found sound. It does not change.
 type Sheet struct {
-	bytes                               []byte
-	columns                             []Column
-	entries, multiplications, published int
+	bytes   []byte
+	columns []Column
+	sizes   Sizes
+}
+
+// Sizes is what a sheet comes to. It is found from the sheet's bytes alone, without building its circuit.
+type Sizes struct {
+	Columns         int // questions: a return has one value for each
+	Entries         int // L, the numbers that a return is encoded as
+	Published       int // entries whose totals are published
+	Wires           int // of the circuit
+	Multiplications int // M, of the circuit
+	Tests           int // K, of the circuit
+	CircuitBytes    int // length of the circuit
+	ShareBytes      int // length of one share message
+	GreatestReturns int // the greatest N that Open takes with this sheet, at most 1,024
 }
 
 // NewSheet makes a sheet of columns. It refuses what ReadSheet refuses.
@@ -62,17 +75,11 @@ func NewSheet(columns ...Column) (*Sheet, error) {
 
 // ReadSheet reads a sheet's bytes.
 func ReadSheet(b []byte) (*Sheet, error) {
-	columns, entries, multiplications, published, number := coreReadSheet(b)
+	sizes, number := coreSizes(b)
 	if number != 0 {
 		return nil, answer("read sheet", number)
 	}
-	s := &Sheet{
-		bytes:           append([]byte(nil), b...),
-		columns:         make([]Column, 0, columns),
-		entries:         int(entries),
-		multiplications: int(multiplications),
-		published:       int(published),
-	}
+	s := &Sheet{append([]byte(nil), b...), make([]Column, 0, sizes.Columns), sizes}
 	for rest := s.bytes; len(rest) > 0; {
 		c := Column{kind: rest[0]}
 		if c.kind != kindYesNo {
@@ -90,15 +97,12 @@ func (s *Sheet) Bytes() []byte { return append([]byte(nil), s.bytes...) }
 // Columns gives the questions in order.
 func (s *Sheet) Columns() []Column { return append([]Column(nil), s.columns...) }
 
-// Entries is L, the number of entries of a return.
-func (s *Sheet) Entries() int { return s.entries }
-
-// Multiplications is M, the number of multiplications of the sheet's circuit.
-func (s *Sheet) Multiplications() int { return s.multiplications }
+// Sizes tells what the sheet comes to: an author looks at it before the sheet is printed.
+func (s *Sheet) Sizes() Sizes { return s.sizes }
 
 // Circuit gives the sheet's circuit.
 func (s *Sheet) Circuit() ([]byte, error) {
-	out := make([]byte, maxCircuit)
+	out := make([]byte, s.sizes.CircuitBytes)
 	n, number := coreCircuit(s.bytes, out)
 	if number != 0 {
 		return nil, answer("circuit", number)

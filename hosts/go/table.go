@@ -17,7 +17,8 @@ type Table struct {
 	bytes []byte
 }
 
-// Open opens the table of server own (from 0) of so many servers, for at most so many decided returns.
+// Open opens the table of server own (from 0) of so many servers, for at most so many decided returns: N, from 1 to the
+// sheet's Sizes.GreatestReturns.
 func Open(servers, own uint32, sheet *Sheet, returns uint32) (*Table, error) {
 	room := 0
 	// With more returns the core refuses before it looks at the room.

@@ -231,6 +231,12 @@ static void take(int k, const struct result_size *written, uint32_t answer, stru
         memcpy(out->at, l->at, out->len);
 }
 
+static uint32_t sizes_of(const uint8_t *sheet, size_t len, struct sheet_sizes *s)
+{
+    return pool_sizes(sheet, len, &s->columns, &s->entries, &s->published, &s->wires, &s->multiplications, &s->tests,
+                      &s->circuit_bytes, &s->share_bytes, &s->greatest_returns);
+}
+
 /*
  * Whether a table holds zeros where a return would wait. The place follows from the table's header and sheet; the layout
  * stands at the head of crates/rules/specs/Table.antt. What is no whole table does not.
@@ -238,15 +244,14 @@ static void take(int k, const struct result_size *written, uint32_t answer, stru
 static bool holds_no_return(const struct run *table)
 {
     const uint8_t *t = table->at;
-    uint32_t columns, entries, multiplications, published;
+    struct sheet_sizes sizes;
     if (table->len < 12)
         return false;
     size_t returns = t[4] | (size_t)t[5] << 8, sheet_len = t[10] | (size_t)t[11] << 8;
-    if (table->len < 12 + sheet_len ||
-        pool_read_sheet(t + 12, sheet_len, &columns, &entries, &multiplications, &published) != 0)
+    if (table->len < 12 + sheet_len || sizes_of(t + 12, sheet_len, &sizes) != 0)
         return false;
-    size_t end = POOL_TABLE_BYTES(sheet_len, entries, multiplications, published, returns);
-    size_t at = end - 28 - 4 * POOL_SHARE_ELEMENTS(entries, multiplications);
+    size_t end = POOL_TABLE_BYTES(sheet_len, sizes.published, sizes.share_bytes, returns);
+    size_t at = end - 28 - (sizes.share_bytes - 6);
     if (table->len < end)
         return false;
     while (at < end && t[at] == 0)
@@ -287,20 +292,20 @@ static void take_round(int t, struct run *table, int o, const struct result_size
 
 /* The calls */
 
-uint32_t call_read_sheet(const struct run *sheet, struct sheet_counts *counts)
+uint32_t call_sizes(const struct run *sheet, struct sheet_sizes *sizes)
 {
-    begin("pool_read_sheet");
+    begin("pool_sizes");
     int s = lend(sheet);
-    struct result32 c = RESULT32, e = RESULT32, m = RESULT32, p = RESULT32;
-    uint32_t answer = pool_read_sheet(LENT(s), &c.value, &e.value, &m.value, &p.value);
+    struct result32 x[9] = {RESULT32, RESULT32, RESULT32, RESULT32, RESULT32, RESULT32, RESULT32, RESULT32, RESULT32};
+    uint32_t answer = pool_sizes(LENT(s), &x[0].value, &x[1].value, &x[2].value, &x[3].value, &x[4].value,
+                                 &x[5].value, &x[6].value, &x[7].value, &x[8].value);
     answered(answer, SHEET);
     kept(s);
-    check32(&c, answer);
-    check32(&e, answer);
-    check32(&m, answer);
-    check32(&p, answer);
+    for (int k = 0; k < 9; k++)
+        check32(&x[k], answer);
     if (answer == 0)
-        *counts = (struct sheet_counts){c.value, e.value, m.value, p.value};
+        *sizes = (struct sheet_sizes){x[0].value, x[1].value, x[2].value, x[3].value, x[4].value,
+                                      x[5].value, x[6].value, x[7].value, x[8].value};
     return end(answer);
 }
 

@@ -24,8 +24,9 @@ struct run {
     uint8_t at[RUN_BYTES];
 };
 
-struct sheet_counts {
-    uint32_t columns, entries, multiplications, published;
+/* What pool_sizes tells of a sheet. */
+struct sheet_sizes {
+    uint32_t columns, entries, published, wires, multiplications, tests, circuit_bytes, share_bytes, greatest_returns;
 };
 
 struct circuit_counts {
@@ -54,7 +55,7 @@ uint32_t get_u32(const uint8_t *at);
  * The calls. `room` is the length of the output buffer, `extra` the bytes after a table in its buffer. Results are set
  * only where a call is done: a table is then the one after the call, an output run what was written.
  */
-uint32_t call_read_sheet(const struct run *sheet, struct sheet_counts *counts);
+uint32_t call_sizes(const struct run *sheet, struct sheet_sizes *sizes);
 uint32_t call_circuit(const struct run *sheet, size_t room, struct run *out);
 uint32_t call_read_circuit(uint32_t entries, const struct run *circuit, struct circuit_counts *counts);
 uint32_t call_make(const struct run *sheet, uint32_t servers, uint32_t id, const struct run *values,

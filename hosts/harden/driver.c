@@ -19,7 +19,7 @@ enum { MOST_RETURNS = 4 };
 /* The pool that is being played. */
 static struct {
     struct run sheet;
-    struct sheet_counts counts;
+    struct sheet_sizes sizes;
     uint32_t servers, returns;
     struct run tables[POOL_MAX_SERVERS];
     struct run values, random, shares, joined, next;
@@ -116,7 +116,7 @@ static uint32_t wild32(uint32_t sound)
 
 static uint64_t wild64(uint64_t sound)
 {
-    uint64_t m = pool.counts.multiplications;
+    uint64_t m = pool.sizes.multiplications;
     const uint64_t odd[] = {0, m, m + 1, 2 * m, POOL_PRIME - 1, POOL_PRIME, sound + (UINT64_C(1) << 32), UINT64_MAX};
     return random_below(3) == 0 ? odd[random_below(sizeof odd / sizeof odd[0])] : sound;
 }
@@ -161,19 +161,19 @@ static void new_sheet(void)
     if (random_below(64) == 0)
         budget = 256;
     pool.sheet.len = 0;
-    pool.counts.entries = 0;
-    while (pool.counts.entries < budget) {
-        add_column(&pool.sheet, budget - pool.counts.entries);
-        must(call_read_sheet(&pool.sheet, &pool.counts), "a sound sheet is refused");
+    pool.sizes.entries = 0;
+    while (pool.sizes.entries < budget) {
+        add_column(&pool.sheet, budget - pool.sizes.entries);
+        must(call_sizes(&pool.sheet, &pool.sizes), "a sound sheet is refused");
     }
-    if (pool.counts.entries > budget)
+    if (pool.sizes.entries > budget)
         fail("more entries than the columns have");
 }
 
 /* More columns than any sheet may have, with a fault behind them or none. */
 static void long_sheet(void)
 {
-    struct sheet_counts counts;
+    struct sheet_sizes sizes;
     a.len = 65000 + random_below(5000);
     memset(a.at, POOL_YES_NO, a.len);
     uint32_t want = POOL_LIMIT;
@@ -181,29 +181,32 @@ static void long_sheet(void)
         a.at[a.len - 1] = 99;
         want = POOL_KIND;
     }
-    if (call_read_sheet(&a, &counts) != want)
+    if (call_sizes(&a, &sizes) != want)
         fail("the refusal of a long sheet");
 }
 
 static void circuits(void)
 {
     struct circuit_counts counts;
-    struct sheet_counts ignored;
-    must(call_circuit(&pool.sheet, POOL_MAX_CIRCUIT_BYTES, &a), "a sound sheet has no circuit");
-    must(call_circuit(&pool.sheet, a.len, &b), "the room of a circuit");
-    if (call_circuit(&pool.sheet, a.len - 1, &b) != POOL_ROOM)
+    struct sheet_sizes sizes;
+    size_t room = pool.sizes.circuit_bytes;
+    must(call_circuit(&pool.sheet, room, &a), "the room of a circuit");
+    if (a.len != room)
+        fail("the length of a circuit");
+    if (call_circuit(&pool.sheet, room - 1, &b) != POOL_ROOM)
         fail("a circuit in too little room");
-    must(call_read_circuit(pool.counts.entries, &a, &counts), "the circuit of a sheet is refused");
-    if (counts.multiplications != pool.counts.multiplications)
-        fail("the circuit's multiplications");
+    must(call_read_circuit(pool.sizes.entries, &a, &counts), "the circuit of a sheet is refused");
+    if (counts.wires != pool.sizes.wires || counts.multiplications != pool.sizes.multiplications ||
+        counts.tests != pool.sizes.tests)
+        fail("the circuit's counts");
     for (int k = 0; k < 4; k++) {
         copy(&b, &a);
         wild(&b);
-        call_read_circuit(wild32(pool.counts.entries), &b, &counts);
+        call_read_circuit(wild32(pool.sizes.entries), &b, &counts);
         copy(&b, &pool.sheet);
         wild(&b);
-        call_read_sheet(&b, &ignored);
-        call_circuit(&b, wild_room(a.len), &c);
+        call_sizes(&b, &sizes);
+        call_circuit(&b, wild_room(room), &c);
     }
 }
 
@@ -236,22 +239,20 @@ static void new_values(uint32_t *sums)
         sums[published + (kind == POOL_CHOICE ? v : 0)] += kind == POOL_CHOICE ? 1 : v;
         published += kind == POOL_CHOICE ? size : 1;
     }
-    if (published != pool.counts.published)
-        fail("the count of published entries");
+    if (published != pool.sizes.published || pool.values.len != POOL_VALUES_BYTES(pool.sizes.columns))
+        fail("the count of columns or published entries");
 }
 
 static void new_random(void)
 {
-    pool.random.len = POOL_RANDOM_BYTES(pool.servers, pool.counts.entries, pool.counts.multiplications);
+    pool.random.len = POOL_RANDOM_BYTES(pool.servers, pool.sizes.share_bytes);
     for (size_t at = 0; at < pool.random.len; at += 4)
         put_u32(pool.random.at + at, random_below(16) ? random_below(POOL_PRIME) : POOL_PRIME - 1);
 }
 
-static size_t share_bytes(void) { return POOL_SHARE_BYTES(pool.counts.entries, pool.counts.multiplications); }
-
 static void make_return(uint32_t id)
 {
-    size_t room = pool.servers * share_bytes();
+    size_t room = POOL_MAKE_BYTES(pool.servers, pool.sizes.share_bytes);
     for (int k = 0; k < 2; k++) {
         copy(&a, &pool.sheet);
         copy(&b, &pool.values);
@@ -268,10 +269,24 @@ static void make_return(uint32_t id)
 
 /* The servers */
 
+static size_t table_bytes(uint32_t returns)
+{
+    return POOL_TABLE_BYTES(pool.sheet.len, pool.sizes.published, pool.sizes.share_bytes, returns);
+}
+
+/* The greatest N opens, and one more does not. */
+static void greatest_returns(void)
+{
+    uint32_t most = pool.sizes.greatest_returns;
+    must(call_open(POOL_MIN_SERVERS, 0, &pool.sheet, most, table_bytes(most), &out), "the greatest N");
+    if (call_open(POOL_MIN_SERVERS, 0, &pool.sheet, most + 1, table_bytes(most + 1), &out) !=
+        (most == POOL_MAX_RETURNS ? POOL_LIMIT : POOL_WRAP))
+        fail("an N above the greatest");
+}
+
 static void open_tables(void)
 {
-    size_t room = POOL_TABLE_BYTES(pool.sheet.len, pool.counts.entries, pool.counts.multiplications,
-                                   pool.counts.published, pool.returns);
+    size_t room = table_bytes(pool.returns);
     for (uint32_t i = 0; i < pool.servers; i++) {
         copy(&a, &pool.sheet);
         if (random64() % 2)
@@ -305,7 +320,7 @@ static void wild_call(uint32_t i)
     wild(&b);
     switch (random_below(5)) {
     case 0:
-        b.len = share_bytes();
+        b.len = pool.sizes.share_bytes;
         memcpy(b.at, pool.shares.at + i * b.len, b.len);
         wild(&b);
         call_share(&a, extra, &b, wild64(pool.r), wild64(pool.s), wild_room(POOL_ROUND_BYTES), &out);
@@ -320,18 +335,18 @@ static void wild_call(uint32_t i)
         call_drop(&a, extra);
         break;
     case 4:
-        call_close(&a, extra, wild_room(POOL_TOTALS_BYTES(pool.counts.published)), &out);
+        call_close(&a, extra, wild_room(POOL_TOTALS_BYTES(pool.sizes.published)), &out);
         break;
     }
 }
 
 static void take_shares(void)
 {
-    pool.r = pool.counts.multiplications + 1 + random_below(POOL_PRIME - pool.counts.multiplications - 1);
+    pool.r = pool.sizes.multiplications + 1 + random_below(POOL_PRIME - pool.sizes.multiplications - 1);
     pool.s = random_below(POOL_PRIME);
     pool.next.len = 0;
     for (uint32_t i = 0; i < pool.servers; i++) {
-        b.len = share_bytes();
+        b.len = pool.sizes.share_bytes;
         memcpy(b.at, pool.shares.at + i * b.len, b.len);
         must(call_share(&pool.tables[i], some_extra(), &b, pool.r, pool.s, POOL_ROUND_BYTES, &out), "a sound share");
         append(&pool.next, out.at, out.len);
@@ -379,7 +394,7 @@ static void play_return(uint32_t id)
     new_random();
     make_return(id);
     if (conduct == 0) {
-        uint8_t *entry = pool.shares.at + random_below(pool.servers) * share_bytes() + 6;
+        uint8_t *entry = pool.shares.at + random_below(pool.servers) * pool.sizes.share_bytes + 6;
         put_u32(entry, (get_u32(entry) + 1 + random_below(1000)) % POOL_PRIME);
     }
     take_shares();
@@ -398,7 +413,7 @@ static void play_return(uint32_t id)
     if (conduct == 0)
         return;
     pool.accepted++;
-    for (uint32_t k = 0; k < pool.counts.published; k++)
+    for (uint32_t k = 0; k < pool.sizes.published; k++)
         pool.plain[k] += sums[k];
 }
 
@@ -415,12 +430,12 @@ static void wild_join(size_t room)
 
 static void close_and_join(void)
 {
-    size_t room = 4 * (size_t)pool.counts.published;
+    size_t room = POOL_JOIN_BYTES(pool.sizes.published);
     uint32_t accepted = 0;
     pool.next.len = 0;
     for (uint32_t i = 0; i < pool.servers; i++) {
         wild_call(i);
-        must(call_close(&pool.tables[i], some_extra(), POOL_TOTALS_BYTES(pool.counts.published), &out), "closing");
+        must(call_close(&pool.tables[i], some_extra(), POOL_TOTALS_BYTES(pool.sizes.published), &out), "closing");
         append(&pool.next, out.at, out.len);
         wild_call(i);
     }
@@ -430,7 +445,7 @@ static void close_and_join(void)
     must(call_join(pool.servers, &pool.sheet, pool.returns, &pool.joined, room, &accepted, &out), "joining");
     if (accepted != pool.accepted || out.len != room)
         fail("the count of accepted returns");
-    for (uint32_t k = 0; k < pool.counts.published; k++)
+    for (uint32_t k = 0; k < pool.sizes.published; k++)
         if (get_u32(out.at + 4 * k) != pool.plain[k])
             fail("a total is not the plain sum");
 }
@@ -444,6 +459,7 @@ static void play_pool(void)
     circuits();
     pool.servers = POOL_MIN_SERVERS + random_below(POOL_MAX_SERVERS - POOL_MIN_SERVERS + 1);
     pool.returns = MOST_RETURNS + random_below(random_below(8) ? 4 : 100);
+    greatest_returns();
     open_tables();
     for (uint32_t n = random_below(MOST_RETURNS + 1), id = (uint32_t)random64(); n > 0; n--)
         play_return(id++);

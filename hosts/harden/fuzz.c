@@ -20,7 +20,7 @@ static struct {
 } input;
 
 static struct run sheet, tables[SERVERS], values, random_elements, shares, joined[3], message, out;
-static struct sheet_counts counts;
+static struct sheet_sizes sizes;
 static uint32_t before; /* the operation before */
 
 static uint8_t byte(void)
@@ -61,24 +61,24 @@ static void note(uint32_t operation, uint32_t stage, uint32_t answer)
 
 static void make_return(void)
 {
-    size_t each = POOL_SHARE_BYTES(counts.entries, counts.multiplications);
+    size_t each = sizes.share_bytes;
     uint8_t id = byte();
-    values.len = 4 * (size_t)counts.columns;
+    values.len = POOL_VALUES_BYTES(sizes.columns);
     memset(values.at, 0, values.len);
     for (size_t k = 0; k < values.len; k += 4)
         values.at[k] = byte() & 1;
     alter(&values);
-    random_elements.len = POOL_RANDOM_BYTES(SERVERS, counts.entries, counts.multiplications);
+    random_elements.len = POOL_RANDOM_BYTES(SERVERS, sizes.share_bytes);
     for (size_t k = 0; k < random_elements.len; k += 4)
         put_u32(random_elements.at + k, (uint32_t)(k * 2654435761u) % POOL_PRIME);
     alter(&random_elements);
-    note(0, 0, call_make(&sheet, SERVERS, id, &values, &random_elements, SERVERS * each, &shares));
+    note(0, 0, call_make(&sheet, SERVERS, id, &values, &random_elements, POOL_MAKE_BYTES(SERVERS, each), &shares));
 }
 
 static void take_share(uint32_t own)
 {
-    size_t each = POOL_SHARE_BYTES(counts.entries, counts.multiplications);
-    uint32_t r = counts.multiplications + byte(), s = byte(), stage = tables[own].at[1];
+    size_t each = sizes.share_bytes;
+    uint32_t r = sizes.multiplications + byte(), s = byte(), stage = tables[own].at[1];
     message.len = shares.len < SERVERS * each ? 0 : each;
     memcpy(message.at, shares.at + own * each, message.len);
     alter(&message);
@@ -107,19 +107,19 @@ static void take_round(uint32_t own, uint32_t round)
 static void close_table(uint32_t own)
 {
     uint32_t stage = tables[own].at[1];
-    uint32_t answer = call_close(&tables[own], 0, POOL_TOTALS_BYTES(counts.published), &out);
+    uint32_t answer = call_close(&tables[own], 0, POOL_TOTALS_BYTES(sizes.published), &out);
     if (answer == 0 && out.len <= POOL_MAX_TOTALS_BYTES)
-        memcpy(joined[2].at + own * POOL_TOTALS_BYTES(counts.published), out.at, out.len);
+        memcpy(joined[2].at + own * POOL_TOTALS_BYTES(sizes.published), out.at, out.len);
     note(5, stage, answer);
 }
 
 static void join_totals(void)
 {
     uint32_t accepted;
-    message.len = SERVERS * POOL_TOTALS_BYTES(counts.published);
+    message.len = SERVERS * POOL_TOTALS_BYTES(sizes.published);
     memcpy(message.at, joined[2].at, message.len);
     alter(&message);
-    note(6, 0, call_join(SERVERS, &sheet, RETURNS, &message, 4 * (size_t)counts.published, &accepted, &out));
+    note(6, 0, call_join(SERVERS, &sheet, RETURNS, &message, POOL_JOIN_BYTES(sizes.published), &accepted, &out));
 }
 
 static void operate(void)
@@ -158,7 +158,7 @@ static void operate(void)
 static void play(void)
 {
     bytes(&sheet, byte() % 16);
-    if (call_read_sheet(&sheet, &counts) != 0)
+    if (call_sizes(&sheet, &sizes) != 0)
         return;
     for (uint32_t own = 0; own < SERVERS; own++)
         if (call_open(SERVERS, own, &sheet, RETURNS, POOL_MAX_TABLE_BYTES, &tables[own]) != 0)
@@ -204,7 +204,7 @@ int LLVMFuzzerTestOneInput(const uint8_t *data, size_t size)
     switch (byte() % 4) {
     case 0:
         bytes(&sheet, RUN_BYTES / 2);
-        note(7, 0, call_read_sheet(&sheet, &counts));
+        note(7, 0, call_sizes(&sheet, &sizes));
         note(7, 1, call_circuit(&sheet, POOL_MAX_CIRCUIT_BYTES, &out));
         break;
     case 1: {

@@ -22,16 +22,17 @@ enum { SERVERS = 2, RETURNS = 4 };
 static const uint8_t sheet[] = {POOL_YES_NO, POOL_CHOICE, 3, POOL_NUMBER, 4};
 static const uint8_t values[] = {1, 0, 0, 0, 2, 0, 0, 0, 9, 0, 0, 0};
 static uint8_t tables[SERVERS][POOL_MAX_TABLE_BYTES], shares[SERVERS * POOL_MAX_SHARE_BYTES];
-static uint8_t elements[POOL_MAX_SHARE_BYTES * SERVERS], ones[SERVERS * POOL_ROUND_BYTES], twos[sizeof ones];
+static uint8_t elements[POOL_MAX_RANDOM_BYTES], ones[SERVERS * POOL_ROUND_BYTES], twos[sizeof ones];
 static size_t table_len, share_len, random_len, written;
 
 /* Not 0 where a call was refused. */
 static uint32_t prepare(void)
 {
-    uint32_t columns, entries, multiplications, published, refused;
-    refused = pool_read_sheet(sheet, sizeof sheet, &columns, &entries, &multiplications, &published);
-    share_len = POOL_SHARE_BYTES(entries, multiplications);
-    random_len = POOL_RANDOM_BYTES(SERVERS, entries, multiplications);
+    uint32_t columns, entries, published, wires, multiplications, tests, circuit_bytes, share_bytes, most, refused;
+    refused = pool_sizes(sheet, sizeof sheet, &columns, &entries, &published, &wires, &multiplications, &tests,
+                         &circuit_bytes, &share_bytes, &most);
+    share_len = share_bytes;
+    random_len = POOL_RANDOM_BYTES(SERVERS, share_bytes);
     for (size_t k = 0; k < random_len; k++)
         elements[k] = (uint8_t)(k % 4 == 3 ? k % 127 : k * 167);
     refused |= pool_make(sheet, sizeof sheet, SERVERS, 1, values, sizeof values, elements, random_len, shares,

@@ -13,17 +13,18 @@
 
 enum { STACK = 1024 * 1024, PROMISED = 64 * 1024, PAINT = 0xa7, SERVERS = 8, RETURNS = 64 };
 
-static uint8_t sheet[POOL_MAX_SHEET_BYTES], circuit[POOL_MAX_CIRCUIT_BYTES], values[4 * POOL_MAX_ENTRIES];
-static uint8_t elements[4 * 8 * 1024], shares[SERVERS * POOL_MAX_SHARE_BYTES];
+static uint8_t sheet[POOL_MAX_SHEET_BYTES], circuit[POOL_MAX_CIRCUIT_BYTES], values[POOL_MAX_VALUES_BYTES];
+static uint8_t elements[POOL_MAX_RANDOM_BYTES], shares[POOL_MAX_MAKE_BYTES];
 static uint8_t tables[SERVERS][POOL_MAX_TABLE_BYTES], joined[SERVERS * POOL_MAX_TOTALS_BYTES], other[sizeof joined];
-static uint8_t totals[4 * POOL_MAX_ENTRIES];
-static size_t sheet_len, circuit_len, share_len, table_len, joined_len, written;
-static uint32_t columns, entries, multiplications, published, wires, tests, accepted, refused;
+static uint8_t totals[POOL_MAX_JOIN_BYTES];
+static size_t sheet_len, circuit_len, table_len, joined_len, written;
+static uint32_t columns, entries, published, wires, multiplications, tests, circuit_bytes, share_bytes, most;
+static uint32_t accepted, refused;
 
-static void read_sheet(void)
+static void tell_sizes(void)
 {
-    refused |= pool_read_sheet(sheet, sheet_len, &columns, &entries, &multiplications, &published);
-    share_len = POOL_SHARE_BYTES(entries, multiplications);
+    refused |= pool_sizes(sheet, sheet_len, &columns, &entries, &published, &wires, &multiplications, &tests,
+                          &circuit_bytes, &share_bytes, &most);
 }
 
 static void write_circuit(void) { refused |= pool_circuit(sheet, sheet_len, circuit, sizeof circuit, &circuit_len); }
@@ -35,8 +36,8 @@ static void read_circuit(void)
 
 static void make(void)
 {
-    refused |= pool_make(sheet, sheet_len, SERVERS, 1, values, 4 * (size_t)columns, elements,
-                         POOL_RANDOM_BYTES(SERVERS, entries, multiplications), shares, sizeof shares, &written);
+    refused |= pool_make(sheet, sheet_len, SERVERS, 1, values, POOL_VALUES_BYTES(columns), elements,
+                         POOL_RANDOM_BYTES(SERVERS, share_bytes), shares, sizeof shares, &written);
 }
 
 static void open_tables(void)
@@ -48,7 +49,7 @@ static void open_tables(void)
 static void take_shares(void)
 {
     for (size_t i = 0; i < SERVERS; i++)
-        refused |= pool_share(tables[i], table_len, shares + i * share_len, share_len, 123456789, 987654321,
+        refused |= pool_share(tables[i], table_len, shares + i * share_bytes, share_bytes, 123456789, 987654321,
                               joined + i * POOL_ROUND_BYTES, POOL_ROUND_BYTES, &written);
 }
 
@@ -70,7 +71,7 @@ static void drop_share(void)
 {
     for (size_t i = 0; i < SERVERS; i++) {
         refused |= pool_drop(tables[i], table_len);
-        shares[i * share_len + 1] = 2;
+        shares[i * share_bytes + 1] = 2;
     }
 }
 
@@ -122,9 +123,9 @@ static const struct {
     const char *name;
     void (*step)(void);
 } steps[] = {
-    {"read_sheet", read_sheet}, {"circuit", write_circuit}, {"read_circuit", read_circuit}, {"make", make},
-    {"open", open_tables},      {"share", take_shares},     {"drop", drop_share},           {"share", take_again},
-    {"round_one", round_one},   {"round_two", round_two},   {"close", close_tables},        {"join", join},
+    {"sizes", tell_sizes},    {"circuit", write_circuit}, {"read_circuit", read_circuit}, {"make", make},
+    {"open", open_tables},    {"share", take_shares},     {"drop", drop_share},           {"share", take_again},
+    {"round_one", round_one}, {"round_two", round_two},   {"close", close_tables},        {"join", join},
 };
 
 /* Runs every step; gives the number of those that need more than was promised. */

@@ -2,7 +2,7 @@
 use crate::pool;
 use crate::setting::{settings, Setting, ID, RETURNS, ROOM};
 use crate::tables::{Lent, Ours, Table};
-use second::{fast, Sheet};
+use second::{fast, gen, Circuit, Sheet};
 
 struct Count {
     passed: u32,
@@ -28,9 +28,19 @@ fn written(room: usize, call: impl FnOnce(&mut [u8]) -> Result<usize, u32>) -> R
     Ok(out)
 }
 
+// The sizes of a sheet: counted on the circuit, which is built for it.
+fn sizes(sheet: &[u8]) -> Result<[u32; 9], u32> {
+    let s = Sheet::read(sheet)?;
+    let c = Circuit::of(&s);
+    let of_sheet = [s.columns().len(), s.entries(), s.published()];
+    let of_circuit = [c.wires(), c.multiplications(), c.tests(), c.bytes().len()];
+    let of_messages = [s.share_length(), gen::largest_limit(&s) as usize];
+    let all = [&of_sheet[..], &of_circuit, &of_messages].concat();
+    Ok(std::array::from_fn(|k| all[k] as u32))
+}
+
 fn stateless(count: &mut Count, x: &Setting) {
-    let counts = |s: &Sheet| [s.columns().len(), s.entries(), s.multiplications(), s.published()].map(|n| n as u32);
-    count.same("read sheet", x, pool::read_sheet(&x.sheet), Sheet::read(&x.sheet).map(|s| counts(&s)));
+    count.same("sizes", x, pool::sizes(&x.sheet), sizes(&x.sheet));
     for room in [ROOM, 20] {
         let ours = written(room, |out| pool::circuit(&x.sheet, out));
         count.same("circuit", x, ours, fast::circuit(&x.sheet, room));

@@ -11,11 +11,12 @@ fn done<T>(answer: u32, result: T) -> Result<T, u32> {
     }
 }
 
-// Columns, entries, multiplications, published entries.
-pub fn read_sheet(sheet: &[u8]) -> Result<[u32; 4], u32> {
-    let (mut c, mut e, mut m, mut p) = (0, 0, 0, 0);
-    let answer = unsafe { c::pool_read_sheet(sheet.as_ptr(), sheet.len(), &mut c, &mut e, &mut m, &mut p) };
-    done(answer, [c, e, m, p])
+// The nine numbers, in the order of the C function.
+pub fn sizes(sheet: &[u8]) -> Result<[u32; 9], u32> {
+    let mut out = [0; 9];
+    let [c, e, p, w, m, t, b, s, n] = &mut out;
+    let answer = unsafe { c::pool_sizes(sheet.as_ptr(), sheet.len(), c, e, p, w, m, t, b, s, n) };
+    done(answer, out)
 }
 
 pub fn circuit(sheet: &[u8], out: &mut [u8]) -> Result<usize, u32> {

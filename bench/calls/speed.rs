@@ -38,10 +38,11 @@ fn on_table(x: &Setting, call: Call) -> [f64; 3] {
     timing::medians([&mut ours, &mut fast, &mut lent])
 }
 
-fn read_sheet(x: &Setting) -> [f64; 2] {
+// Beside the second program's reading of the sheet.
+fn sizes(x: &Setting) -> [f64; 2] {
     timing::compare(
         &mut || {
-            black_box(pool::read_sheet(black_box(&x.sheet)).expect("read"));
+            black_box(pool::sizes(black_box(&x.sheet)).expect("read"));
         },
         &mut || {
             black_box(Sheet::read(black_box(&x.sheet)).expect("read"));
@@ -86,10 +87,10 @@ fn join(x: &Setting) -> [f64; 2] {
     )
 }
 
-// Reading a sheet and writing its circuit know of no S: they are measured once for a sheet.
+// The sizes of a sheet and its circuit know of no S: they are measured once for a sheet.
 pub fn run(settings: &[Setting]) {
     let two = settings.iter().filter(|x| x.servers == 2);
-    table(two, ["ours", "fast"], &[("read sheet", &read_sheet), ("circuit", &circuit)]);
+    table(two, ["ours", "fast"], &[("sizes", &sizes), ("circuit", &circuit)]);
     println!();
     table(settings.iter(), ["ours", "fast"], &[("make", &make), ("join", &join)]);
     println!();

@@ -1,4 +1,4 @@
-// The sheet reader and the circuit writer as the same loops in Rust.
+// The sheet reader, the sizes of a sheet and the circuit writer as the same loops in Rust.
 const P_LESS_ONE: u32 = 2147483646;
 
 #[derive(Clone, Copy, Default, PartialEq, Debug)]
@@ -69,15 +69,47 @@ pub fn read_sheet(s: &[u8]) -> Result<Counts, u32> {
     }
 }
 
-// The counts behind pointers, as the C function leaves them.
+// Reading alone: the counts that other calls take from a sheet, in the first places.
 #[inline(never)]
-pub fn sheet(s: &[u8], columns: &mut u32, entries: &mut u32, gates: &mut u32, published: &mut u32) -> u32 {
+pub fn reading(s: &[u8], out: &mut [u32; 9]) -> u32 {
     match read_sheet(s) {
         Ok(c) => {
-            *columns = c.columns as u32;
-            *entries = c.entries as u32;
-            *gates = c.gates as u32;
-            *published = c.published as u32;
+            let counts = [c.columns, c.entries, c.published, c.gates, c.tests];
+            out[..5].copy_from_slice(&counts.map(|n| n as u32));
+            0
+        }
+        Err(refusal) => refusal,
+    }
+}
+
+// Of a sheet that was read: the wires and bytes of its circuit, and the bits of its longest number, 1 without one.
+fn weigh(s: &[u8]) -> (usize, usize, usize) {
+    let (mut wires, mut bytes, mut most, mut at) = (1, 5, 1, 0);
+    while at < s.len() {
+        let n = s[at + bytes_of(s[at]) - 1] as usize;
+        let (w, b, bits) = match s[at] {
+            17 => (3, 16, 1),
+            18 => (4 * n, 21 * n + 3, 1),
+            _ => (5 * n + 2, 28 * n + 13, n),
+        };
+        wires += w;
+        bytes += b;
+        most = most.max(bits);
+        at += bytes_of(s[at]);
+    }
+    (wires, bytes, most)
+}
+
+// The nine numbers in the order of the C function.
+#[inline(never)]
+pub fn sizes(s: &[u8], out: &mut [u32; 9]) -> u32 {
+    match read_sheet(s) {
+        Ok(c) => {
+            let (wires, bytes, bits) = weigh(s);
+            let share = 6 + 4 * (c.entries + 2 * c.gates + 6);
+            let returns = (P_LESS_ONE as usize / ((1 << bits) - 1)).min(1024);
+            let all = [c.columns, c.entries, c.published, wires, c.gates, c.tests, bytes, share, returns];
+            *out = all.map(|n| n as u32);
             0
         }
         Err(refusal) => refusal,
@@ -138,26 +170,12 @@ fn put_number(out: &mut [u8], at: usize, n: u32, e: u32, w: u32) -> usize {
     put_one(out, place, 6, q + 2 * n)
 }
 
-fn circuit_length(s: &[u8]) -> usize {
-    let (mut total, mut at) = (5, 0);
-    while at < s.len() {
-        let n = s[at + bytes_of(s[at]) - 1] as usize;
-        total += match s[at] {
-            17 => 16,
-            18 => 21 * n + 3,
-            _ => 28 * n + 13,
-        };
-        at += bytes_of(s[at]);
-    }
-    total
-}
-
 #[inline(never)]
 pub fn circuit(s: &[u8], out: &mut [u8], written: &mut usize) -> u32 {
     if let Err(refusal) = read_sheet(s) {
         return refusal;
     }
-    let length = circuit_length(s);
+    let (_, length, _) = weigh(s);
     if out.len() < length {
         return 14;
     }

@@ -1,5 +1,5 @@
-// Compares reading a sheet and writing a circuit by libpool.a with the same loops in Rust: their speed, or with --check
-// their results.
+// Compares the sizes of a sheet and writing a circuit by libpool.a with the same loops in Rust: their speed, or with --check
+// their results. The sizes stand beside reading alone, too: what it costs to find them.
 #[path = "../../include/pool.rs"]
 mod c;
 mod loops;
@@ -7,18 +7,19 @@ mod loops;
 mod timing;
 use std::hint::black_box;
 
-type Read = fn(&[u8], &mut u32, &mut u32, &mut u32, &mut u32) -> u32;
+type Read = fn(&[u8], &mut [u32; 9]) -> u32;
 type Write = fn(&[u8], &mut [u8], &mut usize) -> u32;
 
-fn our_sheet(s: &[u8], c: &mut u32, e: &mut u32, m: &mut u32, p: &mut u32) -> u32 {
-    unsafe { c::pool_read_sheet(s.as_ptr(), s.len(), c, e, m, p) }
+fn our_sizes(sheet: &[u8], out: &mut [u32; 9]) -> u32 {
+    let [c, e, p, w, m, t, b, s, n] = out;
+    unsafe { c::pool_sizes(sheet.as_ptr(), sheet.len(), c, e, p, w, m, t, b, s, n) }
 }
 
 fn our_circuit(s: &[u8], out: &mut [u8], written: &mut usize) -> u32 {
     unsafe { c::pool_circuit(s.as_ptr(), s.len(), out.as_mut_ptr(), out.len(), written) }
 }
 
-// Sheets by name: small ones, and for each kind and for a mixture one of about 256 entries.
+// Sheets by name: small ones, for each kind and for a mixture one of about 256 entries, and one whose numbers keep N low.
 fn sheets() -> Vec<(&'static str, Vec<u8>)> {
     vec![
         ("one yes/no", vec![17]),
@@ -28,14 +29,15 @@ fn sheets() -> Vec<(&'static str, Vec<u8>)> {
         ("128 choices of 2", [18, 2].repeat(128)),
         ("10 numbers of 24", [19, 24].repeat(10)),
         ("128 numbers of 1", [19, 1].repeat(128)),
+        ("22 and 24 bits", vec![19, 22, 19, 24]),
         ("large mixture", [17, 18, 5, 19, 9, 17, 19, 3, 18, 2].repeat(11)),
     ]
 }
 
-fn read(f: Read, s: &[u8]) -> (u32, [u32; 4]) {
-    let (mut c, mut e, mut m, mut p) = (9, 9, 9, 9);
-    let answer = f(s, &mut c, &mut e, &mut m, &mut p);
-    (answer, [c, e, m, p])
+fn read(f: Read, s: &[u8]) -> (u32, [u32; 9]) {
+    let mut out = [9; 9];
+    let answer = f(s, &mut out);
+    (answer, out)
 }
 
 fn write(f: Write, s: &[u8], room: usize) -> (u32, usize, Vec<u8>) {
@@ -47,13 +49,15 @@ fn write(f: Write, s: &[u8], room: usize) -> (u32, usize, Vec<u8>) {
 fn speed() {
     println!("CPU: {}; {} rounds in turns, medians", timing::cpu(), timing::ROUNDS);
     println!("{:<17} {:<17} {:>11} {:>11} {:>7}", "call", "sheet", "ours, ns", "Rust, ns", "ratio");
-    for (name, sheet) in sheets() {
-        let s = &sheet[..];
-        let call = |f: Read| {
-            black_box(read(f, black_box(s)));
-        };
-        let [ours, rust] = timing::compare(&mut || call(our_sheet), &mut || call(loops::sheet));
-        println!("{:<17} {name:<17} {ours:>11.1} {rust:>11.1} {:>7.2}", "read sheet", ours / rust);
+    let others: [(&str, Read); 2] = [("sizes", loops::sizes), ("sizes to reading", loops::reading)];
+    for (row, other) in others {
+        for (name, sheet) in sheets() {
+            let call = |f: Read| {
+                black_box(read(f, black_box(&sheet)));
+            };
+            let [ours, rust] = timing::compare(&mut || call(our_sizes), &mut || call(other));
+            println!("{row:<17} {name:<17} {ours:>11.1} {rust:>11.1} {:>7.2}", ours / rust);
+        }
     }
     for (name, sheet) in sheets() {
         let s = &sheet[..];
@@ -89,7 +93,7 @@ fn check() -> bool {
             }
         }
         for s in all {
-            expect(read(our_sheet, &s) == read(loops::sheet, &s), &s);
+            expect(read(our_sizes, &s) == read(loops::sizes, &s), &s);
             let (answer, length, _) = write(loops::circuit, &s, 8192);
             let rooms = if answer == 0 { vec![length - 1, length, length + 3] } else { vec![0, 8192] };
             for room in rooms {

@@ -10,7 +10,7 @@ use crate::guard::{Lent, Word};
 /// The functions of pool.h.
 #[derive(Clone, Copy, Debug, PartialEq, Eq, PartialOrd, Ord)]
 pub enum Function {
-    ReadSheet,
+    Sizes,
     Circuit,
     ReadCircuit,
     Make,
@@ -84,7 +84,7 @@ impl Call {
     /// Carries the call out. An error tells which lent byte was changed that had to stay.
     pub fn run(&self, rng: &mut Rng) -> Result<Outcome, String> {
         match self.function {
-            Function::ReadSheet => self.read_sheet(rng),
+            Function::Sizes => self.sizes(rng),
             Function::Circuit => self.circuit(rng),
             Function::ReadCircuit => self.read_circuit(rng),
             Function::Make => self.make(rng),

@@ -38,14 +38,14 @@ pub fn sheets(suite: &mut Suite) -> Verdict {
     let sheet = vec![17];
     let call = Call { sheet: sheet.clone(), room: 21, ..Call::of(Function::Circuit) };
     suite.gives(&call, plain(Vec::new(), circuit.clone()))?;
-    let call = Call { sheet, ..Call::of(Function::ReadSheet) };
-    suite.gives(&call, plain(vec![1, 1, 1, 1], Vec::new()))?;
+    let call = Call { sheet, ..Call::of(Function::Sizes) };
+    suite.gives(&call, plain(vec![1, 1, 1, 4, 1, 1, 21, 42, 1024], Vec::new()))?;
     let call = Call { entries: 1, message: circuit, ..Call::of(Function::ReadCircuit) };
     suite.gives(&call, plain(vec![4, 1, 1], Vec::new()))?;
     let others: [(&[u8], u32); 6] =
         [(&[18, 1], 2), (&[18, 65], 2), (&[18, 2], 0), (&[18, 64], 0), (&[], 2), (&[20], 1)];
     for (sheet, number) in others {
-        suite.number(&Call { sheet: sheet.to_vec(), ..Call::of(Function::ReadSheet) }, number)?;
+        suite.number(&Call { sheet: sheet.to_vec(), ..Call::of(Function::Sizes) }, number)?;
     }
     for (returns, number) in [(128, 0), (129, 4)] {
         let sheet = vec![19, 24];

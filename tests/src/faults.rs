@@ -12,19 +12,19 @@ const P: u64 = 2_147_483_647;
 
 /// A fault: its position in the function's order of refusals, its number, the place that it touches, and the change.
 /// Changes of a length stand last in a list, so that they are made last.
-struct Fault {
+pub struct Fault {
     order: u32,
     number: u32,
     place: &'static str,
     change: Box<dyn Fn(&mut Call)>,
 }
 
-fn fault(order: u32, number: u32, place: &'static str, change: impl Fn(&mut Call) + 'static) -> Fault {
+pub fn fault(order: u32, number: u32, place: &'static str, change: impl Fn(&mut Call) + 'static) -> Fault {
     Fault { order, number, place, change: Box::new(change) }
 }
 
 /// The call as it is, each fault alone, and each two at different places.
-fn alone_and_in_pairs(suite: &mut Suite, base: &Call, faults: &[Fault]) -> Verdict {
+pub fn alone_and_in_pairs(suite: &mut Suite, base: &Call, faults: &[Fault]) -> Verdict {
     suite.number(base, 0)?;
     for (i, one) in faults.iter().enumerate() {
         let mut call = base.clone();
@@ -41,7 +41,7 @@ fn alone_and_in_pairs(suite: &mut Suite, base: &Call, faults: &[Fault]) -> Verdi
 }
 
 /// Rooms too short.
-fn rooms(order: u32, needed: usize) -> Vec<Fault> {
+pub fn rooms(order: u32, needed: usize) -> Vec<Fault> {
     let room = |room: usize| fault(order, 14, "room", move |call| call.room = room);
     vec![room(needed - 1), room(1), room(0)]
 }
@@ -53,7 +53,7 @@ fn servers(order: u32) -> Vec<Fault> {
 }
 
 /// Sheets that are refused 1 or 2.
-fn sheets(order: u32) -> Vec<Fault> {
+pub fn sheets(order: u32) -> Vec<Fault> {
     let wrong: [(u32, Vec<u8>); 10] = [
         (1, vec![20]),
         (1, vec![17, 18]),

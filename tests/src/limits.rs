@@ -11,10 +11,10 @@ use crate::suite::{Suite, Verdict};
 
 const P: u64 = 2_147_483_647;
 
-/// Reads a sheet, writes its circuit, reads the circuit, opens with it.
+/// Tells what a sheet comes to, writes its circuit, reads the circuit, opens with it.
 fn sheet(suite: &mut Suite, sheet: &[u8], number: u32) -> Verdict {
     let sheet = sheet.to_vec();
-    suite.number(&Call { sheet: sheet.clone(), ..Call::of(Function::ReadSheet) }, number)?;
+    suite.number(&Call { sheet: sheet.clone(), ..Call::of(Function::Sizes) }, number)?;
     let call = Call { sheet: sheet.clone(), room: 7_008, ..Call::of(Function::Circuit) };
     suite.number(&call, number)?;
     if let Ok(done) = suite.check(&call)? {

@@ -4,6 +4,7 @@
 mod c;
 mod calls;
 mod circuits;
+mod counts;
 mod decided;
 mod examples;
 mod faults;
@@ -38,7 +39,7 @@ const POOL_BLOCKS: (u64, u64) = (3, 30);
 
 /// The refusals of each function, by the header.
 const REFUSALS: [(Function, &[u32]); 11] = [
-    (Function::ReadSheet, &[0, 1, 2]),
+    (Function::Sizes, &[0, 1, 2]),
     (Function::Circuit, &[0, 1, 2, 14]),
     (Function::ReadCircuit, &[0, 1, 2, 3]),
     (Function::Make, &[0, 1, 2, 5, 6, 14]),
@@ -54,13 +55,17 @@ const REFUSALS: [(Function, &[u32]); 11] = [
 type Test = fn(&mut Suite) -> Verdict;
 
 /// Named tests without a seed of their own.
-const NAMED: [(&str, Test); 37] = [
+const NAMED: [(&str, Test); 41] = [
     ("header: constants", sizes::constants),
     ("header: sizes", sizes::lengths),
     ("examples: sheets", examples::sheets),
     ("examples: an honest return", examples::honest),
     ("examples: a false entry", examples::cheating),
     ("examples: joining", examples::joining),
+    ("sizes: sheets at fault", counts::refusals),
+    ("sizes: told by hand", counts::by_hand),
+    ("sizes: every column", counts::columns),
+    ("sizes: random sheets", counts::random),
     ("faults alone and in pairs: circuit", faults::circuit),
     ("faults alone and in pairs: read_circuit", circuits::order),
     ("faults alone and in pairs: make", faults::make),

@@ -2,7 +2,7 @@
 //! and the second program's judging.
 
 use second::field::{self, P};
-use second::{fast, refusal, Sheet};
+use second::{fast, refusal, Sheet, Sizes};
 
 use crate::calls::{plain, Call, Done, Function, Outcome};
 use crate::layout::{self, put_short, put_word, word, Table};
@@ -13,7 +13,7 @@ pub const ROUND: usize = 14;
 /// The answer to a call.
 pub fn answer(call: &Call) -> Outcome {
     match call.function {
-        Function::ReadSheet => read_sheet(call),
+        Function::Sizes => plain(sizes(&second::sizes(&call.sheet)?), Vec::new()),
         Function::Circuit => plain(Vec::new(), second::circuit(&call.sheet, call.room)?),
         Function::ReadCircuit => read_circuit(call),
         Function::Make => make(call),
@@ -27,10 +27,12 @@ pub fn answer(call: &Call) -> Outcome {
     }
 }
 
-fn read_sheet(call: &Call) -> Outcome {
-    let sheet = Sheet::read(&call.sheet)?;
-    let counts = [sheet.columns().len(), sheet.entries(), sheet.multiplications(), sheet.published()];
-    plain(counts.map(|count| count as u64).to_vec(), Vec::new())
+/// What a sheet comes to, in the order of the header's results.
+pub fn sizes(told: &Sizes) -> Vec<u64> {
+    let lengths = [told.circuit_bytes, told.share_bytes, told.greatest_limit as usize];
+    let sheet = [told.columns, told.entries, told.published];
+    let circuit = [told.wires, told.multiplications, told.tests];
+    [sheet, circuit, lengths].concat().into_iter().map(|number| number as u64).collect()
 }
 
 fn read_circuit(call: &Call) -> Outcome {

@@ -5,6 +5,7 @@ use second::gen::{Answer, Case, CaseAnswer, Exchange, Rng, Script};
 use second::Verdict::{Accepted, Rejected};
 
 use crate::calls::{plain, Call, Done, Function, Outcome};
+use crate::reference;
 use crate::suite::{Suite, Verdict};
 
 /// Lengths that are enough for everything, in place of a room without end.
@@ -113,6 +114,7 @@ fn truth(suite: &mut Suite, script: &Script) -> Verdict {
 /// A single call of the second program's; `None` for recount.
 fn case_call(case: &Case) -> Option<Call> {
     Some(match case.clone() {
+        Case::Sizes { sheet } => Call { sheet, ..Call::of(Function::Sizes) },
         Case::Circuit { sheet, room } => Call { sheet, room: room.min(CIRCUIT_ROOM), ..Call::of(Function::Circuit) },
         Case::ReadCircuit { entries, bytes } => Call { entries, message: bytes, ..Call::of(Function::ReadCircuit) },
         Case::Make { sheet, servers, id, values, random, room } => {
@@ -134,6 +136,7 @@ fn case_call(case: &Case) -> Option<Call> {
 fn same_case(outcome: &Outcome, answer: &CaseAnswer) -> bool {
     let counts = |a: usize, b: usize, c: usize| vec![a as u64, b as u64, c as u64];
     match (outcome, answer) {
+        (Ok(Done { numbers, .. }), CaseAnswer::Sizes(told)) => *numbers == reference::sizes(told),
         (Ok(Done { bytes, .. }), CaseAnswer::Bytes(expected)) => bytes == expected,
         (Ok(Done { numbers, .. }), CaseAnswer::Counts { wires, multiplications, tests }) => {
             *numbers == counts(*wires, *multiplications, *tests)
@@ -159,22 +162,23 @@ fn exchanged(suite: &mut Suite, exchange: &Exchange) -> Verdict {
     Err(suite.failure(&call, &format!("as the fast form says\nmust be {:?}", exchange.answer)))
 }
 
-/// Fifty single calls of a seed, and the sheet of each read by itself.
+/// Fifty single calls of a seed, and what the sheet of each comes to.
 pub fn cases(suite: &mut Suite, seed: u64) -> Verdict {
     let mut rng = suite.seed(seed);
     for _ in 0..50 {
-        let case = match rng.below(9) {
-            0 | 1 => Case::random_circuit(&mut rng),
-            2 | 3 => Case::random_read_circuit(&mut rng),
-            4 => Case::random_make(&mut rng),
-            5 | 6 => Case::random_open(&mut rng),
+        let case = match rng.below(10) {
+            0 => Case::random_sizes(&mut rng),
+            1 | 2 => Case::random_circuit(&mut rng),
+            3 | 4 => Case::random_read_circuit(&mut rng),
+            5 => Case::random_make(&mut rng),
+            6 | 7 => Case::random_open(&mut rng),
             _ => Case::random_join(&mut rng),
         };
         let exchange = Exchange::of(case);
         exchanged(suite, &exchange)?;
         if let Some(Call { sheet, function, .. }) = case_call(&exchange.case) {
             if function != Function::ReadCircuit {
-                suite.agrees(&Call { sheet, ..Call::of(Function::ReadSheet) })?;
+                suite.agrees(&Call { sheet, ..Call::of(Function::Sizes) })?;
             }
         }
     }

@@ -1,18 +1,19 @@
 /* The sizes and numbers that pool.h tells, as functions, and its functions under the types that the tests use. */
 #include "pool.h"
 
-size_t sizes_share(uint32_t entries, uint32_t multiplications) { return POOL_SHARE_BYTES(entries, multiplications); }
+size_t sizes_values(uint32_t columns) { return POOL_VALUES_BYTES(columns); }
 
-size_t sizes_random(uint32_t servers, uint32_t entries, uint32_t multiplications)
-{
-    return POOL_RANDOM_BYTES(servers, entries, multiplications);
-}
+size_t sizes_random(uint32_t servers, uint32_t share_bytes) { return POOL_RANDOM_BYTES(servers, share_bytes); }
+
+size_t sizes_make(uint32_t servers, uint32_t share_bytes) { return POOL_MAKE_BYTES(servers, share_bytes); }
 
 size_t sizes_totals(uint32_t published) { return POOL_TOTALS_BYTES(published); }
 
-size_t sizes_table(size_t sheet_len, uint32_t entries, uint32_t multiplications, uint32_t published, uint32_t returns)
+size_t sizes_join(uint32_t published) { return POOL_JOIN_BYTES(published); }
+
+size_t sizes_table(size_t sheet_len, uint32_t published, uint32_t share_bytes, uint32_t returns)
 {
-    return POOL_TABLE_BYTES(sheet_len, entries, multiplications, published, returns);
+    return POOL_TABLE_BYTES(sheet_len, published, share_bytes, returns);
 }
 
 /* The numbered constants, in the order in which the header tells them. */
@@ -32,14 +33,15 @@ size_t sizes_constant(uint32_t number)
 /* A function whose type in the header differs from the one that the tests call it by does not compile here. */
 typedef const uint8_t *in;
 typedef uint8_t *out;
-uint32_t (*const sizes_read_sheet)(in, size_t, uint32_t *, uint32_t *, uint32_t *, uint32_t *) = pool_read_sheet;
-uint32_t (*const sizes_circuit)(in, size_t, out, size_t, size_t *) = pool_circuit;
-uint32_t (*const sizes_read_circuit)(uint32_t, in, size_t, uint32_t *, uint32_t *, uint32_t *) = pool_read_circuit;
-uint32_t (*const sizes_make)(in, size_t, uint32_t, uint32_t, in, size_t, in, size_t, out, size_t, size_t *) = pool_make;
-uint32_t (*const sizes_open)(uint32_t, uint32_t, in, size_t, uint32_t, out, size_t, size_t *) = pool_open;
-uint32_t (*const sizes_take)(out, size_t, in, size_t, uint64_t, uint64_t, out, size_t, size_t *) = pool_share;
-uint32_t (*const sizes_round_one)(out, size_t, in, size_t, out, size_t, size_t *) = pool_round_one;
-uint32_t (*const sizes_round_two)(out, size_t, in, size_t, uint32_t *) = pool_round_two;
-uint32_t (*const sizes_drop)(out, size_t) = pool_drop;
-uint32_t (*const sizes_close)(out, size_t, out, size_t, size_t *) = pool_close;
-uint32_t (*const sizes_join)(uint32_t, in, size_t, uint32_t, in, size_t, out, size_t, uint32_t *, size_t *) = pool_join;
+typedef uint32_t *number;
+uint32_t (*const type_sizes)(in, size_t, number, number, number, number, number, number, number, number, number) = pool_sizes;
+uint32_t (*const type_circuit)(in, size_t, out, size_t, size_t *) = pool_circuit;
+uint32_t (*const type_read_circuit)(uint32_t, in, size_t, number, number, number) = pool_read_circuit;
+uint32_t (*const type_make)(in, size_t, uint32_t, uint32_t, in, size_t, in, size_t, out, size_t, size_t *) = pool_make;
+uint32_t (*const type_open)(uint32_t, uint32_t, in, size_t, uint32_t, out, size_t, size_t *) = pool_open;
+uint32_t (*const type_share)(out, size_t, in, size_t, uint64_t, uint64_t, out, size_t, size_t *) = pool_share;
+uint32_t (*const type_round_one)(out, size_t, in, size_t, out, size_t, size_t *) = pool_round_one;
+uint32_t (*const type_round_two)(out, size_t, in, size_t, number) = pool_round_two;
+uint32_t (*const type_drop)(out, size_t) = pool_drop;
+uint32_t (*const type_close)(out, size_t, out, size_t, size_t *) = pool_close;
+uint32_t (*const type_join)(uint32_t, in, size_t, uint32_t, in, size_t, out, size_t, number, size_t *) = pool_join;

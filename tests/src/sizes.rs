@@ -1,18 +1,20 @@
 //! The header's constants and sizes against document 01 and the lengths that the library writes.
 
 use second::gen;
-use second::Sheet;
 
 use crate::calls::{Call, Function};
+use crate::counts::told;
 use crate::fixture::Fixture;
 use crate::suite::{Suite, Verdict};
 
 // The functions of sizes.c.
 extern "C" {
-    fn sizes_share(entries: u32, multiplications: u32) -> usize;
-    fn sizes_random(servers: u32, entries: u32, multiplications: u32) -> usize;
+    fn sizes_values(columns: u32) -> usize;
+    fn sizes_random(servers: u32, share_bytes: u32) -> usize;
+    fn sizes_make(servers: u32, share_bytes: u32) -> usize;
     fn sizes_totals(published: u32) -> usize;
-    fn sizes_table(sheet_len: usize, entries: u32, multiplications: u32, published: u32, returns: u32) -> usize;
+    fn sizes_join(published: u32) -> usize;
+    fn sizes_table(sheet_len: usize, published: u32, share_bytes: u32, returns: u32) -> usize;
     fn sizes_constant(number: u32) -> usize;
 }
 
@@ -48,26 +50,30 @@ fn largest_circuit() -> usize {
     5 + most.into_iter().max().unwrap_or(0)
 }
 
-/// The sizes that the header's macros give are the lengths that are read and written.
+/// The sizes that the header's macros give from what pool_sizes tells are the lengths that are read and written.
 pub fn lengths(suite: &mut Suite) -> Verdict {
     let mut rng = suite.seed(8);
     for _ in 0..40 {
         let entries = rng.pick([1, 5, 40, 256]);
-        let bytes = gen::sheet(&mut rng, entries);
-        let sheet = Sheet::read(&bytes).map_err(|number| format!("refused {number}"))?;
-        let (l, m, p) = (sheet.entries() as u32, sheet.multiplications() as u32, sheet.published() as u32);
-        let returns = rng.between(2, u64::from(gen::largest_limit(&sheet)).min(9)) as u32;
+        let sheet = gen::sheet(&mut rng, entries);
+        let [columns, _, published, _, _, _, _, share, greatest] = told(suite, &sheet)?;
+        let returns = rng.between(2, u64::from(greatest).min(9)) as u32;
         let servers = rng.between(2, 8) as u32;
-        let fixture = Fixture::new(suite, servers, 0, &bytes, returns)?;
-        let (share, random) = unsafe { (sizes_share(l, m), sizes_random(servers, l, m)) };
-        let (totals, table) = unsafe { (sizes_totals(p), sizes_table(bytes.len(), l, m, p, returns)) };
-        let is = (share, totals, table);
+        let fixture = Fixture::new(suite, servers, 0, &sheet, returns)?;
+        let (totals, table) = unsafe { (sizes_totals(published), sizes_table(sheet.len(), published, share, returns)) };
+        let is = (share as usize, totals, table);
         if is != (fixture.share.len(), fixture.closing, fixture.idle.len()) {
-            return Err(format!("the sizes of a share, totals and a table are {is:?} for the sheet {bytes:?}"));
+            return Err(format!("the sizes of a share, totals and a table are {is:?} for the sheet {sheet:?}"));
         }
-        let (values, random) = (gen::values(&mut rng, &sheet), vec![0; random]);
-        let room = servers as usize * share;
-        suite.number(&Call { sheet: bytes, servers, values, random, room, ..Call::of(Function::Make) }, 0)?;
+        let (values, random) = unsafe { (vec![0; sizes_values(columns)], vec![0; sizes_random(servers, share)]) };
+        let (room, joined) = unsafe { (sizes_make(servers, share), sizes_join(published)) };
+        let make = Call { sheet: sheet.clone(), servers, values, random, room, ..Call::of(Function::Make) };
+        suite.number(&make, 0)?;
+        suite.number(&Call { room: room - 1, ..make }, 14)?;
+        let message = (0..servers as u8).flat_map(|own| [&[36, own][..], &vec![0; totals - 2]].concat()).collect();
+        let join = Call { sheet, servers, returns, message, room: joined, ..Call::of(Function::Join) };
+        suite.number(&join, 0)?;
+        suite.number(&Call { room: joined - 1, ..join }, 14)?;
     }
     Ok(())
 }

@@ -50,7 +50,7 @@ fn measure(suite: &mut Suite) -> Result<usize, String> {
         let fixture = Fixture::new(suite, 8, 7, &sheet, 2)?;
         let read = second::Sheet::read(&sheet).map_err(|number| format!("refused {number}"))?;
         let mut calls = fixture.calls();
-        calls.push(Call { sheet: sheet.clone(), ..Call::of(Function::ReadSheet) });
+        calls.push(Call { sheet: sheet.clone(), ..Call::of(Function::Sizes) });
         calls.push(Call { sheet: sheet.clone(), room: 7_008, ..Call::of(Function::Circuit) });
         let message = second::circuit(&sheet, 7_008).unwrap_or_default();
         calls.push(Call { entries: 256, message, ..Call::of(Function::ReadCircuit) });

@@ -12,7 +12,7 @@ impl fmt::Display for Call {
         let (sheet, message, table) = (Hex(&self.sheet), Hex(&self.message), Hex(&self.table));
         let (servers, returns, room) = (self.servers, self.returns, self.room);
         match self.function {
-            Function::ReadSheet => write!(f, "pool_read_sheet sheet={sheet}"),
+            Function::Sizes => write!(f, "pool_sizes sheet={sheet}"),
             Function::Circuit => write!(f, "pool_circuit sheet={sheet} out_len={room}"),
             Function::ReadCircuit => write!(f, "pool_read_circuit entries={} circuit={message}", self.entries),
             Function::Make => {

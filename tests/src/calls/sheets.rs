@@ -4,16 +4,28 @@ use second::gen::Rng;
 
 use super::{numbers, wrote, Call, Outcome};
 use crate::c;
-use crate::guard::{word32, word_size, Lent};
+use crate::guard::{word32, word_size, Lent, Word};
+
+/// What a sheet comes to, by the header's names and in its order.
+const SIZES: [&str; 9] = [
+    "columns",
+    "entries",
+    "published",
+    "wires",
+    "multiplications",
+    "tests",
+    "circuit_bytes",
+    "share_bytes",
+    "greatest_returns",
+];
 
 impl Call {
-    pub(super) fn read_sheet(&self, rng: &mut Rng) -> Result<Outcome, String> {
+    pub(super) fn sizes(&self, rng: &mut Rng) -> Result<Outcome, String> {
         let sheet = Lent::of("sheet", &self.sheet, rng);
-        let names = ["columns", "entries", "multiplications", "published"];
-        let mut words = names.map(|name| word32(name, rng));
-        let [w0, w1, w2, w3] = &mut words;
-        let (p0, p1, p2, p3) = (w0.pointer(), w1.pointer(), w2.pointer(), w3.pointer());
-        let answer = unsafe { c::pool_read_sheet(sheet.pointer(), sheet.length(), p0, p1, p2, p3) };
+        let mut words = SIZES.map(|name| word32(name, rng));
+        let [p0, p1, p2, p3, p4, p5, p6, p7, p8] = words.each_mut().map(Word::pointer);
+        let (from, length) = (sheet.pointer(), sheet.length());
+        let answer = unsafe { c::pool_sizes(from, length, p0, p1, p2, p3, p4, p5, p6, p7, p8) };
         sheet.kept()?;
         numbers(answer, &words)
     }

@@ -12,7 +12,7 @@ use Rattle.records.specs.Outcome.{Outcome, ok, refused}
 use Rattle.rules.specs.Columns.{Column, yesNo, choice, number, within, limitedColumn, columnOf}
 use Rattle.algebra.specs.Lists.{All, all[], all∷}
 use Rattle.rules.specs.Columns.{entriesOf, publishedOf, largestOf, entriesIn, publishedIn, largestIn}
-use Rattle.rules.specs.Circuit.{addsOf, scalesOf, gatesOf, testsOf, addsIn, scalesIn, gatesIn, testsIn}
+use Rattle.rules.specs.Circuit.{gatesOf, testsOf, gatesIn, testsIn}
 use Rattle.rules.proofs.Circuits.Limits.{InLimits, within-both}
 use Rattle.columns.specs.declared.Column as code
 use Rattle.columns.specs.declared.Column.the-variants as kind
@@ -21,7 +21,7 @@ use Rattle.columns.specs.declared.Counts.{Counts}
 use Rattle.columns.specs.Counting.{countsOf, Small}
 use Rattle.columns.specs.Kinds.{toCode, fromCode, judgedOf, columnIn}
 use Rattle.columns.proofs.ColumnBytes.{from-to-code}
-use Rattle.columns.proofs.Sums.{entries, published, adds, scales, gates, tests, total-one, largest-one}
+use Rattle.columns.proofs.Sums.{entries, published, gates, tests, total-one, largest-one}
 
 -- ---- what one column comes to
 pub counts-one : (c : Column)
@@ -30,8 +30,6 @@ pub counts-one : (c : Column)
       columns = 1;
       entries = entriesOf c;
       published = publishedOf c;
-      adds = addsOf c;
-      scales = scalesOf c;
       gates = gatesOf c;
       tests = testsOf c;
       largest = largestOf c;
@@ -40,8 +38,6 @@ counts-one c =
     rw (
       total-one entries c,
       total-one published c,
-      total-one adds c,
-      total-one scales c,
       total-one gates c,
       total-one tests c,
       largest-one c,
@@ -54,14 +50,14 @@ largest-most (choice n) h = omega arith
 largest-most (number n) h = let p : 2 ^ n ≤ 2 ^ 24 = pow-le-pow-right (omega arith) (h .1) in omega arith
 
 pub column-small : (a : Column) → InLimits a → Small 64 (countsOf (a ∷ []))
-unfolding entriesOf publishedOf addsOf scalesOf gatesOf testsOf
+unfolding entriesOf publishedOf gatesOf testsOf
 column-small yesNo h = rw (counts-one yesNo) (let l = largest-most yesNo h in search arith)
 column-small (choice n) h = rw (counts-one (choice n)) (let l = largest-most (choice n) h in search arith)
 column-small (number n) h = rw (counts-one (number n)) (let l = largest-most (number n) h in search arith)
 
 -- and what columns come to
 columns-bounded : (cs : List Column) → All InLimits cs → Small (entriesIn cs) (countsOf cs)
-unfolding entriesIn publishedIn addsIn scalesIn gatesIn testsIn largestIn
+unfolding entriesIn publishedIn gatesIn testsIn largestIn
 columns-bounded [] all[] = search arith
 columns-bounded (c ∷ cs) (all∷ h hs) =
     let one = rw (counts-one c) at (column-small c h) in
@@ -70,9 +66,8 @@ columns-bounded (c ∷ cs) (all∷ h hs) =
       entries-most = omega arith;
       columns-most = omega (arith, one .columns-most, rest .columns-most);
       published-most = omega (arith, one .published-most, rest .published-most);
-      adds-most = omega (arith, one .adds-most, rest .adds-most);
-      scales-most = omega (arith, one .scales-most, rest .scales-most);
       gates-most = omega (arith, one .gates-most, rest .gates-most);
+      tests-many = omega (arith, one .tests-many, rest .tests-many);
       tests-most = omega (arith, one .tests-most, rest .tests-most);
       largest-most = omega (arith, one .largest-most, rest .largest-most);
     }
@@ -82,9 +77,8 @@ small-more l h = record {
   entries-most = omega (arith, h .entries-most);
   columns-most = h .columns-most;
   published-most = h .published-most;
-  adds-most = h .adds-most;
-  scales-most = h .scales-most;
   gates-most = h .gates-most;
+  tests-many = h .tests-many;
   tests-most = h .tests-most;
   largest-most = h .largest-most;
 }

@@ -9,14 +9,11 @@ ghost use Rattle.rules.proofs.Circuits.Limits.{InLimits};
 ghost use Rattle.columns.specs.Counting.{countsOf};
 ghost use Rattle.columns.specs.Kinds.{bytesOfKind, judgedOf, fromCode};
 
-// What columns come to: entries, published entries, the steps of their circuit by kind (there is one entry step for each
-// entry), and their largest value.
+// What columns come to: entries, published entries, multiplications and tests, and their largest value.
 pub struct Counts {
     pub columns: usize,
     pub entries: usize,
     pub published: usize,
-    pub adds: usize,
-    pub scales: usize,
     pub gates: usize,
     pub tests: usize,
     pub largest: u32,
@@ -43,8 +40,6 @@ pub fn none() -> Counts
         columns: 0,
         entries: 0,
         published: 0,
-        adds: 0,
-        scales: 0,
         gates: 0,
         tests: 0,
         largest: 0,
@@ -144,8 +139,6 @@ pub fn counts_of(column: Column) -> Counts
             columns: 1,
             entries: 1,
             published: 1,
-            adds: 1,
-            scales: 0,
             gates: 1,
             tests: 1,
             largest,
@@ -154,8 +147,6 @@ pub fn counts_of(column: Column) -> Counts
             columns: 1,
             entries: n,
             published: n,
-            adds: n + n,
-            scales: 0,
             gates: n,
             tests: n + 1,
             largest,
@@ -164,8 +155,6 @@ pub fn counts_of(column: Column) -> Counts
             columns: 1,
             entries: n + 1,
             published: 1,
-            adds: n + n,
-            scales: n + 1,
             gates: n,
             tests: n + 1,
             largest,

@@ -20,6 +20,7 @@ use Rattle.columns.specs.declared.Counts.{Counts}
 use Rattle.columns.specs.Counting.{countsOf, Small}
 use Rattle.columns.proofs.Taken.{columns-small}
 use Rattle.sizes.specs.Room.{stepsSize}
+use Rattle.sizes.proofs.Room.{adds-made, scales-made}
 use Rattle.sheet.specs.Reading.{readingOf}
 use Rattle.sheet.specs.declared.Reading.the-variants as sheet
 use Rattle.sheet.proofs.Answers.{reading-refused}
@@ -67,4 +68,4 @@ module _ (s : List ℕ) where
 
   pub size-is : (c : Counts) → c ≡ countsOf (columnsOf s) → stepsSize 1 c ≡ length (sheetCircuit document01 s)
   unfolding stepsSize circuitSize sheetCircuit
-  size-is c e = rw e (sym (circuit-size-is document01 (columnsOf s)))
+  size-is c e = rw (e, adds-made (columnsOf s), scales-made (columnsOf s)) (sym (circuit-size-is document01 (columnsOf s)))

@@ -41,8 +41,6 @@ fn with(c: Counts, d: Counts) -> Counts
         columns: c.columns + d.columns,
         entries: c.entries + d.entries,
         published: c.published + d.published,
-        adds: c.adds + d.adds,
-        scales: c.scales + d.scales,
         gates: c.gates + d.gates,
         tests: c.tests + d.tests,
         largest: larger(c.largest, d.largest),

@@ -7,11 +7,13 @@ use native.Mathlib.Nat.{pow-le-pow-right}
 use native.Mathlib.Numerals.{unary-clauses}
 use native.Mathlib.Omega.{arith}
 use borrow.Author.Tests.{ne-eqb}
-use lib.ListN.{getD}
+use lib.ListN.{length, getD}
 use Rattle.algebra.specs.Lists.{All, all[], all∷}
 use Rattle.rules.specs.Settings.{document01}
+use Rattle.rules.specs.Circuit.{addsIn, scalesIn, gatesIn, testsIn}
 use Rattle.rules.specs.CircuitReader.{bodyLengths}
-use Rattle.rules.specs.Columns.{Column, yesNo, choice, number, largestOf, entriesIn, largestIn, columnsOf, mostReturns}
+use Rattle.rules.specs.Columns.{Column, yesNo, choice, number, largestOf, entriesIn, publishedIn, largestIn, columnsOf}
+use Rattle.rules.specs.Columns.{mostReturns}
 use Rattle.rules.specs.Judging.{shareSize}
 use Rattle.rules.specs.Making.{shareLength}
 use Rattle.rules.specs.Sizes.{weighed, sizesOf, circuitSize}
@@ -22,13 +24,14 @@ use Rattle.rules.proofs.Tables.Greatest.{greatest-is}
 use Rattle.rules.proofs.Tables.RoomTold.{room-told}
 use Rattle.circuit.specs.Reading.{BodyTable}
 use Rattle.columns.specs.declared.Counts.{Counts}
-use Rattle.columns.specs.Counting.{Small}
+use Rattle.columns.specs.Counting.{Small, countsOf}
+use Rattle.columns.proofs.Sums.{adds-are, scales-are}
 use Rattle.columns.proofs.Taken.{columns-small}
 use Rattle.sheet.specs.declared.Reading.the-variants as sheet
 use Rattle.sheet.specs.Reading.{readingOf}
 use Rattle.sheet.proofs.Answers.{reading-refused, reading-counts}
 use Rattle.sizes.specs.declared.Told.the-variants as answer
-use Rattle.sizes.specs.Room.{stepsSize, wiresMade, greatestOf, sizesFrom, inCode, toldOf}
+use Rattle.sizes.specs.Room.{addsMade, scalesMade, stepsSize, wiresMade, greatestOf, sizesFrom, inCode, toldOf}
 
 -- the body length of a kind, from 0
 abbrev pub lengthAt : ℕ → ℕ
@@ -48,17 +51,36 @@ length-is h k l = simp unary-clauses at (h .rule (suc k) (omega arith) (omega ar
 
 -- the steps of each kind, added up
 pub steps-are : (n : ℕ) (c : Counts)
-    → n * suc (lengthAt 0) + c .entries * suc (lengthAt 1) + c .adds * suc (lengthAt 2) + c .scales * suc (lengthAt 3)
+    → n * suc (lengthAt 0) + c .entries * suc (lengthAt 1) + addsMade c * suc (lengthAt 2) + scalesMade c * suc (lengthAt 3)
     + c .gates * suc (lengthAt 4) + c .tests * suc (lengthAt 5) ≡ stepsSize n c
 unfolding stepsSize weighed
 steps-are n c = omega arith
 
-pub steps-most : (c : Counts) → Small 256 c → stepsSize 1 c ≤ 10000
-steps-most c h = omega (arith, steps-are 1 c)
+pub adds-most : (c : Counts) → Small 256 c → addsMade c ≤ 768
+unfolding addsMade
+adds-most c h = omega arith
 
-pub wires-most : (c : Counts) → Small 256 c → wiresMade c ≤ 10000
+pub scales-most : (c : Counts) → Small 256 c → scalesMade c ≤ 512
+unfolding scalesMade
+scales-most c h = omega arith
+
+pub steps-most : (c : Counts) → Small 256 c → stepsSize 1 c ≤ 12000
+steps-most c h = omega (arith, steps-are 1 c, adds-most c h, scales-most c h)
+
+pub wires-most : (c : Counts) → Small 256 c → wiresMade c ≤ 2000
 unfolding wiresMade
-wires-most c h = omega arith
+wires-most c h = omega (arith, adds-most c h, scales-most c h)
+
+-- of columns these are the steps of their circuit
+pub adds-made : (cs : List Column) → addsMade (countsOf cs) ≡ addsIn cs
+unfolding addsMade
+adds-made cs = let e : gatesIn cs + testsIn cs - length cs ≡ addsIn cs = omega (arith, adds-are cs) in e
+
+pub scales-made : (cs : List Column) → scalesMade (countsOf cs) ≡ scalesIn cs
+unfolding scalesMade
+scales-made cs =
+    let e : 2 * entriesIn cs - publishedIn cs - gatesIn cs ≡ scalesIn cs = omega (arith, scales-are cs) in
+    e
 
 -- ---- every column has a value that is not 0
 column-value : (c : Column) → InLimits c → 1 ≤ largestOf c
@@ -95,4 +117,14 @@ module _ (s : List ℕ) where
       let none = sheet-fault s (columnsOf s) (r .0) .0 in
       let t = room-told document01 document01-facts s none in
       let g = greatest-is document01 (omega arith) (columnsOf s) mostReturns (some-value (columnsOf s) (l .in-limits) (l .some-entries)) in
-      rw (r .1, none, t .wires-are, t .multiplications-are, t .tests-are, t .circuit-bytes-are, g) refl
+      rw (
+        r .1,
+        none,
+        adds-made (columnsOf s),
+        scales-made (columnsOf s),
+        t .wires-are,
+        t .multiplications-are,
+        t .tests-are,
+        t .circuit-bytes-are,
+        g,
+      ) refl

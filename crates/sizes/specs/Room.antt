@@ -14,15 +14,22 @@ use Rattle.sizes.specs.declared.Sizes.{Sizes}
 use Rattle.sizes.specs.declared.Told.{Told}
 use Rattle.sizes.specs.declared.Told.the-variants as answer
 
+-- the additions and the products with a constant among the steps of columns with these counts
+unfoldable pub addsMade : Counts → ℕ
+addsMade c = c .gates + c .tests - c .columns
+
+unfoldable pub scalesMade : Counts → ℕ
+scalesMade c = 2 * c .entries - c .published - c .gates
+
 -- the bytes of so many constants and the other steps of some columns
 unfoldable pub stepsSize : ℕ → Counts → ℕ
 stepsSize constants c =
     rules.weighed (bodyLengths document01)
-    (constants ∷ c .entries ∷ c .adds ∷ c .scales ∷ c .gates ∷ c .tests ∷ [])
+    (constants ∷ c .entries ∷ addsMade c ∷ scalesMade c ∷ c .gates ∷ c .tests ∷ [])
 
 -- the wires that the steps of columns make: kinds 2 to 5 make one each
 unfoldable pub wiresMade : Counts → ℕ
-wiresMade c = c .entries + c .adds + c .scales + c .gates
+wiresMade c = c .entries + addsMade c + scalesMade c + c .gates
 
 -- the greatest N that opens, by the largest value of all columns
 unfoldable pub greatestOf : ℕ → ℕ

@@ -7,7 +7,7 @@ ghost use Rattle.rules.specs.Settings.{document01};
 ghost use Rattle.rules.specs.CircuitReader.{bodyLengths};
 ghost use Rattle.columns.specs.Counting.{Small};
 ghost use Rattle.circuit.specs.Reading.{BodyTable};
-ghost use Rattle.sizes.specs.Room.{stepsSize, wiresMade, greatestOf, sizesFrom, toldOf};
+ghost use Rattle.sizes.specs.Room.{addsMade, scalesMade, stepsSize, wiresMade, greatestOf, sizesFrom, toldOf};
 use circuit::BODY_LENGTHS;
 use columns::Counts;
 use sheet::Reading;
@@ -35,10 +35,28 @@ pub enum Told {
 
 // The bytes of n steps of one kind, the kinds counted from 0: each has one more than its kind's body length.
 fn kind_size(lengths: &[usize; 6], kind: usize, n: usize) -> usize
-    requires { ⌜ BodyTable (now lengths) × (kind < 6) × (n ≤ 512) ⌝ }
+    requires { ⌜ BodyTable (now lengths) × (kind < 6) × (n ≤ 768) ⌝ }
     ensures { λ r. ⌜ (r ≡ n * suc (getD (bodyLengths document01) kind 0)) × (r ≤ 7 * n) ⌝ }
 {
     n * (1 + lengths[kind])
+}
+
+// The additions among the steps of columns with these counts: one before each multiplication, which checks a bit, and one
+// for each term of a sum; the sums of a column have as many terms as the column has tests, less one.
+fn adds(c: Counts) -> usize
+    requires { ⌜ Small 256 c ⌝ }
+    ensures { λ r. ⌜ (r ≡ addsMade c) × (r ≤ 768) ⌝ }
+{
+    c.gates + c.tests - c.columns
+}
+
+// The products with a constant: each entry that is not published is a bit and has one with its weight, each that no
+// multiplication checks is a number and has one with p - 1.
+fn scales(c: Counts) -> usize
+    requires { ⌜ Small 256 c ⌝ }
+    ensures { λ r. ⌜ (r ≡ scalesMade c) × (r ≤ 512) ⌝ }
+{
+    2 * c.entries - c.published - c.gates
 }
 
 // The bytes of so many constants and the other steps of some columns.
@@ -48,8 +66,8 @@ fn steps_size(lengths: &[usize; 6], constants: usize, c: Counts) -> usize
 {
     kind_size(lengths, 0, constants)
         + kind_size(lengths, 1, c.entries)
-        + kind_size(lengths, 2, c.adds)
-        + kind_size(lengths, 3, c.scales)
+        + kind_size(lengths, 2, adds(c))
+        + kind_size(lengths, 3, scales(c))
         + kind_size(lengths, 4, c.gates)
         + kind_size(lengths, 5, c.tests)
 }
@@ -67,7 +85,7 @@ pub fn columns_wires(c: Counts) -> u32
     requires { ⌜ Small 256 c ⌝ }
     ensures { λ r. ⌜ r ≡ wiresMade c ⌝ }
 {
-    (c.entries + c.adds + c.scales + c.gates) as u32
+    (c.entries + adds(c) + scales(c) + c.gates) as u32
 }
 
 // The greatest N that opens, where the largest value of all columns is this.

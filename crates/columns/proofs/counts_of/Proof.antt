@@ -4,7 +4,7 @@ use native.Mathlib.Numerals.{add-one}
 use native.Mathlib.Omega.{arith}
 use borrow.Author.Needs.{needs}
 use Rattle.rules.specs.Columns.{entriesOf, publishedOf}
-use Rattle.rules.specs.Circuit.{addsOf, scalesOf, gatesOf, testsOf}
+use Rattle.rules.specs.Circuit.{gatesOf, testsOf}
 use Rattle.columns.proofs.Taken.{counts-one}
 use Rattle.columns.proofs.counts_of.Statement.{statement}
 use Rattle.columns.proofs.counts_of.Tie as tie
@@ -22,7 +22,7 @@ add-t6 : tie.Need-add-t6
 add-t6 c = let l = rw (c .before .column .given .1) at (c .before .before .before .before .pre) in omega arith
 
 add-t7 : tie.Need-add-t7
-add-t7 c = let l = rw (c .before .column .given .1) at (c .before .before .before .before .pre) in omega arith
+add-t7 c = let l = rw (c .before .column2 .given .1) at (c .before .before .before .before .pre) in omega arith
 
 enum-known-column-2 : tie.Need-enum-known-column-2
 enum-known-column-2 c = search needs
@@ -30,29 +30,20 @@ enum-known-column-2 c = search needs
 add-t8 : tie.Need-add-t8
 add-t8 c = let l = rw (c .before .column2 .given .1) at (c .before .before .before .before .pre) in omega arith
 
-add-t9 : tie.Need-add-t9
-add-t9 c = let l = rw (c .before .column2 .given .1) at (c .before .before .before .before .pre) in omega arith
-
-add-t10 : tie.Need-add-t10
-add-t10 c = let l = rw (c .before .column2 .given .1) at (c .before .before .before .before .pre) in omega arith
-
-add-t11 : tie.Need-add-t11
-add-t11 c = let l = rw (c .before .column2 .given .1) at (c .before .before .before .before .pre) in omega arith
-
 returns : tie.Need-returns
-unfolding entriesOf publishedOf addsOf scalesOf gatesOf testsOf
+unfolding entriesOf publishedOf gatesOf testsOf
 returns c =
     let l = c .before .before .largest-of .ensures in
     rw (counts-one _, l, c .enum-told .given .1) refl
 
 returns-2 : tie.Need-returns-2
-unfolding entriesOf publishedOf addsOf scalesOf gatesOf testsOf
+unfolding entriesOf publishedOf gatesOf testsOf
 returns-2 c =
     let l = c .before .before .before .largest-of .ensures in
     rw (counts-one _, l, c .before .column .given .1) refl
 
 returns-3 : tie.Need-returns-3
-unfolding entriesOf publishedOf addsOf scalesOf gatesOf testsOf
+unfolding entriesOf publishedOf gatesOf testsOf
 returns-3 c =
     let l = c .before .before .before .largest-of .ensures in
     rw (counts-one _, l, c .before .column2 .given .1, add-one) refl
@@ -65,12 +56,9 @@ counts-of-spec =
     enum-told
     enum-known-column
     add-t6
-    add-t7
     enum-known-column-2
+    add-t7
     add-t8
-    add-t9
-    add-t10
-    add-t11
     returns
     returns-2
     returns-3)

@@ -11,13 +11,23 @@ use Rattle.columns.specs.Kinds.{fromCode}
 use Rattle.columns.proofs.Sums.{entries, adds, scales, gates, total-one}
 use Rattle.columns.proofs.Taken.{column-small, small-more}
 use Rattle.sizes.specs.Room.{wiresMade}
+use Rattle.sizes.proofs.Room.{adds-made, scales-made}
 use Rattle.compile.proofs.wires_of.Statement.{statement}
 use Rattle.compile.proofs.wires_of.Tie as tie
 
 wires-one : (k : Column) → wiresMade (countsOf (k ∷ [])) ≡ wiresOf k
 unfolding wiresMade
 wires-one k =
-    omega (arith, total-one entries k, total-one adds k, total-one scales k, total-one gates k, column-wires k)
+    omega (
+      arith,
+      adds-made (k ∷ []),
+      scales-made (k ∷ []),
+      total-one entries k,
+      total-one adds k,
+      total-one scales k,
+      total-one gates k,
+      column-wires k,
+    )
 
 counts-of-requires : tie.Need-counts-of-requires
 counts-of-requires c κs = search needs

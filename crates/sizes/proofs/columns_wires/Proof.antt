@@ -5,8 +5,14 @@ use Rattle.sizes.specs.Room.{wiresMade}
 use Rattle.sizes.proofs.columns_wires.Statement.{statement}
 use Rattle.sizes.proofs.columns_wires.Tie as tie
 
+adds-requires : tie.Need-adds-requires
+adds-requires c κs = search needs
+
 add-result : tie.Need-add-result
 add-result c = search needs
+
+scales-requires : tie.Need-scales-requires
+scales-requires c κs = search needs
 
 add-result-2 : tie.Need-add-result-2
 add-result-2 c = search needs
@@ -19,7 +25,16 @@ cast-result c = search needs
 
 returns : tie.Need-returns
 unfolding wiresMade
-returns c = refl
+returns c = rw (c .before .scales .ensures .0, c .before .before .before .adds .ensures .0) refl
 
 pub columns-wires-spec : {M : Type 1} → statement M
-columns-wires-spec = tie.close (tie.spec add-result add-result-2 add-result-3 cast-result returns)
+columns-wires-spec =
+    tie.close
+    (tie.spec
+    adds-requires
+    add-result
+    scales-requires
+    add-result-2
+    add-result-3
+    cast-result
+    returns)

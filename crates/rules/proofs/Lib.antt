@@ -5,6 +5,8 @@ pub mod Computed
 pub mod Circuits
 -- Judging and making: linearity, few pairs, shares add up, honest returns
 pub mod Returns
+-- Messages stored by place: every run is brought back
+pub mod Storage
 -- Demand 3: the table's bytes tell what the ledger tells
 pub mod Tables
 -- Demand 3: the bytes of messages; what a call does to a ledger, and what a history of calls comes to

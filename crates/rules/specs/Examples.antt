@@ -21,6 +21,7 @@ use Rattle.rules.specs.Table.{openRefusal, openBytes, shareRefused}
 use Rattle.rules.specs.Joining.{joinRefusal}
 use Rattle.rules.specs.Recount.{recountText}
 use Rattle.rules.specs.Sizes.{sizesOf, circuitSize}
+use Rattle.rules.specs.Shelf.{shelved, unshelved, shelfRefusal}
 
 pub record Row : Type 0 where
   pub shows : String
@@ -270,4 +271,38 @@ taus =
     ∷ row "its tau is 2" (eqb (tauSum (modulo P) σ yesSheet 2 tested 9) 2)
     ∷ row "at s = 0 too: 2, rejected"
     (eqb (tauSum (modulo P) σ yesSheet 2 tested 0) 2 && not (letsIn σ yesSheet 2 tested 4 0))
+    ∷ []
+
+-- two messages, 1 2 3 and 4 5 6, and what is stored of them
+abbrev twoMessages : List ℕ
+twoMessages = 1 ∷ 2 ∷ 3 ∷ 4 ∷ 5 ∷ 6 ∷ []
+
+abbrev twoStored : List ℕ
+twoStored = 1 ∷ 4 ∷ 2 ∷ 5 ∷ 3 ∷ 6 ∷ []
+
+-- storing R messages of W bytes, with so many bytes and room for as many
+abbrev toShelf : ℕ → ℕ → ℕ → ℕ
+toShelf r w bytes = shelfRefusal σ r w bytes bytes
+
+-- Messages stored by place: the limits, on both sides, and the order of refusals
+unfoldable pub shelves : List Row
+shelves =
+    row "1 2 3 and 4 5 6 are stored as 1 4, 2 5, 3 6" (same (shelved 2 3 twoMessages) twoStored)
+    ∷ row "and brought back" (same (unshelved 2 3 twoStored) twoMessages)
+    ∷ row "three messages of two bytes are stored as 1 3 5, 2 4 6" (same (shelved 3 2 twoMessages) (1 ∷ 3 ∷ 5 ∷ 2 ∷ 4 ∷ 6 ∷ []))
+    ∷ row "one message is stored as it is" (same (shelved 1 6 twoMessages) twoMessages)
+    ∷ row "R = 0: 2" (eqb (toShelf 0 3 0) 2)
+    ∷ row "R = 1 and 64 are taken" (eqb (toShelf 1 3 3) 0 && eqb (toShelf 64 3 192) 0)
+    ∷ row "R = 65: 2" (eqb (toShelf 65 3 195) 2)
+    ∷ row "W = 0: 2" (eqb (toShelf 3 0 0) 2)
+    ∷ row "W = 1 and 4,096 are taken" (eqb (toShelf 3 1 3) 0 && eqb (toShelf 3 4096 12288) 0)
+    ∷ row "W = 4,097: 2" (eqb (toShelf 3 4097 12291) 2)
+    ∷ row "64 messages of 4,096 bytes are taken" (eqb (toShelf 64 4096 262144) 0)
+    ∷ row "65,536 of 65,536: 2, with no bytes or all" (eqb (toShelf 65536 65536 0) 2 && eqb (toShelf 65536 65536 4294967296) 2)
+    ∷ row "a run one byte short or long: 19" (eqb (toShelf 2 3 5) 19 && eqb (toShelf 2 3 7) 19)
+    ∷ row "a message short or too many: 19" (eqb (toShelf 2 3 3) 19 && eqb (toShelf 2 3 9) 19)
+    ∷ row "room for as many bytes is enough" (eqb (shelfRefusal σ 2 3 6 6) 0)
+    ∷ row "room for one byte less: 14" (eqb (shelfRefusal σ 2 3 6 5) 14)
+    ∷ row "2 before 19 and 14" (eqb (shelfRefusal σ 65 3 1 0) 2 && eqb (shelfRefusal σ 2 4097 1 0) 2)
+    ∷ row "19 before 14" (eqb (shelfRefusal σ 2 3 5 0) 19)
     ∷ []

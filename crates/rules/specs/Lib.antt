@@ -1,6 +1,7 @@
 -- Document 01 as definitions, in the order of the paper: settings, columns, circuit, run, values, a return, judging,
--- messages, one server, its table, joining, recount, room told from the sheet; the ledger of whole runs, and what is
--- promised of whole runs and of returns that making wrote; the examples. (Making names the size of a share from Judging.)
+-- messages, one server, its table, joining, recount; room told from the sheet, messages stored by place; the ledger of whole
+-- runs, and what is promised of whole runs and of returns that making wrote; the examples. (Making names the size of a share
+-- from Judging.)
 pub mod Settings
 pub mod Columns
 pub mod Circuit
@@ -16,6 +17,7 @@ pub mod Table
 pub mod Joining
 pub mod Recount
 pub mod Sizes
+pub mod Shelf
 pub mod Ledger
 pub mod Runs
 pub mod WholeRun

@@ -39,6 +39,7 @@ use Rattle.rules.specs.Table.{dropTable, closeRefused, closeTable, close
 use Rattle.rules.specs.Joining.{totalsSound, joinedFault, joinRefusal, joinCount, joinTotals, joinBytes}
 use Rattle.rules.specs.Recount.{decimalFrom, refusalText, lineText, optionLines, columnLines, recountRefusal}
 use Rattle.rules.specs.Recount.{recountText}
+use Rattle.rules.specs.Shelf.{firstBytes, shelved, shelfRefusal}
 use Rattle.rules.specs.Ledger.{notesWith, ledgerTotals, closingMessage, ledgerStage, ledgerState, refusalOf, decideWaiting}
 use Rattle.rules.specs.Ledger.{sumsNoted, ledgerAfter, ledgerMessage, answerOf, runLedger, ledgerAnswers}
 use Rattle.rules.specs.Runs.{tableRefusal, tableAfter, tableAnswer, runTable, tableAnswers}
@@ -122,7 +123,7 @@ part18 = tt
 
 unfoldable pub part19 : Unit {0}
 unfolding closingsFrom firstsFrom secondsFrom largestIn addsOf scalesOf addsIn scalesIn greatestUpTo sizesOf weighed
-    columnSize circuitSize
+    columnSize circuitSize firstBytes shelved shelfRefusal
 part19 = tt
 
 unfoldable pub everything : Unit {0}

@@ -2,7 +2,7 @@
 use mathlib.Core.Bool.{true}
 use mathlib.Core.Path.{_≡_, refl}
 use Rattle.algebra.specs.Lists.{every}
-use Rattle.rules.specs.Examples.{marked, unmarked, circuits, sizes, taus}
+use Rattle.rules.specs.Examples.{marked, unmarked, circuits, sizes, taus, shelves}
 use Rattle.rules.proofs.Computed.Computing.{everything}
 
 pub marked-hold : every (λ row. row .holds) marked ≡ true
@@ -24,3 +24,7 @@ sizes-hold = refl
 pub taus-hold : every (λ row. row .holds) taus ≡ true
 unfolding everything taus
 taus-hold = refl
+
+pub shelves-hold : every (λ row. row .holds) shelves ≡ true
+unfolding everything shelves
+shelves-hold = refl

@@ -1,0 +1,2 @@
+-- Messages stored by place: every run is brought back.
+pub mod Shelf

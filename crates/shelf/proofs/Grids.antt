@@ -17,8 +17,7 @@ use Rattle.words.proofs.Splice.{length-splice}
 use Rattle.rules.specs.Shelf.{shelved, unshelved}
 use Rattle.rules.proofs.Storage.Shelf.{within-blocks, block-of, place-of, length-shelved}
 use Rattle.shelf.specs.declared.Grid.{Grid}
-use Rattle.shelf.specs.declared.Steps.{Steps}
-use Rattle.shelf.specs.Grid.{at, Movable, Moved}
+use Rattle.shelf.specs.Grid.{at, byMessage, byPlace, Movable, Moved}
 
 -- a place says its block and its byte
 same-block : (b i j k l : ℕ) → i < b → k < b → b * j + i ≡ b * l + k → (i ≡ k) × (j ≡ l)
@@ -53,23 +52,16 @@ front out out' ys e fits low high = ext-getD 0 out' (splice out 0 ys) (e ∙ sym
     each k h = by k (leb (length ys) k) refl
 
 module _ (r w : ℕ) where
-  -- one message after another, and one place after another
-  abbrev pub byMessage : Steps
-  byMessage = record { message = w; byte = 1 }
-
-  abbrev pub byPlace : Steps
-  byPlace = record { message = 1; byte = r }
-
   abbrev pub storing : Grid
-  storing = record { messages = r; width = w; read = byMessage; write = byPlace }
+  storing = record { messages = r; width = w; read = byMessage w; write = byPlace r }
 
   abbrev pub bringing : Grid
-  bringing = record { messages = r; width = w; read = byPlace; write = byMessage }
+  bringing = record { messages = r; width = w; read = byPlace r; write = byMessage w }
 
-  within-message : (i j : ℕ) → i < r → j < w → at byMessage i j < r * w
+  within-message : (i j : ℕ) → i < r → j < w → at (byMessage w) i j < r * w
   within-message i j h k = omega (arith, within-blocks w r j i k h, mul-comm r w)
 
-  within-place : (i j : ℕ) → i < r → j < w → at byPlace i j < r * w
+  within-place : (i j : ℕ) → i < r → j < w → at (byPlace r) i j < r * w
   within-place i j h k = omega (arith, within-blocks r w i j h k)
 
   module _ (run out : List ℕ) (bytes-are : length run ≡ r * w) (room : r * w ≤ length out) where
@@ -99,8 +91,8 @@ module _ (r w : ℕ) where
         low : (k : ℕ) → k < r * w → getD out' k 0 ≡ getD (shelved r w run) k 0
         low k h =
             let b = block-of r w k h in
-            let p : at byPlace (k % r) (k / r) ≡ k = omega (arith, b .whole) in
-            let q : at byMessage (k % r) (k / r) ≡ w * (k % r) + k / r = omega arith in
+            let p : at (byPlace r) (k % r) (k / r) ≡ k = omega (arith, b .whole) in
+            let q : at (byMessage w) (k % r) (k / r) ≡ w * (k % r) + k / r = omega arith in
             ap (λ (x : ℕ). getD out' x 0) (sym p)
             ∙ v .moved (k % r) (k / r) (omega arith) (b .low) (omega arith) (b .high)
             ∙ ap (λ (x : ℕ). getD run x 0) q
@@ -116,8 +108,8 @@ module _ (r w : ℕ) where
         low : (k : ℕ) → k < w * r → getD out' k 0 ≡ getD (unshelved r w run) k 0
         low k h =
             let b = block-of w r k h in
-            let p : at byMessage (k / w) (k % w) ≡ k = omega (arith, b .whole) in
-            let q : at byPlace (k / w) (k % w) ≡ r * (k % w) + k / w = omega arith in
+            let p : at (byMessage w) (k / w) (k % w) ≡ k = omega (arith, b .whole) in
+            let q : at (byPlace r) (k / w) (k % w) ≡ r * (k % w) + k / w = omega arith in
             ap (λ (x : ℕ). getD out' x 0) (sym p)
             ∙ v .moved (k / w) (k % w) (omega arith) (b .high) (omega arith) (b .low)
             ∙ ap (λ (x : ℕ). getD run x 0) q

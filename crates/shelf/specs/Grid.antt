@@ -11,6 +11,14 @@ use Rattle.shelf.specs.declared.Steps.{Steps}
 abbrev pub at : Steps → ℕ → ℕ → ℕ
 at s i j = s .message * i + s .byte * j
 
+-- messages of w bytes, one after another
+abbrev pub byMessage : ℕ → Steps
+byMessage w = record { message = w; byte = 1 }
+
+-- the first byte of each of r messages, then the second of each
+abbrev pub byPlace : ℕ → Steps
+byPlace r = record { message = 1; byte = r }
+
 abbrev pub size : Grid → ℕ
 size g = g .messages * g .width
 

@@ -6,7 +6,7 @@ ghost use Prim.Native.Nat.{suc, _≤_, _<_};
 ghost use Rattle.rules.specs.Settings.{document01};
 ghost use Rattle.rules.specs.Shelf.{shelved, unshelved, shelfRefusal};
 ghost use Rattle.shelf.specs.Calls.{Stores};
-ghost use Rattle.shelf.specs.Grid.{Movable, Moved};
+ghost use Rattle.shelf.specs.Grid.{byMessage, byPlace, Movable, Moved};
 use records::Written;
 
 const MAX_MESSAGES: u32 = 64;
@@ -28,6 +28,26 @@ struct Grid {
     width: usize,
     read: Steps,
     write: Steps,
+}
+
+// One message after another.
+fn by_message(width: usize) -> Steps
+    ensures { λ s. ⌜ s ≡ byMessage width ⌝ }
+{
+    Steps {
+        message: width,
+        byte: 1,
+    }
+}
+
+// The first byte of each message, then the second of each.
+fn by_place(messages: usize) -> Steps
+    ensures { λ s. ⌜ s ≡ byPlace messages ⌝ }
+{
+    Steps {
+        message: 1,
+        byte: messages,
+    }
 }
 
 // Moves the bytes from..to of message i.
@@ -115,22 +135,13 @@ pub fn shelve(r: u32, w: u32, run: &[u8], out: &mut [u8]) -> Written
     }
     let messages = r as usize;
     let width = w as usize;
-    move_all(
-        Grid {
-            messages: messages,
-            width: width,
-            read: Steps {
-                message: width,
-                byte: 1,
-            },
-            write: Steps {
-                message: 1,
-                byte: messages,
-            },
-        },
-        run,
-        out,
-    );
+    let g = Grid {
+        messages: messages,
+        width: width,
+        read: by_message(width),
+        write: by_place(messages),
+    };
+    move_all(g, run, out);
     Written::Done(run.len())
 }
 
@@ -144,21 +155,12 @@ pub fn unshelve(r: u32, w: u32, shelf: &[u8], out: &mut [u8]) -> Written
     }
     let messages = r as usize;
     let width = w as usize;
-    move_all(
-        Grid {
-            messages: messages,
-            width: width,
-            read: Steps {
-                message: 1,
-                byte: messages,
-            },
-            write: Steps {
-                message: width,
-                byte: 1,
-            },
-        },
-        shelf,
-        out,
-    );
+    let g = Grid {
+        messages: messages,
+        width: width,
+        read: by_place(messages),
+        write: by_message(width),
+    };
+    move_all(g, shelf, out);
     Written::Done(shelf.len())
 }

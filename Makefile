@@ -3,7 +3,7 @@
 
 # The core as a C library, the crates with its functions, and the sources that it is made from.
 ARCHIVE := target/staticlib/libpool.a
-PARTS := pool_sheets pool_client pool_server pool_totals
+PARTS := pool_sheets pool_client pool_server pool_totals pool_shelf
 SOURCES := crates.txt $(shell find crates -name '*.rt' -o -name '*.antt')
 
 help:

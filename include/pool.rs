@@ -99,4 +99,24 @@ extern "C" {
         accepted: *mut u32,
         written: *mut usize,
     ) -> u32;
+
+    pub fn pool_shelve(
+        messages: u32,
+        width: u32,
+        run: *const u8,
+        run_len: usize,
+        out: *mut u8,
+        out_len: usize,
+        written: *mut usize,
+    ) -> u32;
+
+    pub fn pool_unshelve(
+        messages: u32,
+        width: u32,
+        run: *const u8,
+        run_len: usize,
+        out: *mut u8,
+        out_len: usize,
+        written: *mut usize,
+    ) -> u32;
 }

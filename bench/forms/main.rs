@@ -1,8 +1,9 @@
-// Compares the sizes of a sheet and writing a circuit by libpool.a with the same loops in Rust: their speed, or with --check
-// their results. The sizes stand beside reading alone, too: what it costs to find them.
+// Compares the sizes of a sheet, writing a circuit and storing messages by libpool.a with the same loops in Rust: their speed,
+// or with --check their results. The sizes stand beside reading alone, too: what it costs to find them.
 #[path = "../../include/pool.rs"]
 mod c;
 mod loops;
+mod shelf;
 #[path = "../timing.rs"]
 mod timing;
 use std::hint::black_box;
@@ -69,6 +70,7 @@ fn speed() {
         let [ours, rust] = timing::compare(&mut || call(our_circuit, &mut out), &mut || call(loops::circuit, &mut same));
         println!("{:<17} {name:<17} {ours:>11.1} {rust:>11.1} {:>7.2}", "write circuit", ours / rust);
     }
+    shelf::speed();
 }
 
 // Every sheet above, each with every byte set to a few others and cut at every place, and rooms around the length.
@@ -101,6 +103,14 @@ fn check() -> bool {
             }
         }
     }
+    shelf::check(&mut |same, name| {
+        if same {
+            passed += 1;
+        } else {
+            failed += 1;
+            println!("the results differ on {name}");
+        }
+    });
     println!("{passed} passed, {failed} failed");
     failed == 0
 }

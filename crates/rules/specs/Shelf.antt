@@ -20,15 +20,15 @@ unfoldable pub firstBytes : ℕ → ℕ → List ℕ → ℕ → List ℕ
 firstBytes r w run zero = []
 firstBytes r w run (suc n) = firstBytes r w run n ++ bytesAt r w run n
 
--- "Take R messages of W bytes each. Store the first byte of each, then the second of each, and so on."
+-- "Take R messages, 1 to 64, of W bytes each, 1 to 4,096. Store the first byte of each, then the second of each, and so on."
 unfoldable pub shelved : ℕ → ℕ → List ℕ → List ℕ
 shelved r w run = firstBytes r w run w
 
--- "The inverse": w runs of r bytes are stored, and message i is byte i of each
+-- "The inverse brings every message back": w runs of r bytes are stored, and message i is byte i of each
 abbrev pub unshelved : ℕ → ℕ → List ℕ → List ℕ
 unshelved r w shelf = shelved w r shelf
 
--- "R messages, 1 to 64, of W bytes each, 1 to 4,096": W is at most that of 1,024 elements
+-- "W bytes each, 1 to 4,096": the bytes of 1,024 elements
 abbrev pub mostBytes : Setting → ℕ
 mostBytes σ = 1024 * σ .width
 

@@ -9,6 +9,7 @@ ghost use Rattle.shelf.specs.Calls.{Stores};
 ghost use Rattle.shelf.specs.Grid.{byMessage, byPlace, Movable, Moved};
 use records::Written;
 
+// R, and W: the bytes of 1,024 elements.
 const MAX_MESSAGES: u32 = 64;
 
 const MAX_WIDTH: u32 = 4096;
@@ -16,7 +17,7 @@ const MAX_WIDTH: u32 = 4096;
 // So many bytes of each message are moved at a time: with 64 messages that is 4 KiB on the side where they lie apart.
 const TILE: usize = 64;
 
-// Byte j of message i stands at `message` times i and `byte` times j.
+// Byte j of message i stands at `message` times i plus `byte` times j.
 struct Steps {
     message: usize,
     byte: usize,

@@ -17,6 +17,7 @@ mod plan;
 pub use crate::circuit::{circuit, read_circuit};
 pub use crate::joining::join;
 pub use crate::recount::recount;
+pub use crate::shelf::{shelve, unshelve};
 pub use crate::sizes::{sizes, Sizes};
 pub use crate::table::{close, drop, round_one, round_two, share, Stage};
 pub use making::make;

@@ -5,7 +5,7 @@
 //!
 //! * the plain form, one module for each part of the paper: [`field`], [`sheet`],
 //!   [`mod@circuit`], [`mod@sizes`], [`values`], [`making`], [`judging`], [`table`],
-//!   [`joining`] and [`mod@recount`];
+//!   [`joining`], [`mod@recount`] and [`shelf`];
 //! * the fast form, [`fast`], with the same calls and the same answers;
 //! * the lent form, [`lent`], with the calls on a table in bytes that the host lends.
 //!
@@ -30,6 +30,7 @@ pub mod making;
 pub mod recount;
 pub mod refusal;
 pub mod sheet;
+pub mod shelf;
 pub mod sizes;
 pub mod table;
 pub mod values;
@@ -39,5 +40,6 @@ pub use joining::{join, Joined};
 pub use making::make;
 pub use recount::recount;
 pub use sheet::{Column, Sheet};
+pub use shelf::{shelve, unshelve};
 pub use sizes::{sizes, Sizes};
 pub use table::{close, drop, open, round_one, round_two, share, Stage, Table, Verdict};

@@ -1,4 +1,4 @@
-//! The numbers of document 01's "Who can cause which refusal".
+//! The numbers of document 01's "Who can cause which refusal", and those of document 02.
 
 /// Unknown kind or cut body.
 pub const KIND: u32 = 1;
@@ -28,3 +28,5 @@ pub const JOINED: u32 = 12;
 pub const FULL: u32 = 13;
 /// Output buffer too short.
 pub const ROOM: u32 = 14;
+/// A run that is not R × W bytes.
+pub const RUN: u32 = 19;

@@ -4,7 +4,8 @@ mod common;
 
 use common::*;
 use second::gen::Rng;
-use second::{close, drop, join, make, open, round_one, round_two, share, Joined, Sheet};
+use second::{close, drop, join, make, open, round_one, round_two, share, shelve, unshelve};
+use second::{Joined, Sheet};
 
 #[test]
 fn opening() {
@@ -168,6 +169,8 @@ fn any_bytes_at_every_call() {
         let _ = open(number % 10, number % 9, &bytes, number % 1100);
         let _ = join(number % 10, &bytes, number % 1100, &bytes, ROOM);
         let _ = join(number, &[17], number, &bytes, 0);
+        let _ = shelve(number % 70, number, &bytes, ROOM);
+        let _ = unshelve(number, number % 5000, &bytes, length);
         let mut table = open(2, round % 2, &[17], 3).unwrap();
         let _ = share(&mut table, &bytes, r, s, ROOM);
         let _ = round_one(&mut table, &bytes, ROOM);

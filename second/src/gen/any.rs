@@ -49,6 +49,25 @@ pub(super) fn any_room(rng: &mut Rng, needed: usize, percent_short: u64) -> usiz
     }
 }
 
+/// An R for the shelf, out of range in so many of a hundred cases.
+pub(super) fn any_messages(rng: &mut Rng, percent_wrong: u64) -> u32 {
+    if rng.chance(percent_wrong) {
+        return rng.pick([0, 65, 256, 65_536, 65_537, u32::MAX]);
+    }
+    let any = rng.between(1, 64) as u32;
+    rng.pick([1, 2, 64, any, any, any])
+}
+
+/// A W for the shelf, out of range in so many of a hundred cases; mostly small.
+pub(super) fn any_width(rng: &mut Rng, percent_wrong: u64) -> u32 {
+    if rng.chance(percent_wrong) {
+        return rng.pick([0, 4097, 65_536, 65_537, 1 << 26, u32::MAX]);
+    }
+    let small = rng.between(1, 100) as u32;
+    let any = rng.between(1, 4096) as u32;
+    rng.pick([1, 4096, any, small, small, small, small, small])
+}
+
 /// An id, often at the edges.
 pub(super) fn any_id(rng: &mut Rng) -> u32 {
     let any = rng.next_u64() as u32;

@@ -1,11 +1,12 @@
 //! Single calls that no table takes part in: sizes, sheet to circuit, reading a circuit,
-//! making, opening, joining and recount.
+//! making, opening, joining, recount and the shelf.
 
 mod random;
 
 use crate::circuit::{circuit, read_circuit, Circuit};
 use crate::joining::{join, Joined};
 use crate::recount::recount;
+use crate::shelf::{shelve, unshelve};
 use crate::sizes::{sizes, Sizes};
 use crate::{fast, making, table};
 
@@ -45,6 +46,20 @@ pub enum Case {
     },
     /// The text of recount.
     Recount { input: Vec<u8> },
+    /// Messages stored by place.
+    Shelve(Shelf),
+    /// Messages brought back.
+    Unshelve(Shelf),
+}
+
+/// The arguments of both calls at the shelf.
+#[derive(Clone, Debug, PartialEq, Eq)]
+#[allow(missing_docs)]
+pub struct Shelf {
+    pub messages: u32,
+    pub width: u32,
+    pub run: Vec<u8>,
+    pub room: usize,
 }
 
 /// The answer to a case.
@@ -53,7 +68,7 @@ pub enum Case {
 pub enum CaseAnswer {
     /// What a sheet comes to.
     Sizes(Sizes),
-    /// The bytes written by sheet to circuit or by making.
+    /// The bytes written by sheet to circuit, by making or at the shelf.
     Bytes(Vec<u8>),
     /// A circuit was read, with these counts.
     Counts {
@@ -139,6 +154,10 @@ impl Case {
                 room,
             } => join(*servers, sheet, *limit, joined, *room).map(CaseAnswer::Joined),
             Case::Recount { input } => Ok(CaseAnswer::Text(recount(input))),
+            Case::Shelve(x) => shelve(x.messages, x.width, &x.run, x.room).map(CaseAnswer::Bytes),
+            Case::Unshelve(x) => {
+                unshelve(x.messages, x.width, &x.run, x.room).map(CaseAnswer::Bytes)
+            }
         };
         answer.unwrap_or_else(CaseAnswer::Refused)
     }

@@ -1,8 +1,10 @@
 //! Random cases.
 
-use super::Case;
+use super::{Case, Shelf};
 use crate::circuit::circuit;
-use crate::gen::any::{any_id, any_limit, any_room, any_servers, any_sheet};
+use crate::gen::any::{
+    any_id, any_limit, any_messages, any_room, any_servers, any_sheet, any_width,
+};
 use crate::gen::closings::{closing, damage_closings, recount_input};
 use crate::gen::{circuits, sheets, Rng};
 use crate::sheet::Sheet;
@@ -10,14 +12,15 @@ use crate::sheet::Sheet;
 impl Case {
     /// A random case: half of them good, the rest with one fault or more.
     pub fn random(rng: &mut Rng) -> Case {
-        match rng.below(7) {
+        match rng.below(8) {
             0 => Case::random_sizes(rng),
             1 => Case::random_circuit(rng),
             2 => Case::random_read_circuit(rng),
             3 => Case::random_make(rng),
             4 => Case::random_open(rng),
             5 => Case::random_join(rng),
-            _ => Case::random_recount(rng),
+            6 => Case::random_recount(rng),
+            _ => Case::random_shelf(rng),
         }
     }
 
@@ -146,6 +149,31 @@ impl Case {
         };
         damage_input(rng, &mut input);
         Case::Recount { input }
+    }
+
+    /// Messages stored by place or brought back.
+    pub fn random_shelf(rng: &mut Rng) -> Case {
+        let messages = any_messages(rng, 10);
+        let width = any_width(rng, 10);
+        let length = messages.min(64) as usize * width.min(4096) as usize;
+        let wrong = rng.index(length + 64);
+        let length = match rng.below(100) {
+            0..80 => length,
+            _ => rng.pick([0, length.saturating_sub(1), length + 1, wrong]),
+        };
+        let run = rng.bytes(length);
+        let room = any_room(rng, length, 15);
+        let shelf = Shelf {
+            messages,
+            width,
+            run,
+            room,
+        };
+        if rng.chance(50) {
+            Case::Shelve(shelf)
+        } else {
+            Case::Unshelve(shelf)
+        }
     }
 }
 

@@ -13,6 +13,7 @@
  *                       pool_round_two --> accepted or rejected                }
  *                       pool_close ------> its totals message, at the end
  *     anyone            pool_join -------> the count of accepted returns and the totals
+ *     a keeper          pool_shelve -----> share messages stored by place, and pool_unshelve brings them back
  *
  * The host sends the messages: it puts the S messages of a round one after another in server order and hands the whole run
  * to every server. It also draws the random numbers, and chooses r and s, the same for every server, after the shares have
@@ -41,7 +42,8 @@
  * Secrecy. While a return waits, a table is as secret as the share: keep copies, swap and logs of it as you keep a share.
  * The library erases in the table that it is lent; older copies and the share message are the host's to erase. Two copies,
  * from before and after one accepted return, show the published entries of its share. The shares of the totals stay in a
- * table until the host erases it; those of S closed tables, added up modulo p, are the published totals.
+ * table until the host erases it; those of S closed tables, added up modulo p, are the published totals. Share messages that
+ * a host stores stay as secret as they were, in any order of their bytes: those of all S servers, added up, are the returns.
  *
  * Dropping. A return that cannot be finished is dropped at every server. Once its round-two message has been sent, a server
  * drops only when it knows that no other server has decided the return by round two, or can: a return that is accepted at
@@ -76,6 +78,7 @@ extern "C" {
 #define POOL_JOINED 12  /* joined messages: length, kind, id, order, element, own message or counts wrong */
 #define POOL_FULL 13    /* N returns are decided */
 #define POOL_ROOM 14    /* the output buffer is too short */
+#define POOL_RUN 19     /* shelf: the run is not R messages of W bytes */
 
 /* Limits. */
 #define POOL_PRIME UINT32_C(2147483647)
@@ -83,6 +86,8 @@ extern "C" {
 #define POOL_MAX_SERVERS 8
 #define POOL_MAX_RETURNS 1024
 #define POOL_MAX_ENTRIES 256
+#define POOL_MAX_SHELF_MESSAGES 64
+#define POOL_MAX_SHELF_WIDTH 4096
 
 /*
  * Columns of a sheet: the kind byte, then the body.
@@ -108,6 +113,9 @@ extern "C" {
 #define POOL_TABLE_BYTES(sheet_len, published, share_bytes, returns) \
     (12 + (size_t)(sheet_len) + 4 * (size_t)(published) + 4 * (size_t)(returns) + 28 + (size_t)(share_bytes) - 6)
 
+/* The size of a run of stored messages, in bytes, from R and W. */
+#define POOL_SHELF_BYTES(messages, width) ((size_t)(messages) * (size_t)(width))
+
 /* Sizes that are enough for every sheet and S. */
 #define POOL_MAX_SHEET_BYTES 256
 #define POOL_MAX_CIRCUIT_BYTES 7008
@@ -118,6 +126,7 @@ extern "C" {
 #define POOL_MAX_TOTALS_BYTES 1030
 #define POOL_MAX_JOIN_BYTES 1024
 #define POOL_MAX_TABLE_BYTES 8512
+#define POOL_MAX_SHELF_BYTES 262144 /* and for every R and W */
 
 /*
  * Tells what a sheet comes to, from its bytes alone and without building its circuit. A host calls it once for a sheet: with
@@ -215,6 +224,27 @@ uint32_t pool_close(uint8_t *table, size_t table_len, uint8_t *out, size_t out_l
 uint32_t pool_join(uint32_t servers, const uint8_t *sheet, size_t sheet_len, uint32_t returns,
                    const uint8_t *joined, size_t joined_len, uint8_t *out, size_t out_len,
                    uint32_t *accepted, size_t *written);
+
+/*
+ * Stores messages by place: the first byte of each, then the second of each, and so on. So equal places in a season's shares
+ * stand together: the kind bytes, the ids, each entry. The share messages that one server gets on one sheet are all share_bytes
+ * long; a keeper stores up to 64 of them in one run, and notes R and W beside it. The run is as secret as the messages.
+ *     messages  R, 1 to 64
+ *     width     W, the length of each message, 1 to 4,096
+ *     run       the messages one after another, POOL_SHELF_BYTES: any bytes, sound shares or not
+ *     out       as many bytes: byte k of message j, both from 0, stands at k x R + j
+ * Refusals: 2 for R or W, 19, 14.
+ */
+uint32_t pool_shelve(uint32_t messages, uint32_t width, const uint8_t *run, size_t run_len,
+                     uint8_t *out, size_t out_len, size_t *written);
+
+/*
+ * Brings the messages back, one after another, from the run that pool_shelve wrote for the same R and W: `run` is what was
+ * stored, `out` what pool_shelve was given.
+ * Refusals: 2 for R or W, 19, 14.
+ */
+uint32_t pool_unshelve(uint32_t messages, uint32_t width, const uint8_t *run, size_t run_len,
+                       uint8_t *out, size_t out_len, size_t *written);
 
 #ifdef __cplusplus
 }

@@ -31,8 +31,9 @@ static inline const char *host_words(uint32_t refusal)
         "joined messages: length, kind, id, order, element, own message or counts wrong",
         "all N returns are decided",
         "the output buffer is too short",
+        [POOL_RUN] = "the run is not so many messages of this length",
     };
-    return refusal < sizeof words / sizeof words[0] ? words[refusal] : "unknown refusal";
+    return refusal < sizeof words / sizeof words[0] && words[refusal] ? words[refusal] : "unknown refusal";
 }
 
 /* Ends the program, with the refusal's number and words, unless the call was done. */

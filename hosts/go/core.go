@@ -28,6 +28,8 @@ const (
 	kindChoice   = C.POOL_CHOICE
 	kindNumber   = C.POOL_NUMBER
 	elementBytes = 4
+	maxShelf     = C.POOL_MAX_SHELF_MESSAGES
+	maxWidth     = C.POOL_MAX_SHELF_WIDTH
 )
 
 // randomBytes is the length of the random elements of a return for so many servers.
@@ -149,4 +151,20 @@ func coreJoin(servers uint32, sheet []byte, returns uint32, joined, out []byte) 
 	to, room := lend(out)
 	answer = uint32(C.pool_join(C.uint32_t(servers), at, n, C.uint32_t(returns), j, nj, to, room, &a, &w))
 	return uint32(a), int(w), answer
+}
+
+func coreShelve(messages, width uint32, run, out []byte) (written int, answer uint32) {
+	var w C.size_t
+	at, n := lend(run)
+	to, room := lend(out)
+	answer = uint32(C.pool_shelve(C.uint32_t(messages), C.uint32_t(width), at, n, to, room, &w))
+	return int(w), answer
+}
+
+func coreUnshelve(messages, width uint32, run, out []byte) (written int, answer uint32) {
+	var w C.size_t
+	at, n := lend(run)
+	to, room := lend(out)
+	answer = uint32(C.pool_unshelve(C.uint32_t(messages), C.uint32_t(width), at, n, to, room, &w))
+	return int(w), answer
 }

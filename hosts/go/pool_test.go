@@ -5,9 +5,11 @@ import (
 	"encoding/binary"
 	"encoding/hex"
 	"errors"
+	"fmt"
 	"io"
 	"math/rand"
 	"reflect"
+	"strings"
 	"testing"
 )
 
@@ -149,6 +151,14 @@ func TestRefusalInWords(t *testing.T) {
 		if words[k] == "" {
 			t.Errorf("no words for %d", uint32(k))
 		}
+	}
+	for _, k := range []Refusal{0, Room + 1} {
+		if got, want := k.Error(), fmt.Sprintf("refused %d: unknown refusal", uint32(k)); got != want {
+			t.Errorf("got %s, want %s", got, want)
+		}
+	}
+	if got := Run.Error(); !strings.HasPrefix(got, "refused 19: not so many messages") {
+		t.Errorf("got %s", got)
 	}
 }
 

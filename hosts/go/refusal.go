@@ -28,6 +28,7 @@ const (
 	Joined  Refusal = 12 // joined messages at fault
 	Full    Refusal = 13 // N returns are decided
 	Room    Refusal = 14 // the output buffer is too short
+	Run     Refusal = 19 // messages that are not of one length, or a stored run of another length
 )
 
 var words = [...]string{
@@ -45,11 +46,12 @@ var words = [...]string{
 	Joined:  "joined messages: length, kind, id, order, element, own message or counts wrong",
 	Full:    "all N returns are decided",
 	Room:    "the output buffer is too short",
+	Run:     "not so many messages of one length: give whole messages, and the number and length that were stored",
 }
 
 // Error says the refusal by its number and in words.
 func (r Refusal) Error() string {
-	if r == 0 || int(r) >= len(words) {
+	if int(r) >= len(words) || words[r] == "" {
 		return fmt.Sprintf("refused %d: unknown refusal", uint32(r))
 	}
 	return fmt.Sprintf("refused %d: %s", uint32(r), words[r])

@@ -10,7 +10,7 @@
 #include <sys/mman.h>
 #include <unistd.h>
 
-enum { SLOTS = 6, PAGE = 4096, SLOT_PAGES = 19 };
+enum { SLOTS = 6, PAGE = 4096, SLOT_PAGES = RUN_BYTES / PAGE + 1 };
 enum { IDLE = 0, CLOSED = 3 }; /* stages, in byte 1 of a table */
 
 char calls_note[128];
@@ -210,7 +210,7 @@ static const uint32_t SHEET = MAY(POOL_KIND) | MAY(POOL_LIMIT);
 
 static void answered(uint32_t answer, uint32_t allowed)
 {
-    if (answer > POOL_ROOM || (answer != 0 && !(allowed >> answer & 1)))
+    if (answer > POOL_RUN || (answer != 0 && !(allowed >> answer & 1)))
         fail("an answer that the header does not name");
 }
 
@@ -455,4 +455,31 @@ uint32_t call_join(uint32_t servers, const struct run *sheet, uint32_t returns, 
     if (answer == 0)
         *accepted = a.value;
     return end(answer);
+}
+
+typedef uint32_t shelf_call(uint32_t, uint32_t, const uint8_t *, size_t, uint8_t *, size_t, size_t *);
+
+static uint32_t shelf(const char *name, shelf_call *of, uint32_t messages, uint32_t width, const struct run *run,
+                      size_t room, struct run *out)
+{
+    begin(name);
+    int r = lend(run), o = lend_room(room);
+    struct result_size w = RESULT_SIZE;
+    uint32_t answer = of(messages, width, LENT(r), LENT(o), &w.value);
+    answered(answer, MAY(POOL_LIMIT) | MAY(POOL_RUN) | MAY(POOL_ROOM));
+    kept(r);
+    take(o, &w, answer, out);
+    if (answer == 0 && out->len != POOL_SHELF_BYTES(messages, width))
+        fail("a length that the header does not give");
+    return end(answer);
+}
+
+uint32_t call_shelve(uint32_t messages, uint32_t width, const struct run *run, size_t room, struct run *out)
+{
+    return shelf("pool_shelve", pool_shelve, messages, width, run, room, out);
+}
+
+uint32_t call_unshelve(uint32_t messages, uint32_t width, const struct run *run, size_t room, struct run *out)
+{
+    return shelf("pool_unshelve", pool_unshelve, messages, width, run, room, out);
 }

@@ -15,8 +15,8 @@
 
 #include "pool.h"
 
-/* More than any call needs, for sheets and circuits that are too long. */
-enum { RUN_BYTES = 72000 };
+/* More than any call needs, for sheets, circuits and runs that are too long. */
+enum { RUN_BYTES = POOL_MAX_SHELF_BYTES + 2000 };
 
 /* A run of bytes that the driver owns. Calls work on copies. */
 struct run {
@@ -70,6 +70,8 @@ uint32_t call_drop(struct run *table, size_t extra);
 uint32_t call_close(struct run *table, size_t extra, size_t room, struct run *out);
 uint32_t call_join(uint32_t servers, const struct run *sheet, uint32_t returns, const struct run *joined, size_t room,
                    uint32_t *accepted, struct run *out);
+uint32_t call_shelve(uint32_t messages, uint32_t width, const struct run *run, size_t room, struct run *out);
+uint32_t call_unshelve(uint32_t messages, uint32_t width, const struct run *run, size_t room, struct run *out);
 
 /* Fails the run. */
 _Noreturn void fail(const char *why);

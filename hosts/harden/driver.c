@@ -103,7 +103,8 @@ static void wild(struct run *run)
 
 static uint32_t wild32(uint32_t sound)
 {
-    static const uint32_t odd[] = {0, 1, 2, 8, 9, 256, 257, 258, 1024, 1025, 65537, POOL_PRIME, 0x80000000, UINT32_MAX};
+    static const uint32_t odd[] = {0,    1,    2,    8,    9,     64,         65,         256,       257, 258,
+                                   1024, 1025, 4096, 4097, 65537, POOL_PRIME, 0x80000000, UINT32_MAX};
     switch (random_below(4)) {
     case 0:
         return odd[random_below(sizeof odd / sizeof odd[0])];
@@ -223,6 +224,59 @@ static void long_circuit(void)
     }
 }
 
+/* The shelf */
+
+/* Stores a run by place and brings it back, then tries both with wild arguments. */
+static void shelve(uint32_t messages, uint32_t width, const struct run *run)
+{
+    must(call_shelve(messages, width, run, run->len, &b), "storing");
+    for (size_t at = 0; at < b.len; at++)
+        if (b.at[at] != run->at[at % messages * width + at / messages])
+            fail("a byte in another place");
+    must(call_unshelve(messages, width, &b, b.len, &c), "bringing back");
+    if (c.len != run->len || memcmp(c.at, run->at, c.len) != 0)
+        fail("messages do not come back");
+    for (int k = 0; k < 2; k++) {
+        copy(&a, run);
+        if (random64() % 2)
+            wild(&a);
+        uint32_t r = wild32(messages), w = wild32(width);
+        size_t room = wild_room(run->len);
+        if (k == 0)
+            call_shelve(r, w, &a, room, &out);
+        else
+            call_unshelve(r, w, &a, room, &out);
+    }
+}
+
+/* Any bytes, as many messages and as long as may be now and then. */
+static void shelves(void)
+{
+    uint32_t messages = 1 + random_below(random_below(4) ? 8 : POOL_MAX_SHELF_MESSAGES);
+    uint32_t width = 1 + random_below(random_below(16) ? 40 : POOL_MAX_SHELF_WIDTH);
+    if (random_below(64) == 0) {
+        messages = POOL_MAX_SHELF_MESSAGES;
+        width = POOL_MAX_SHELF_WIDTH;
+    }
+    pool.next.len = POOL_SHELF_BYTES(messages, width);
+    random_fill(pool.next.at, pool.next.len);
+    shelve(messages, width, &pool.next);
+    pool.next.len = 0;
+}
+
+/* A message too many, and a byte too many: each with a run that fits. */
+static void long_shelf(void)
+{
+    for (int wide = 0; wide < 2; wide++) {
+        uint32_t messages = wide ? 1 : POOL_MAX_SHELF_MESSAGES + 1, width = wide ? POOL_MAX_SHELF_WIDTH + 1 : 1;
+        a.len = POOL_SHELF_BYTES(messages, width);
+        random_fill(a.at, a.len);
+        if (call_shelve(messages, width, &a, a.len, &b) != POOL_LIMIT ||
+            call_unshelve(messages, width, &a, a.len, &b) != POOL_LIMIT)
+            fail("the refusal of a long shelf");
+    }
+}
+
 /* Making */
 
 /* One random value for each column, added to `sums` in entry order of the published entries. */
@@ -265,6 +319,8 @@ static void make_return(uint32_t id)
     must(call_make(&pool.sheet, pool.servers, id, &pool.values, &pool.random, room, &pool.shares), "making");
     if (pool.shares.len != room)
         fail("the length of the shares");
+    if (random_below(4) == 0)
+        shelve(pool.servers, pool.sizes.share_bytes, &pool.shares);
 }
 
 /* The servers */
@@ -457,6 +513,7 @@ static void play_pool(void)
     pool.joined.len = pool.next.len = pool.shares.len = 0;
     new_sheet();
     circuits();
+    shelves();
     pool.servers = POOL_MIN_SERVERS + random_below(POOL_MAX_SERVERS - POOL_MIN_SERVERS + 1);
     pool.returns = MOST_RETURNS + random_below(random_below(8) ? 4 : 100);
     greatest_returns();
@@ -482,6 +539,7 @@ int main(int argc, char **argv)
         if (k % 64 == 0) {
             long_sheet();
             long_circuit();
+            long_shelf();
         }
         play_pool();
     }

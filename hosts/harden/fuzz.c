@@ -9,7 +9,7 @@
 
 #include "calls.h"
 
-enum { SERVERS = 2, OPERATIONS = 9, ANSWERS = 16, RETURNS = 3 };
+enum { SERVERS = 2, OPERATIONS = 9, ANSWERS = POOL_RUN + 1, RETURNS = 3 };
 
 /* The fuzzer looks at these counters after each input. */
 __attribute__((section("__libfuzzer_extra_counters"))) static uint8_t seen[OPERATIONS][OPERATIONS][4][ANSWERS];
@@ -186,6 +186,22 @@ static void arbitrary_table(void)
     note(5, 3, call_close(&tables[1], 0, POOL_MAX_TOTALS_BYTES, &out));
 }
 
+/* Arbitrary bytes are stored by place and brought back, with a number and a length of messages that may not fit. */
+static void shelve(void)
+{
+    uint32_t messages = byte(), width = byte() | (uint32_t)byte() << 8, answer;
+    bytes(&message, input.left);
+    size_t room = messages % 4 == 3 ? message.len / 2 : message.len;
+    answer = call_shelve(messages, width, &message, room, &out);
+    note(8, 0, answer);
+    if (answer == 0) {
+        note(8, 1, call_unshelve(messages, width, &out, out.len, &shares));
+        if (shares.len != message.len || memcmp(shares.at, message.at, message.len) != 0)
+            fail("messages do not come back");
+    }
+    note(8, 2, call_unshelve(messages, width, &message, room, &out));
+}
+
 int LLVMFuzzerInitialize(int *argc, char ***argv)
 {
     (void)argc;
@@ -201,7 +217,7 @@ int LLVMFuzzerTestOneInput(const uint8_t *data, size_t size)
     input.left = size;
     before = 8;
     seed_random(size);
-    switch (byte() % 4) {
+    switch (byte() % 5) {
     case 0:
         bytes(&sheet, RUN_BYTES / 2);
         note(7, 0, call_sizes(&sheet, &sizes));
@@ -216,8 +232,11 @@ int LLVMFuzzerTestOneInput(const uint8_t *data, size_t size)
     case 2:
         arbitrary_table();
         break;
-    default:
+    case 3:
         play();
+        break;
+    default:
+        shelve();
         break;
     }
     return 0;

@@ -7,6 +7,7 @@
  *   - the check that an element is below p, of a share message and, in every call on a table, of the share that waits
  *     and of the totals: for sound elements it always goes the same way;
  *   - in the rounds, the checks of the joined messages and the verdict, on numbers that the servers publish.
+ * Storing shares by place and bringing them back has none.
  * A report in arithmetic (a sum, product or reduction modulo p) shows that the time depends on a secret.
  *
  * The round messages are published, so they are marked as defined once they are written.
@@ -23,6 +24,7 @@ static const uint8_t sheet[] = {POOL_YES_NO, POOL_CHOICE, 3, POOL_NUMBER, 4};
 static const uint8_t values[] = {1, 0, 0, 0, 2, 0, 0, 0, 9, 0, 0, 0};
 static uint8_t tables[SERVERS][POOL_MAX_TABLE_BYTES], shares[SERVERS * POOL_MAX_SHARE_BYTES];
 static uint8_t elements[POOL_MAX_RANDOM_BYTES], ones[SERVERS * POOL_ROUND_BYTES], twos[sizeof ones];
+static uint8_t stored[sizeof shares], back[sizeof shares];
 static size_t table_len, share_len, random_len, written;
 
 /* Not 0 where a call was refused. */
@@ -42,11 +44,26 @@ static uint32_t prepare(void)
     return refused;
 }
 
+/* Stores the shares, whose elements are secret, and brings them back. */
+static uint32_t shelve(void)
+{
+    uint32_t refused;
+    for (size_t i = 0; i < SERVERS; i++)
+        (void)VALGRIND_MAKE_MEM_UNDEFINED(shares + i * share_len + 6, share_len - 6);
+    refused = pool_shelve(SERVERS, (uint32_t)share_len, shares, SERVERS * share_len, stored, sizeof stored, &written);
+    refused |= pool_unshelve(SERVERS, (uint32_t)share_len, stored, written, back, sizeof back, &written);
+    (void)VALGRIND_MAKE_MEM_DEFINED(shares, written);
+    (void)VALGRIND_MAKE_MEM_DEFINED(back, written);
+    return refused | (uint32_t)(memcmp(shares, back, written) != 0);
+}
+
 static void say(const char *call) { VALGRIND_PRINTF("secret: %s\n", call); }
 
 int main(void)
 {
     uint32_t refused = prepare(), accepted = 0, verdict;
+    say("pool_shelve and pool_unshelve");
+    refused |= shelve();
     say("pool_share");
     for (size_t i = 0; i < SERVERS; i++) {
         uint8_t *message = shares + i * share_len, *out = ones + i * POOL_ROUND_BYTES;

@@ -16,7 +16,7 @@ enum { STACK = 1024 * 1024, PROMISED = 64 * 1024, PAINT = 0xa7, SERVERS = 8, RET
 static uint8_t sheet[POOL_MAX_SHEET_BYTES], circuit[POOL_MAX_CIRCUIT_BYTES], values[POOL_MAX_VALUES_BYTES];
 static uint8_t elements[POOL_MAX_RANDOM_BYTES], shares[POOL_MAX_MAKE_BYTES];
 static uint8_t tables[SERVERS][POOL_MAX_TABLE_BYTES], joined[SERVERS * POOL_MAX_TOTALS_BYTES], other[sizeof joined];
-static uint8_t totals[POOL_MAX_JOIN_BYTES];
+static uint8_t totals[POOL_MAX_JOIN_BYTES], messages[POOL_MAX_SHELF_BYTES], stored[POOL_MAX_SHELF_BYTES];
 static size_t sheet_len, circuit_len, table_len, joined_len, written;
 static uint32_t columns, entries, published, wires, multiplications, tests, circuit_bytes, share_bytes, most;
 static uint32_t accepted, refused;
@@ -90,6 +90,18 @@ static void join(void)
                          &written);
 }
 
+static void shelve(void)
+{
+    refused |= pool_shelve(POOL_MAX_SHELF_MESSAGES, POOL_MAX_SHELF_WIDTH, messages, sizeof messages, stored,
+                           sizeof stored, &written);
+}
+
+static void unshelve(void)
+{
+    refused |= pool_unshelve(POOL_MAX_SHELF_MESSAGES, POOL_MAX_SHELF_WIDTH, stored, sizeof stored, messages,
+                             sizeof messages, &written);
+}
+
 static void nothing(void) {}
 
 static void *in_thread(void *step)
@@ -126,6 +138,7 @@ static const struct {
     {"sizes", tell_sizes},    {"circuit", write_circuit}, {"read_circuit", read_circuit}, {"make", make},
     {"open", open_tables},    {"share", take_shares},     {"drop", drop_share},           {"share", take_again},
     {"round_one", round_one}, {"round_two", round_two},   {"close", close_tables},        {"join", join},
+    {"shelve", shelve},       {"unshelve", unshelve},
 };
 
 /* Runs every step; gives the number of those that need more than was promised. */

@@ -1,6 +1,7 @@
 //! A call as plain data, and carrying it out on the library with every lent buffer between guards.
 
 mod sheets;
+mod shelf;
 mod tables;
 
 use second::gen::Rng;
@@ -21,6 +22,8 @@ pub enum Function {
     Drop,
     Close,
     Join,
+    Shelve,
+    Unshelve,
 }
 
 /// A call with its arguments; a function takes those that the header names and leaves the others empty.
@@ -32,13 +35,15 @@ pub struct Call {
     pub returns: u32,
     pub entries: u32,
     pub id: u32,
+    pub messages: u32,
+    pub width: u32,
     pub r: u64,
     pub s: u64,
     pub sheet: Vec<u8>,
     pub values: Vec<u8>,
     pub random: Vec<u8>,
     pub table: Vec<u8>,
-    /// The share, the joined messages or the circuit.
+    /// The share, the joined messages, the circuit or the run of messages for the shelf.
     pub message: Vec<u8>,
     /// The length of the output buffer; for opening that of the table's buffer.
     pub room: usize,
@@ -70,6 +75,8 @@ impl Call {
             returns: 0,
             entries: 0,
             id: 0,
+            messages: 0,
+            width: 0,
             r: 0,
             s: 0,
             sheet: Vec::new(),
@@ -95,6 +102,8 @@ impl Call {
             Function::Drop => self.drop(rng),
             Function::Close => self.close(rng),
             Function::Join => self.join(rng),
+            Function::Shelve => self.shelve(rng),
+            Function::Unshelve => self.unshelve(rng),
         }
     }
 }

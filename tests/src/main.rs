@@ -17,6 +17,7 @@ mod pools;
 mod recount;
 mod reference;
 mod scripts;
+mod shelf;
 mod sizes;
 mod stack;
 mod suite;
@@ -38,7 +39,7 @@ const CASE_BLOCKS: (u64, u64) = (5, 60);
 const POOL_BLOCKS: (u64, u64) = (3, 30);
 
 /// The refusals of each function, by the header.
-const REFUSALS: [(Function, &[u32]); 11] = [
+const REFUSALS: [(Function, &[u32]); 13] = [
     (Function::Sizes, &[0, 1, 2]),
     (Function::Circuit, &[0, 1, 2, 14]),
     (Function::ReadCircuit, &[0, 1, 2, 3]),
@@ -50,14 +51,17 @@ const REFUSALS: [(Function, &[u32]); 11] = [
     (Function::Drop, &[0, 11]),
     (Function::Close, &[0, 11, 14]),
     (Function::Join, &[0, 1, 2, 4, 12, 14]),
+    (Function::Shelve, &[0, 2, 14, 19]),
+    (Function::Unshelve, &[0, 2, 14, 19]),
 ];
 
 type Test = fn(&mut Suite) -> Verdict;
 
 /// Named tests without a seed of their own.
-const NAMED: [(&str, Test); 41] = [
+const NAMED: [(&str, Test); 49] = [
     ("header: constants", sizes::constants),
     ("header: sizes", sizes::lengths),
+    ("header: sizes of runs", sizes::runs),
     ("examples: sheets", examples::sheets),
     ("examples: an honest return", examples::honest),
     ("examples: a false entry", examples::cheating),
@@ -76,6 +80,8 @@ const NAMED: [(&str, Test); 41] = [
     ("faults alone and in pairs: drop", faults::drop),
     ("faults alone and in pairs: close", faults::close),
     ("faults alone and in pairs: join", faults::join),
+    ("faults alone and in pairs: shelve", shelf::shelving),
+    ("faults alone and in pairs: unshelve", shelf::unshelving),
     ("limits: sheets", limits::sheets),
     ("limits: circuits", circuits::limits),
     ("limits: opening", limits::opening),
@@ -93,6 +99,11 @@ const NAMED: [(&str, Test); 41] = [
     ("tables: what is free", tables::free),
     ("decided: the bytes of a share", decided::bytes),
     ("decided: tables added up", decided::sums),
+    ("shelf: told by hand", shelf::by_hand),
+    ("shelf: limits", shelf::limits),
+    ("shelf: rooms", shelf::exact_rooms),
+    ("shelf: every R, many W", shelf::every_size),
+    ("shelf: share messages", shelf::shares),
     ("pools: the largest sheets", pools::large),
     ("pools: 1,024 returns", pools::many),
     ("pools: the highest totals", pools::highest),

@@ -24,6 +24,8 @@ pub fn answer(call: &Call) -> Outcome {
         Function::Drop => drop(call),
         Function::Close => close(call),
         Function::Join => join(call),
+        Function::Shelve => plain(Vec::new(), second::shelve(call.messages, call.width, &call.message, call.room)?),
+        Function::Unshelve => plain(Vec::new(), second::unshelve(call.messages, call.width, &call.message, call.room)?),
     }
 }
 

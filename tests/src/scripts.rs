@@ -1,7 +1,7 @@
 //! Random runs: the second program's scripts of calls at S servers, and its single calls.
 
 use second::gen::Call as Step;
-use second::gen::{Answer, Case, CaseAnswer, Exchange, Rng, Script};
+use second::gen::{Answer, Case, CaseAnswer, Exchange, Rng, Script, Shelf};
 use second::Verdict::{Accepted, Rejected};
 
 use crate::calls::{plain, Call, Done, Function, Outcome};
@@ -12,6 +12,7 @@ use crate::suite::{Suite, Verdict};
 const MESSAGE_ROOM: usize = 1_100;
 const CIRCUIT_ROOM: usize = 7_100;
 const MAKE_ROOM: usize = 25_000;
+const SHELF_ROOM: usize = 262_200;
 
 /// A script's call on a table.
 fn step_call(step: &Step, table: &[u8]) -> Call {
@@ -111,6 +112,12 @@ fn truth(suite: &mut Suite, script: &Script) -> Verdict {
     }
 }
 
+/// A call at the shelf.
+fn shelf_call(function: Function, shelf: Shelf) -> Call {
+    let Shelf { messages, width, run, room } = shelf;
+    Call { messages, width, message: run, room: room.min(SHELF_ROOM), ..Call::of(function) }
+}
+
 /// A single call of the second program's; `None` for recount.
 fn case_call(case: &Case) -> Option<Call> {
     Some(match case.clone() {
@@ -129,6 +136,8 @@ fn case_call(case: &Case) -> Option<Call> {
             Call { servers, sheet, returns: limit, message: joined, room, ..Call::of(Function::Join) }
         }
         Case::Recount { .. } => return None,
+        Case::Shelve(shelf) => shelf_call(Function::Shelve, shelf),
+        Case::Unshelve(shelf) => shelf_call(Function::Unshelve, shelf),
     })
 }
 
@@ -166,18 +175,19 @@ fn exchanged(suite: &mut Suite, exchange: &Exchange) -> Verdict {
 pub fn cases(suite: &mut Suite, seed: u64) -> Verdict {
     let mut rng = suite.seed(seed);
     for _ in 0..50 {
-        let case = match rng.below(10) {
+        let case = match rng.below(11) {
             0 => Case::random_sizes(&mut rng),
             1 | 2 => Case::random_circuit(&mut rng),
             3 | 4 => Case::random_read_circuit(&mut rng),
             5 => Case::random_make(&mut rng),
             6 | 7 => Case::random_open(&mut rng),
+            8 => Case::random_shelf(&mut rng),
             _ => Case::random_join(&mut rng),
         };
         let exchange = Exchange::of(case);
         exchanged(suite, &exchange)?;
         if let Some(Call { sheet, function, .. }) = case_call(&exchange.case) {
-            if function != Function::ReadCircuit {
+            if !matches!(function, Function::ReadCircuit | Function::Shelve | Function::Unshelve) {
                 suite.agrees(&Call { sheet, ..Call::of(Function::Sizes) })?;
             }
         }

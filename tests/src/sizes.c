@@ -16,16 +16,19 @@ size_t sizes_table(size_t sheet_len, uint32_t published, uint32_t share_bytes, u
     return POOL_TABLE_BYTES(sheet_len, published, share_bytes, returns);
 }
 
+size_t sizes_shelf(uint32_t messages, uint32_t width) { return POOL_SHELF_BYTES(messages, width); }
+
 /* The numbered constants, in the order in which the header tells them. */
 size_t sizes_constant(uint32_t number)
 {
     static const size_t constants[] = {
         POOL_DONE, POOL_KIND, POOL_LIMIT, POOL_WIRE, POOL_WRAP, POOL_VALUE, POOL_RANDOM, POOL_SHARE,
         POOL_ELEMENT, POOL_PAIR, POOL_DECIDED, POOL_STAGE, POOL_JOINED, POOL_FULL, POOL_ROOM,
+        POOL_RUN,
         POOL_PRIME, POOL_MIN_SERVERS, POOL_MAX_SERVERS, POOL_MAX_RETURNS, POOL_MAX_ENTRIES,
         POOL_YES_NO, POOL_CHOICE, POOL_NUMBER, POOL_ROUND_BYTES,
         POOL_MAX_SHEET_BYTES, POOL_MAX_CIRCUIT_BYTES, POOL_MAX_SHARE_BYTES, POOL_MAX_TOTALS_BYTES,
-        POOL_MAX_TABLE_BYTES,
+        POOL_MAX_TABLE_BYTES, POOL_MAX_SHELF_MESSAGES, POOL_MAX_SHELF_WIDTH, POOL_MAX_SHELF_BYTES,
     };
     return number < sizeof constants / sizeof constants[0] ? constants[number] : (size_t)-1;
 }
@@ -45,3 +48,5 @@ uint32_t (*const type_round_two)(out, size_t, in, size_t, number) = pool_round_t
 uint32_t (*const type_drop)(out, size_t) = pool_drop;
 uint32_t (*const type_close)(out, size_t, out, size_t, size_t *) = pool_close;
 uint32_t (*const type_join)(uint32_t, in, size_t, uint32_t, in, size_t, out, size_t, number, size_t *) = pool_join;
+uint32_t (*const type_shelve)(uint32_t, uint32_t, in, size_t, out, size_t, size_t *) = pool_shelve;
+uint32_t (*const type_unshelve)(uint32_t, uint32_t, in, size_t, out, size_t, size_t *) = pool_unshelve;

@@ -15,15 +15,20 @@ extern "C" {
     fn sizes_totals(published: u32) -> usize;
     fn sizes_join(published: u32) -> usize;
     fn sizes_table(sheet_len: usize, published: u32, share_bytes: u32, returns: u32) -> usize;
+    fn sizes_shelf(messages: u32, width: u32) -> usize;
     fn sizes_constant(number: u32) -> usize;
 }
 
-/// After the refusals 0 to 14: p, S from and to, the most returns and entries, the column kinds, a round message's
-/// length, and the largest sizes.
-const CONSTANTS: [usize; 14] = [2_147_483_647, 2, 8, 1024, 256, 17, 18, 19, 14, 256, 7008, 3102, 1030, 8512];
+/// The refusals.
+const REFUSALS: [usize; 16] = [0, 1, 2, 3, 4, 5, 6, 7, 8, 9, 10, 11, 12, 13, 14, 19];
+
+/// After the refusals: p, S from and to, the most returns and entries, the column kinds, a round message's length, and
+/// the largest sizes; R and W at most, and their product.
+const CONSTANTS: [usize; 17] =
+    [2_147_483_647, 2, 8, 1024, 256, 17, 18, 19, 14, 256, 7008, 3102, 1030, 8512, 64, 4096, 262_144];
 
 pub fn constants(_: &mut Suite) -> Verdict {
-    for (number, must) in (0..15).chain(CONSTANTS).enumerate() {
+    for (number, must) in REFUSALS.into_iter().chain(CONSTANTS).enumerate() {
         let is = unsafe { sizes_constant(number as u32) };
         if is != must {
             return Err(format!("constant {number} of pool.h is {is}\nmust be {must}"));
@@ -74,6 +79,19 @@ pub fn lengths(suite: &mut Suite) -> Verdict {
         let join = Call { sheet, servers, returns, message, room: joined, ..Call::of(Function::Join) };
         suite.number(&join, 0)?;
         suite.number(&Call { room: joined - 1, ..join }, 14)?;
+    }
+    Ok(())
+}
+
+/// The run that is stored and the room for it have the size that the header's macro gives.
+pub fn runs(suite: &mut Suite) -> Verdict {
+    suite.seed(9);
+    for (messages, width) in [(1, 1), (3, 5), (1, 4096), (64, 1), (64, 4096)] {
+        let room = unsafe { sizes_shelf(messages, width) };
+        let shelve = Call { messages, width, message: vec![3; room], room, ..Call::of(Function::Shelve) };
+        suite.number(&shelve, 0)?;
+        suite.number(&Call { room: room - 1, ..shelve.clone() }, 14)?;
+        suite.number(&Call { message: vec![3; room + 1], ..shelve }, 19)?;
     }
     Ok(())
 }

@@ -44,6 +44,10 @@ fn measure(suite: &mut Suite) -> Result<usize, String> {
     let mut rng = suite.seed(64);
     let own = used(suite, &Call::of(Function::Drop))?;
     let mut most = own;
+    for function in [Function::Shelve, Function::Unshelve] {
+        let (messages, width, message, room) = (64, 4096, vec![7; 262_144], 262_144);
+        most = most.max(used(suite, &Call { messages, width, message, room, ..Call::of(function) })?);
+    }
     let mut number = [19, 24].repeat(10);
     number.extend([19, 5]);
     for sheet in [vec![17; 256], [18, 64].repeat(4), number] {

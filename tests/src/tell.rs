@@ -34,6 +34,10 @@ impl fmt::Display for Call {
                 write!(f, "pool_join servers={servers} sheet={sheet} returns={returns} ")?;
                 write!(f, "joined={message} out_len={room}")
             }
+            Function::Shelve | Function::Unshelve => {
+                let name = if self.function == Function::Shelve { "pool_shelve" } else { "pool_unshelve" };
+                write!(f, "{name} messages={} width={} run={message} out_len={room}", self.messages, self.width)
+            }
         }
     }
 }

@@ -3,6 +3,8 @@
 pub mod Computed
 -- Demand 2: walking the columns is the circuit's run; limits; a sheet's circuit is read; tests say legal
 pub mod Circuits
+-- Every legal return of a small sheet: the lists are the legal ones, each once, rising, and counted
+pub mod LegalLists
 -- Judging and making: linearity, few pairs, shares add up, honest returns
 pub mod Returns
 -- Messages stored by place: every run is brought back

@@ -15,6 +15,7 @@ use Rattle.rules.specs.Columns.{Column, yesNo, choice, number, entriesIn
 use Rattle.rules.specs.Circuit.{Step, constant, multiply, test, gatesIn, testsIn, wiresIn, circuitOf, circuitBytes}
 use Rattle.rules.specs.CircuitReader.{circuitFault, circuitLimits, countIn, stepWires, stepGates, stepTests}
 use Rattle.rules.specs.Values.{encoding}
+use Rattle.rules.specs.EveryReturn.{listsIn, everyReturnBytes, everyReturnLength, everyReturnRefusal}
 use Rattle.rules.specs.Judging.{folded, tauOf, dSum, eSum, sigmaSum, tauSum, letsIn}
 use Rattle.rules.specs.Making.{madeWhole, madeShare, shareLength, shareMessage, shareOf}
 use Rattle.rules.specs.Table.{openRefusal, openBytes, shareRefused}
@@ -305,4 +306,36 @@ shelves =
     ∷ row "room for one byte less: 14" (eqb (shelfRefusal σ 2 3 6 5) 14)
     ∷ row "2 before 19 and 14" (eqb (shelfRefusal σ 65 3 1 0) 2 && eqb (shelfRefusal σ 2 4097 1 0) 2)
     ∷ row "19 before 14" (eqb (shelfRefusal σ 2 3 5 0) 19)
+    ∷ []
+
+-- so many columns yes/no
+abbrev yesNos : ℕ → List ℕ
+yesNos n = replicate n 17
+
+-- a yes/no and a choice of three: its lists, one after another
+abbrev sixLists : List ℕ
+sixLists = (0 ∷ 0 ∷ 0 ∷ 1 ∷ 0 ∷ 2 ∷ []) ++ (1 ∷ 0 ∷ 1 ∷ 1 ∷ 1 ∷ 2 ∷ [])
+
+-- Every legal return of a small sheet: the lists of one, the limit of 4,096 on both sides, and the order of refusals
+unfoldable pub smallSheets : List Row
+smallSheets =
+    row "sheet 17, 18 3: its lists, 4 bytes a value" (same (everyReturnBytes (17 ∷ 18 ∷ 3 ∷ [])) (bytesOfAll 4 sixLists))
+    ∷ row "they are 6" (eqb (listsIn (columnsOf (17 ∷ 18 ∷ 3 ∷ []))) 6)
+    ∷ row "they take 48 bytes" (eqb (everyReturnLength (17 ∷ 18 ∷ 3 ∷ [])) 48)
+    ∷ row "room for 48: written" (eqb (everyReturnRefusal (17 ∷ 18 ∷ 3 ∷ []) 48) 0)
+    ∷ row "room for 47: 14" (eqb (everyReturnRefusal (17 ∷ 18 ∷ 3 ∷ []) 47) 14)
+    ∷ row "12 yes/no have 4,096 lists" (eqb (listsIn (columnsOf (yesNos 12))) 4096)
+    ∷ row "they are written" (eqb (everyReturnRefusal (yesNos 12) 196608) 0)
+    ∷ row "room one short of them: 14, not 17" (eqb (everyReturnRefusal (yesNos 12) 196607) 14)
+    ∷ row "13 yes/no: 17" (eqb (everyReturnRefusal (yesNos 13) 1000000) 17)
+    ∷ row "256 yes/no, 2^256 lists: 17" (eqb (everyReturnRefusal (yesNos 256) 1000000) 17)
+    ∷ row "a number of 12 bits is written" (eqb (everyReturnRefusal (19 ∷ 12 ∷ []) 16384) 0)
+    ∷ row "a number of 13 bits: 17" (eqb (everyReturnRefusal (19 ∷ 13 ∷ []) 1000000) 17)
+    ∷ row "a number of 24 bits alone: 17" (eqb (everyReturnRefusal (19 ∷ 24 ∷ []) 1000000) 17)
+    ∷ row "two choices of 64 are written" (eqb (everyReturnRefusal (18 ∷ 64 ∷ 18 ∷ 64 ∷ []) 32768) 0)
+    ∷ row "choices of 10, 10 and 41, 4,100 lists: 17" (eqb (everyReturnRefusal (18 ∷ 10 ∷ 18 ∷ 10 ∷ 18 ∷ 41 ∷ []) 1000000) 17)
+    ∷ row "17 before 14" (eqb (everyReturnRefusal (yesNos 13) 0) 17)
+    ∷ row "the sheet's fault before 17: byte 99 behind 13 yes/no" (eqb (everyReturnRefusal (yesNos 13 ++ (99 ∷ [])) 0) 1)
+    ∷ row "257 yes/no: 2, the sheet's" (eqb (everyReturnRefusal (yesNos 257) 0) 2)
+    ∷ row "an empty sheet: 2" (eqb (everyReturnRefusal [] 1000) 2)
     ∷ []

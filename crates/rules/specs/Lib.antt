@@ -1,7 +1,7 @@
 -- Document 01 as definitions, in the order of the paper: settings, columns, circuit, run, values, a return, judging,
 -- messages, one server, its table, joining, recount; room told from the sheet, messages stored by place; the ledger of whole
 -- runs, and what is promised of whole runs and of returns that making wrote; the examples. (Making names the size of a share
--- from Judging.)
+-- from Judging.) Behind the values stands every legal return of a small sheet.
 pub mod Settings
 pub mod Columns
 pub mod Circuit
@@ -9,6 +9,7 @@ pub mod CircuitReader
 pub mod Run
 pub mod Walk
 pub mod Values
+pub mod EveryReturn
 pub mod Making
 pub mod Judging
 pub mod Messages

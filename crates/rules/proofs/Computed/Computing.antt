@@ -18,6 +18,8 @@ use Rattle.rules.specs.CircuitReader.{circuitLimits, limitedCircuit, rea
 use Rattle.rules.specs.CircuitReader.{sheetCircuitRefusal}
 use Rattle.rules.specs.Run.{stepRun, runFrom, run}
 use Rattle.rules.specs.Values.{encoded, legalValues, encoding}
+use Rattle.rules.specs.EveryReturn.{afterEach, legalLists, listsIn, listsBytes, everyReturnBytes, everyReturnLength}
+use Rattle.rules.specs.EveryReturn.{everyReturnRefusal}
 use Rattle.rules.specs.Judging.{shareSize, firstOnly, zeroThen, folded, sigmaFrom, hOf, aOf, bOf, cOf, shareRun, fAt}
 use Rattle.rules.specs.Judging.{gAt, hAt, dOf, eOf, sigmaOf, tauOf, addedUp, dSum, eSum, sigmaSum, tauSum}
 use Rattle.rules.specs.Judging.{allowedPair, letsIn}
@@ -126,7 +128,11 @@ unfolding closingsFrom firstsFrom secondsFrom largestIn addsOf scalesOf addsIn s
     columnSize circuitSize firstBytes shelved shelfRefusal
 part19 = tt
 
+unfoldable pub part20 : Unit {0}
+unfolding afterEach legalLists listsIn listsBytes everyReturnBytes everyReturnLength everyReturnRefusal
+part20 = tt
+
 unfoldable pub everything : Unit {0}
 unfolding part0 part1 part2 part3 part4 part5 part6 part7 part8 part9 part10 part11 part12 part13 part14 part15 part16 part17 part18
-    part19
+    part19 part20
 everything = tt

@@ -2,7 +2,7 @@
 use mathlib.Core.Bool.{true}
 use mathlib.Core.Path.{_≡_, refl}
 use Rattle.algebra.specs.Lists.{every}
-use Rattle.rules.specs.Examples.{marked, unmarked, circuits, sizes, taus, shelves}
+use Rattle.rules.specs.Examples.{marked, unmarked, circuits, sizes, taus, shelves, smallSheets}
 use Rattle.rules.proofs.Computed.Computing.{everything}
 
 pub marked-hold : every (λ row. row .holds) marked ≡ true
@@ -28,3 +28,7 @@ taus-hold = refl
 pub shelves-hold : every (λ row. row .holds) shelves ≡ true
 unfolding everything shelves
 shelves-hold = refl
+
+pub small-sheets-hold : every (λ row. row .holds) smallSheets ≡ true
+unfolding everything smallSheets
+small-sheets-hold = refl

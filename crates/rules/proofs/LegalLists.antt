@@ -1,0 +1,4 @@
+-- Every legal return of a small sheet: the lists are the legal ones, each once, rising, and counted.
+pub mod Members
+pub mod Order
+pub mod Counted

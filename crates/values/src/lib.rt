@@ -20,7 +20,7 @@ use sheet::cursor::start;
 use sheet::read;
 
 // How many values a column has.
-fn values_of(column: Column) -> u32
+pub fn values_of(column: Column) -> u32
     requires { ⌜ InLimits (fromCode column) ⌝ }
     ensures { λ r. ⌜ r ≡ valuesOf (fromCode column) ⌝ }
 {

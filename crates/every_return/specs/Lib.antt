@@ -1,0 +1,2 @@
+-- What the contracts of this crate cite besides rules, sheet and values.
+pub mod Listing

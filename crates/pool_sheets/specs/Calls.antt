@@ -8,7 +8,8 @@ use lib.Dec.{eqb}
 use lib.ListN.{length}
 use Rattle.records.specs.Answers.{Writes, ifDone}
 use Rattle.rules.specs.Settings.{document01}
-use Rattle.rules.specs.Columns.{sheetFault}
+use Rattle.rules.specs.Columns.{sheetFault, columnsOf}
+use Rattle.rules.specs.EveryReturn.{listsIn, everyReturnBytes, everyReturnLength, everyReturnRefusal}
 use Rattle.rules.specs.CircuitReader.{sheetCircuit, sheetCircuitRefusal, circuitFault, countIn, stepWires, stepGates, stepTests}
 use Rattle.rules.specs.Sizes.{Sizes, sizesOf}
 
@@ -42,3 +43,8 @@ pub record ReadsCircuit (entries : ℕ) (circuit : List ℕ) (w m k : ℕ) (r w'
   pub wires-is : w' ≡ ifDone (circuitFault document01 entries circuit) (countIn stepWires document01 entries circuit) w
   pub multiplications-is : m' ≡ ifDone (circuitFault document01 entries circuit) (countIn stepGates document01 entries circuit) m
   pub tests-is : k' ≡ ifDone (circuitFault document01 entries circuit) (countIn stepTests document01 entries circuit) k
+
+-- pool_every_return: every legal list of values, and their count behind the pointer
+pub record WritesEveryReturn (sheet out : List ℕ) (lists written : ℕ) (r : ℕ) (out' : List ℕ) (lists' written' : ℕ) : Type 0 where
+  pub values : Writes (everyReturnRefusal sheet (length out)) (everyReturnBytes sheet) (everyReturnLength sheet) out written r out' written'
+  pub lists-is : lists' ≡ ifDone (everyReturnRefusal sheet (length out)) (listsIn (columnsOf sheet)) lists

@@ -2,7 +2,8 @@
 // rules of its own.
 // include/pool.h tells a host how to use them. Each takes any arguments and returns 0 or the number of the refusal; the
 // promises (specs/Calls) are equalities with rules' definitions at document 01's setting.
-ghost use Rattle.pool_sheets.specs.Calls.{nine, TellsSizes, WritesCircuit, ReadsCircuit};
+ghost use Rattle.pool_sheets.specs.Calls.{nine, TellsSizes, WritesCircuit, ReadsCircuit, WritesEveryReturn};
+use every_return::Listed;
 use sizes::Told;
 
 #[no_mangle]
@@ -69,6 +70,26 @@ pub extern "C" fn pool_read_circuit(
             *wires = counts.wires;
             *multiplications = counts.multiplications;
             *tests = counts.tests;
+            0
+        }
+    }
+}
+
+#[no_mangle]
+pub extern "C" fn pool_every_return(
+    sheet: &[u8],
+    out: &mut [u8],
+    lists: &mut u32,
+    written: &mut usize,
+) -> u32
+    ensures { λ r. ⌜ WritesEveryReturn (now (sheet .entry)) (now (out .entry)) (now (lists .entry)) (now (written .entry))
+        r (now (out .exit)) (now (lists .exit)) (now (written .exit)) ⌝ }
+{
+    match every_return::write(sheet, out) {
+        Listed::Refused(refusal) => refusal,
+        Listed::Done(found) => {
+            *lists = found.lists;
+            *written = found.written;
             0
         }
     }

@@ -28,6 +28,15 @@ extern "C" {
         tests: *mut u32,
     ) -> u32;
 
+    pub fn pool_every_return(
+        sheet: *const u8,
+        sheet_len: usize,
+        out: *mut u8,
+        out_len: usize,
+        lists: *mut u32,
+        written: *mut usize,
+    ) -> u32;
+
     pub fn pool_make(
         sheet: *const u8,
         sheet_len: usize,

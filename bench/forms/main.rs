@@ -1,7 +1,9 @@
-// Compares the sizes of a sheet, writing a circuit and storing messages by libpool.a with the same loops in Rust: their speed,
-// or with --check their results. The sizes stand beside reading alone, too: what it costs to find them.
+// Compares the sizes of a sheet, writing a circuit, every legal list of values and storing messages by libpool.a with the same
+// loops in Rust: their speed, or with --check their results. The sizes stand beside reading alone, too: what it costs to find
+// them.
 #[path = "../../include/pool.rs"]
 mod c;
+mod lists;
 mod loops;
 mod shelf;
 #[path = "../timing.rs"]
@@ -10,6 +12,7 @@ use std::hint::black_box;
 
 type Read = fn(&[u8], &mut [u32; 9]) -> u32;
 type Write = fn(&[u8], &mut [u8], &mut usize) -> u32;
+type List = fn(&[u8], &mut [u8], &mut u32, &mut usize) -> u32;
 
 fn our_sizes(sheet: &[u8], out: &mut [u32; 9]) -> u32 {
     let [c, e, p, w, m, t, b, s, n] = out;
@@ -18,6 +21,10 @@ fn our_sizes(sheet: &[u8], out: &mut [u32; 9]) -> u32 {
 
 fn our_circuit(s: &[u8], out: &mut [u8], written: &mut usize) -> u32 {
     unsafe { c::pool_circuit(s.as_ptr(), s.len(), out.as_mut_ptr(), out.len(), written) }
+}
+
+fn our_lists(s: &[u8], out: &mut [u8], lists: &mut u32, written: &mut usize) -> u32 {
+    unsafe { c::pool_every_return(s.as_ptr(), s.len(), out.as_mut_ptr(), out.len(), lists, written) }
 }
 
 // Sheets by name: small ones, for each kind and for a mixture one of about 256 entries, and one whose numbers keep N low.
@@ -35,6 +42,17 @@ fn sheets() -> Vec<(&'static str, Vec<u8>)> {
     ]
 }
 
+// Sheets of at most 4,096 lists.
+fn small_sheets() -> Vec<(&'static str, Vec<u8>)> {
+    vec![
+        ("17, 18 3", vec![17, 18, 3]),
+        ("12 yes/no", vec![17; 12]),
+        ("2 choices of 64", [18, 64].repeat(2)),
+        ("number of 12", vec![19, 12]),
+        ("3,840 lists", vec![17, 18, 3, 19, 4, 18, 5, 17, 19, 2]),
+    ]
+}
+
 fn read(f: Read, s: &[u8]) -> (u32, [u32; 9]) {
     let mut out = [9; 9];
     let answer = f(s, &mut out);
@@ -45,6 +63,28 @@ fn write(f: Write, s: &[u8], room: usize) -> (u32, usize, Vec<u8>) {
     let (mut out, mut written) = (vec![0xa5; room], 9);
     let answer = f(s, &mut out, &mut written);
     (answer, written, out)
+}
+
+fn list(f: List, s: &[u8], room: usize) -> (u32, u32, usize, Vec<u8>) {
+    let (mut out, mut lists, mut written) = (vec![0xa5; room], 9, 9);
+    let answer = f(s, &mut out, &mut lists, &mut written);
+    (answer, lists, written, out)
+}
+
+// In bytes written for a nanosecond; the ratio is that of the times.
+fn speed_of_lists() {
+    println!("{:<17} {:<17} {:>11} {:>11} {:>7}", "call", "sheet", "ours, B/ns", "Rust, B/ns", "ratio");
+    for (name, sheet) in small_sheets() {
+        let s = &sheet[..];
+        let bytes = list(our_lists, s, 196608).2 as f64;
+        let (mut out, mut same) = (vec![0; 196608], vec![0; 196608]);
+        let call = |f: List, out: &mut [u8]| {
+            let (mut lists, mut written) = (0, 0);
+            assert!(f(black_box(s), black_box(out), &mut lists, &mut written) == 0);
+        };
+        let [ours, rust] = timing::compare(&mut || call(our_lists, &mut out), &mut || call(lists::every_return, &mut same));
+        println!("{:<17} {name:<17} {:>11.2} {:>11.2} {:>7.2}", "every return", bytes / ours, bytes / rust, ours / rust);
+    }
 }
 
 fn speed() {
@@ -71,9 +111,24 @@ fn speed() {
         println!("{:<17} {name:<17} {ours:>11.1} {rust:>11.1} {:>7.2}", "write circuit", ours / rust);
     }
     shelf::speed();
+    speed_of_lists();
 }
 
-// Every sheet above, each with every byte set to a few others and cut at every place, and rooms around the length.
+// A sheet, cut at every place, and with every byte set to a few others.
+fn damaged(sheet: &[u8]) -> Vec<Vec<u8>> {
+    let mut all = vec![sheet.to_vec()];
+    all.extend((0..sheet.len()).map(|n| sheet[..n].to_vec()));
+    for at in 0..sheet.len() {
+        for byte in [0, 1, 16, 17, 20, 24, 25, 64, 65, 255] {
+            let mut changed = sheet.to_vec();
+            changed[at] = byte;
+            all.push(changed);
+        }
+    }
+    all
+}
+
+// Every sheet above and its damaged forms, and rooms around the length.
 fn check() -> bool {
     let (mut passed, mut failed) = (0, 0);
     let mut expect = |same: bool, sheet: &[u8]| {
@@ -85,21 +140,21 @@ fn check() -> bool {
         }
     };
     for (_, sheet) in sheets() {
-        let mut all = vec![sheet.clone()];
-        all.extend((0..sheet.len()).map(|n| sheet[..n].to_vec()));
-        for at in 0..sheet.len() {
-            for byte in [0, 1, 16, 17, 20, 24, 25, 64, 65, 255] {
-                let mut changed = sheet.clone();
-                changed[at] = byte;
-                all.push(changed);
-            }
-        }
-        for s in all {
+        for s in damaged(&sheet) {
             expect(read(our_sizes, &s) == read(loops::sizes, &s), &s);
             let (answer, length, _) = write(loops::circuit, &s, 8192);
             let rooms = if answer == 0 { vec![length - 1, length, length + 3] } else { vec![0, 8192] };
             for room in rooms {
                 expect(write(our_circuit, &s, room) == write(loops::circuit, &s, room), &s);
+            }
+        }
+    }
+    for (_, sheet) in small_sheets() {
+        for s in damaged(&sheet) {
+            let (answer, _, length, _) = list(lists::every_return, &s, 1 << 20);
+            let rooms = if answer == 0 { vec![length - 1, length, length + 3] } else { vec![0, 1 << 20] };
+            for room in rooms {
+                expect(list(our_lists, &s, room) == list(lists::every_return, &s, room), &s);
             }
         }
     }

@@ -3,7 +3,7 @@
 pub mod Computed
 -- Demand 2: walking the columns is the circuit's run; limits; a sheet's circuit is read; tests say legal
 pub mod Circuits
--- Every legal return of a small sheet: the lists are the legal ones, each once, rising, and counted
+-- Every legal return of a small sheet: the lists are the legal ones, each once, rising and counted, and making takes each
 pub mod LegalLists
 -- Judging and making: linearity, few pairs, shares add up, honest returns
 pub mod Returns

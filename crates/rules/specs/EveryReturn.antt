@@ -13,6 +13,7 @@ use Rattle.words.specs.Bytes.{bytesOfAll}
 use Rattle.records.specs.Outcome.{orElse}
 use Rattle.rules.specs.Columns.{Column, valuesOf, sheetFault, columnsOf, check}
 use Rattle.rules.specs.Values.{legalValues}
+use Rattle.rules.specs.Making.{valuesFault}
 
 -- each of the lists behind each value below n, the values rising
 unfoldable pub afterEach : ℕ → List (List ℕ) → List (List ℕ)
@@ -70,6 +71,12 @@ pub record EveryLegal (cs : List Column) : Type 0 where
   -- "The count of lists"
   pub counted : length (legalLists cs) ≡ listsIn cs
 
--- and of the bytes: as many as are asked of the buffer
+-- of the bytes: as many as are asked of the buffer
 abbrev pub BytesCounted : Type 0
 BytesCounted = (sheet : List ℕ) → length (everyReturnBytes sheet) ≡ everyReturnLength sheet
+
+-- and of each list's bytes: making finds no fault in these values
+abbrev pub ListsTaken : Type 0
+ListsTaken =
+    (sheet vs : List ℕ) → sheetFault sheet ≡ 0 → In vs (legalLists (columnsOf sheet))
+    → valuesFault (columnsOf sheet) (bytesOfAll 4 vs) ≡ 0

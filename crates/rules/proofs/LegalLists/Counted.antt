@@ -44,7 +44,7 @@ unfolding afterEach
 each-long zero k l h = all[]
 each-long (suc v) k l h = all-append (each-long v k l h) (map-all (v ∷_) (all-map (λ vs e. ap suc e) h))
 
-lists-long : (cs : List Column) → All (λ vs. length vs ≡ length cs) (legalLists cs)
+pub lists-long : (cs : List Column) → All (λ vs. length vs ≡ length cs) (legalLists cs)
 unfolding legalLists
 lists-long [] = all∷ refl all[]
 lists-long (c ∷ cs) = each-long (valuesOf c) (length cs) (legalLists cs) (lists-long cs)

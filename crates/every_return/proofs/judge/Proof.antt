@@ -10,7 +10,6 @@ use Rattle.rules.specs.EveryReturn.{listsIn, everyReturnLength, mostLists}
 use Rattle.rules.proofs.Circuits.Limits.{limits}
 use Rattle.columns.specs.declared.Counts.{Counts}
 use Rattle.sheet.proofs.Answers.{reading-refused, reading-counts}
-use Rattle.every_return.specs.declared.Lists.{Lists}
 use Rattle.every_return.specs.declared.Listed.the-variants as answer
 use Rattle.every_return.proofs.Products.{count-is, count-large}
 use Rattle.every_return.proofs.Answers.{refused-sheet, refused-many, refused-room, not-refused, bytes-few}

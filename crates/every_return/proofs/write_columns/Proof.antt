@@ -1,8 +1,8 @@
 -- `every_return::write_columns` meets its contract. The loop's invariant: the columns before the cursor are put in all lists
 -- (`ColumnsPut`), and `behind` is the count of the lists of the columns from the cursor on (`behind-next`); the measure is what
 -- is left of the columns. Assumes nothing.
-use mathlib.Core.Path.{_≡_, refl, sym, ap, subst, _∙_}
-use Prim.Native.Nat.{ℕ, suc, _+_, _*_, _-_, _≤_, _<_}
+use mathlib.Core.Path.{_≡_, sym, ap, _∙_}
+use Prim.Native.Nat.{ℕ, _*_, _-_, _<_}
 use native.Mathlib.Omega.{arith}
 use borrow.Author.Needs.{needs}
 use lib.ListN.{length, drop}

@@ -1,13 +1,12 @@
 -- How many lists and bytes there are: each value of the first column comes with all lists of the others, and each list has a
 -- value for each column. With it all that is promised of the lists. Assumes nothing.
 use mathlib.Core.Path.{_≡_, refl, ap, _∙_}
-use mathlib.Core.List.{List, [], _∷_, _++_, map}
-use Prim.Native.Nat.{ℕ, zero, suc, _+_, _*_}
+use mathlib.Core.List.{List, [], _∷_, map}
+use Prim.Native.Nat.{ℕ, zero, suc, _*_}
 use native.Mathlib.Omega.{arith}
 use lib.ListN.{length, length-append}
 use Rattle.algebra.specs.Lists.{All, all[], all∷}
 use Rattle.algebra.proofs.Members.{all-map, all-append, map-all}
-use Rattle.words.specs.Bytes.{bytesOfAll}
 use Rattle.words.proofs.Elements.{length-bytes-all}
 use Rattle.rules.specs.Columns.{Column, valuesOf, columnsOf}
 use Rattle.rules.specs.EveryReturn.{afterEach, legalLists, listsIn, listsBytes, everyReturnBytes, everyReturnLength}

@@ -22,5 +22,6 @@ pub use returns::{added_up, lets_in, pair, Origin, Return};
 pub use rng::Rng;
 pub use scripts::{Answer, Call, Script, Server, Step};
 pub use sheets::{
-    damaged_elements, damaged_sheet, damaged_values, elements, largest_limit, sheet, values,
+    damaged_elements, damaged_sheet, damaged_values, elements, largest_limit, sheet, small_sheet,
+    values,
 };

@@ -28,5 +28,7 @@ pub const JOINED: u32 = 12;
 pub const FULL: u32 = 13;
 /// Output buffer too short.
 pub const ROOM: u32 = 14;
+/// More than 4,096 lists.
+pub const MANY: u32 = 17;
 /// A run that is not R × W bytes.
 pub const RUN: u32 = 19;

@@ -210,7 +210,7 @@ fn every_refusal_is_reached() {
     for seed in 0..60 {
         check(&Script::random(seed), &mut met, &mut BTreeMap::new());
     }
-    assert_eq!(met, (1..=14).chain([19]).collect());
+    assert_eq!(met, (1..=14).chain([17, 19]).collect());
 }
 
 #[test]

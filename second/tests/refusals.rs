@@ -162,6 +162,7 @@ fn any_bytes_at_every_call() {
         let number = rng.next_u64() as u32;
         let _ = second::sizes(&bytes);
         let _ = second::circuit(&bytes, ROOM);
+        let _ = second::every_return(&bytes, length);
         let _ = second::read_circuit(number % 300, &bytes);
         let _ = second::recount(&bytes);
         let _ = make(&bytes, number % 10, number, &bytes, &bytes, ROOM);

@@ -1,10 +1,11 @@
 //! Single calls that no table takes part in: sizes, sheet to circuit, reading a circuit,
-//! making, opening, joining, recount and the shelf.
+//! every return, making, opening, joining, recount and the shelf.
 
 mod random;
 
 use crate::circuit::{circuit, read_circuit, Circuit};
 use crate::joining::{join, Joined};
+use crate::listing::{every_return, Listing};
 use crate::recount::recount;
 use crate::shelf::{shelve, unshelve};
 use crate::sizes::{sizes, Sizes};
@@ -20,6 +21,8 @@ pub enum Case {
     Circuit { sheet: Vec<u8>, room: usize },
     /// Reading a circuit.
     ReadCircuit { entries: u32, bytes: Vec<u8> },
+    /// Every legal return of a sheet.
+    EveryReturn { sheet: Vec<u8>, room: usize },
     /// Making a return.
     Make {
         sheet: Vec<u8>,
@@ -76,6 +79,8 @@ pub enum CaseAnswer {
         multiplications: usize,
         tests: usize,
     },
+    /// Every legal return.
+    Listing(Listing),
     /// A table was opened.
     Opened,
     /// Totals were joined.
@@ -132,6 +137,9 @@ impl Case {
             Case::Sizes { sheet } => sizes(sheet).map(CaseAnswer::Sizes),
             Case::Circuit { sheet, room } => circuit(sheet, *room).map(CaseAnswer::Bytes),
             Case::ReadCircuit { entries, bytes } => read_circuit(*entries, bytes).map(counts),
+            Case::EveryReturn { sheet, room } => {
+                every_return(sheet, *room).map(CaseAnswer::Listing)
+            }
             Case::Make {
                 sheet,
                 servers,

@@ -43,6 +43,28 @@ pub fn sheet(rng: &mut Rng, max_entries: usize) -> Vec<u8> {
     bytes
 }
 
+/// A legal sheet of few legal returns: up to 4,096, or, once in a while, a little over.
+pub fn small_sheet(rng: &mut Rng) -> Vec<u8> {
+    let most = rng.pick([2, 20, 300, 4096, 4096, 9000]);
+    let mut bytes = Vec::new();
+    let mut left = most;
+    while left >= 2 {
+        let options = rng.between(2, left.min(64));
+        let bits = rng.between(1, u64::from(left.ilog2()));
+        let (column, values) = match rng.below(3) {
+            0 => (vec![17], 2),
+            1 => (vec![18, options as u8], options),
+            _ => (vec![19, bits as u8], 1 << bits),
+        };
+        bytes.extend(column);
+        left /= values;
+        if rng.chance(10) {
+            break;
+        }
+    }
+    bytes
+}
+
 /// A sheet that is meant to be refused, 1 or 2. (A few that were only touched in one byte
 /// are legal after all.)
 pub fn damaged_sheet(rng: &mut Rng) -> Vec<u8> {

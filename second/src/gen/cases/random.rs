@@ -7,19 +7,21 @@ use crate::gen::any::{
 };
 use crate::gen::closings::{closing, damage_closings, recount_input};
 use crate::gen::{circuits, sheets, Rng};
+use crate::listing::every_return;
 use crate::sheet::Sheet;
 
 impl Case {
     /// A random case: half of them good, the rest with one fault or more.
     pub fn random(rng: &mut Rng) -> Case {
-        match rng.below(8) {
+        match rng.below(9) {
             0 => Case::random_sizes(rng),
             1 => Case::random_circuit(rng),
             2 => Case::random_read_circuit(rng),
-            3 => Case::random_make(rng),
-            4 => Case::random_open(rng),
-            5 => Case::random_join(rng),
-            6 => Case::random_recount(rng),
+            3 => Case::random_every_return(rng),
+            4 => Case::random_make(rng),
+            5 => Case::random_open(rng),
+            6 => Case::random_join(rng),
+            7 => Case::random_recount(rng),
             _ => Case::random_shelf(rng),
         }
     }
@@ -52,6 +54,18 @@ impl Case {
             _ => circuits::damaged_circuit(rng),
         };
         Case::ReadCircuit { entries, bytes }
+    }
+
+    /// Every legal return of a sheet, mostly a small one.
+    pub fn random_every_return(rng: &mut Rng) -> Case {
+        let sheet = if rng.chance(75) {
+            sheets::small_sheet(rng)
+        } else {
+            any_sheet(rng, 256, 60)
+        };
+        let needed = every_return(&sheet, usize::MAX).map_or(0, |listing| listing.values.len());
+        let room = any_room(rng, needed, 20);
+        Case::EveryReturn { sheet, room }
     }
 
     /// Making a return.

@@ -6,6 +6,7 @@
  * messages, add up what they accept, and publish totals.
  *
  *     every party       pool_sizes -----> what the sheet comes to, and so the length of every buffer
+ *     an author         pool_every_return -> every legal return of a small sheet
  *     workshop          pool_make ------> S share messages, one for each server
  *     each server       pool_open         once: a table
  *                       pool_share ------> its round-one message (14 bytes)    } for each return
@@ -78,6 +79,7 @@ extern "C" {
 #define POOL_JOINED 12  /* joined messages: length, kind, id, order, element, own message or counts wrong */
 #define POOL_FULL 13    /* N returns are decided */
 #define POOL_ROOM 14    /* the output buffer is too short */
+#define POOL_MANY 17    /* the sheet has more than 4,096 legal lists of values */
 #define POOL_RUN 19     /* shelf: the run is not R messages of W bytes */
 
 /* Limits. */
@@ -86,6 +88,7 @@ extern "C" {
 #define POOL_MAX_SERVERS 8
 #define POOL_MAX_RETURNS 1024
 #define POOL_MAX_ENTRIES 256
+#define POOL_MAX_LISTS 4096
 #define POOL_MAX_SHELF_MESSAGES 64
 #define POOL_MAX_SHELF_WIDTH 4096
 
@@ -113,6 +116,9 @@ extern "C" {
 #define POOL_TABLE_BYTES(sheet_len, published, share_bytes, returns) \
     (12 + (size_t)(sheet_len) + 4 * (size_t)(published) + 4 * (size_t)(returns) + 28 + (size_t)(share_bytes) - 6)
 
+/* The size of every legal list of values of a small sheet, in bytes, from its columns and the number of lists. */
+#define POOL_EVERY_RETURN_BYTES(columns, lists) ((size_t)(lists) * POOL_VALUES_BYTES(columns))
+
 /* The size of a run of stored messages, in bytes, from R and W. */
 #define POOL_SHELF_BYTES(messages, width) ((size_t)(messages) * (size_t)(width))
 
@@ -126,6 +132,7 @@ extern "C" {
 #define POOL_MAX_TOTALS_BYTES 1030
 #define POOL_MAX_JOIN_BYTES 1024
 #define POOL_MAX_TABLE_BYTES 8512
+#define POOL_MAX_EVERY_RETURN_BYTES 196608
 #define POOL_MAX_SHELF_BYTES 262144 /* and for every R and W */
 
 /*
@@ -160,6 +167,18 @@ uint32_t pool_circuit(const uint8_t *sheet, size_t sheet_len, uint8_t *out, size
  */
 uint32_t pool_read_circuit(uint32_t entries, const uint8_t *circuit, size_t circuit_len,
                            uint32_t *wires, uint32_t *multiplications, uint32_t *tests);
+
+/*
+ * Writes every legal list of values of a small sheet, each once: all fillings that an author reads the wording against.
+ *     out       the lists one after another, each as pool_make takes it: 4 bytes for each column. They stand in rising order,
+ *               the first column weighing most: from one list to the next the last column moves first. *written is
+ *               POOL_EVERY_RETURN_BYTES; a sheet with at most 4,096 lists has at most 12 columns, so that
+ *               POOL_MAX_EVERY_RETURN_BYTES are enough for every sheet
+ *     lists     how many there are, 1 list for each choice of a value in every column: 2, B or 2^b values, multiplied
+ * Refusals: the sheet's, 17 for more than 4,096 lists, 14.
+ */
+uint32_t pool_every_return(const uint8_t *sheet, size_t sheet_len, uint8_t *out, size_t out_len,
+                           uint32_t *lists, size_t *written);
 
 /*
  * Makes a return: writes the S share messages one after another in server order, share_bytes each: POOL_MAKE_BYTES.

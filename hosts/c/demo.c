@@ -54,14 +54,18 @@ static struct server {
 
 static void read_sheet(void)
 {
+    static uint8_t every[POOL_MAX_EVERY_RETURN_BYTES];
+    uint32_t lists;
+    size_t written;
     host_must("pool_sizes", pool_sizes(sheet, sizeof sheet, &sizes.columns, &sizes.entries, &sizes.published,
                                        &sizes.wires, &sizes.multiplications, &sizes.tests, &sizes.circuit_bytes,
                                        &sizes.share_bytes, &sizes.greatest_returns));
+    host_must("pool_every_return", pool_every_return(sheet, sizeof sheet, every, sizeof every, &lists, &written));
     printf("The sheet: %u questions, %u entries, %u totals; a circuit of %u wires, %u multiplications and %u tests.\n",
            (unsigned)sizes.columns, (unsigned)sizes.entries, (unsigned)sizes.published, (unsigned)sizes.wires,
            (unsigned)sizes.multiplications, (unsigned)sizes.tests);
-    printf("A share has %u bytes, and a pool takes at most %u returns.\n", (unsigned)sizes.share_bytes,
-           (unsigned)sizes.greatest_returns);
+    printf("It can be answered in %u ways. A share has %u bytes, and a pool takes at most %u returns.\n",
+           (unsigned)lists, (unsigned)sizes.share_bytes, (unsigned)sizes.greatest_returns);
 }
 
 static void open_servers(void)

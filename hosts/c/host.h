@@ -31,6 +31,7 @@ static inline const char *host_words(uint32_t refusal)
         "joined messages: length, kind, id, order, element, own message or counts wrong",
         "all N returns are decided",
         "the output buffer is too short",
+        [POOL_MANY] = "the sheet has more than 4,096 legal lists of values",
         [POOL_RUN] = "the run is not so many messages of this length",
     };
     return refusal < sizeof words / sizeof words[0] && words[refusal] ? words[refusal] : "unknown refusal";

@@ -41,6 +41,15 @@ func elements(numbers []uint32) []byte {
 	return b
 }
 
+// numbers reads what elements writes.
+func numbers(b []byte) []uint32 {
+	list := make([]uint32, len(b)/elementBytes)
+	for k := range list {
+		list[k] = binary.LittleEndian.Uint32(b[elementBytes*k:])
+	}
+	return list
+}
+
 // split cuts a run into parts of one length.
 func split(run []byte, length int) [][]byte {
 	var parts [][]byte

@@ -28,6 +28,7 @@ const (
 	kindChoice   = C.POOL_CHOICE
 	kindNumber   = C.POOL_NUMBER
 	elementBytes = 4
+	maxEvery     = C.POOL_MAX_EVERY_RETURN_BYTES
 	maxShelf     = C.POOL_MAX_SHELF_MESSAGES
 	maxWidth     = C.POOL_MAX_SHELF_WIDTH
 )
@@ -83,6 +84,15 @@ func coreReadCircuit(entries uint32, circuit []byte) (wires, multiplications, te
 	at, n := lend(circuit)
 	answer = uint32(C.pool_read_circuit(C.uint32_t(entries), at, n, &w, &m, &t))
 	return uint32(w), uint32(m), uint32(t), answer
+}
+
+func coreEveryReturn(sheet, out []byte) (lists uint32, written int, answer uint32) {
+	var l C.uint32_t
+	var w C.size_t
+	at, n := lend(sheet)
+	to, room := lend(out)
+	answer = uint32(C.pool_every_return(at, n, to, room, &l, &w))
+	return uint32(l), int(w), answer
 }
 
 func coreMake(sheet []byte, servers, id uint32, values, random, out []byte) (written int, answer uint32) {

@@ -152,10 +152,13 @@ func TestRefusalInWords(t *testing.T) {
 			t.Errorf("no words for %d", uint32(k))
 		}
 	}
-	for _, k := range []Refusal{0, Room + 1} {
+	for _, k := range []Refusal{0, Room + 1, Many + 1} {
 		if got, want := k.Error(), fmt.Sprintf("refused %d: unknown refusal", uint32(k)); got != want {
 			t.Errorf("got %s, want %s", got, want)
 		}
+	}
+	if got := Many.Error(); !strings.HasPrefix(got, "refused 17: more than 4,096") {
+		t.Errorf("got %s", got)
 	}
 	if got := Run.Error(); !strings.HasPrefix(got, "refused 19: not so many messages") {
 		t.Errorf("got %s", got)

@@ -28,6 +28,7 @@ const (
 	Joined  Refusal = 12 // joined messages at fault
 	Full    Refusal = 13 // N returns are decided
 	Room    Refusal = 14 // the output buffer is too short
+	Many    Refusal = 17 // the sheet has more than 4,096 legal returns
 	Run     Refusal = 19 // messages that are not of one length, or a stored run of another length
 )
 
@@ -46,6 +47,7 @@ var words = [...]string{
 	Joined:  "joined messages: length, kind, id, order, element, own message or counts wrong",
 	Full:    "all N returns are decided",
 	Room:    "the output buffer is too short",
+	Many:    "more than 4,096 legal returns: take fewer columns, options or bits",
 	Run:     "not so many messages of one length: give whole messages, and the number and length that were stored",
 }
 

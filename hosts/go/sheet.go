@@ -100,6 +100,22 @@ func (s *Sheet) Columns() []Column { return append([]Column(nil), s.columns...) 
 // Sizes tells what the sheet comes to: an author looks at it before the sheet is printed.
 func (s *Sheet) Sizes() Sizes { return s.sizes }
 
+// EveryReturn gives every legal return of a small sheet, each once: all fillings that an author reads the wording against.
+// A return is one value for each column; they rise, the first column weighing most. A sheet with more than 4,096 of them
+// is refused (Many).
+func (s *Sheet) EveryReturn() ([][]uint32, error) {
+	out := make([]byte, maxEvery)
+	lists, n, number := coreEveryReturn(s.bytes, out)
+	if number != 0 {
+		return nil, answer("every return", number)
+	}
+	all := make([][]uint32, 0, lists)
+	for _, list := range split(out[:n], elementBytes*s.sizes.Columns) {
+		all = append(all, numbers(list))
+	}
+	return all, nil
+}
+
 // Circuit gives the sheet's circuit.
 func (s *Sheet) Circuit() ([]byte, error) {
 	out := make([]byte, s.sizes.CircuitBytes)

@@ -337,6 +337,22 @@ uint32_t call_read_circuit(uint32_t entries, const struct run *circuit, struct c
     return end(answer);
 }
 
+uint32_t call_every_return(const struct run *sheet, size_t room, uint32_t *lists, struct run *out)
+{
+    begin("pool_every_return");
+    int s = lend(sheet), o = lend_room(room);
+    struct result32 l = RESULT32;
+    struct result_size w = RESULT_SIZE;
+    uint32_t answer = pool_every_return(LENT(s), LENT(o), &l.value, &w.value);
+    answered(answer, SHEET | MAY(POOL_MANY) | MAY(POOL_ROOM));
+    kept(s);
+    check32(&l, answer);
+    take(o, &w, answer, out);
+    if (answer == 0)
+        *lists = l.value;
+    return end(answer);
+}
+
 uint32_t call_make(const struct run *sheet, uint32_t servers, uint32_t id, const struct run *values,
                    const struct run *random, size_t room, struct run *out)
 {

@@ -58,6 +58,7 @@ uint32_t get_u32(const uint8_t *at);
 uint32_t call_sizes(const struct run *sheet, struct sheet_sizes *sizes);
 uint32_t call_circuit(const struct run *sheet, size_t room, struct run *out);
 uint32_t call_read_circuit(uint32_t entries, const struct run *circuit, struct circuit_counts *counts);
+uint32_t call_every_return(const struct run *sheet, size_t room, uint32_t *lists, struct run *out);
 uint32_t call_make(const struct run *sheet, uint32_t servers, uint32_t id, const struct run *values,
                    const struct run *random, size_t room, struct run *out);
 uint32_t call_open(uint32_t servers, uint32_t own, const struct run *sheet, uint32_t returns, size_t room,

@@ -224,6 +224,66 @@ static void long_circuit(void)
     }
 }
 
+/* Every legal return */
+
+/* How many values each column has; gives the number of lists, or a number above POOL_MAX_LISTS. */
+static uint32_t bases(uint32_t *base)
+{
+    uint32_t lists = 1;
+    for (size_t at = 0; at < pool.sheet.len; at++) {
+        uint8_t kind = pool.sheet.at[at];
+        uint32_t size = kind == POOL_YES_NO ? 2 : pool.sheet.at[++at];
+        *base = kind == POOL_NUMBER ? UINT32_C(1) << size : size;
+        lists = lists > POOL_MAX_LISTS / *base ? POOL_MAX_LISTS + 1 : lists * *base;
+        base++;
+    }
+    return lists;
+}
+
+/* The lists that were written are those of counting, the last column counting least. */
+static void counted(const uint32_t *base, uint32_t lists)
+{
+    uint32_t columns = pool.sizes.columns, at = 0;
+    for (uint32_t k = 0; k < lists; k++, at += columns)
+        for (uint32_t j = columns, rest = k; j-- > 0; rest /= base[j])
+            if (get_u32(a.at + 4 * (at + j)) != rest % base[j])
+                fail("a list of values in another place");
+}
+
+static void every_return(void)
+{
+    uint32_t base[POOL_MAX_ENTRIES], want = bases(base), lists = 0, ignored;
+    size_t room = want > POOL_MAX_LISTS ? random_below(100) : POOL_EVERY_RETURN_BYTES(pool.sizes.columns, want);
+    uint32_t answer = call_every_return(&pool.sheet, room, &lists, &a);
+    if (answer != (want > POOL_MAX_LISTS ? POOL_MANY : 0))
+        fail("whether there are too many lists");
+    if (answer == 0) {
+        if (lists != want || a.len != room)
+            fail("the number of lists");
+        counted(base, lists);
+        if (call_every_return(&pool.sheet, room - 1, &lists, &b) != POOL_ROOM)
+            fail("lists in too little room");
+    }
+    for (int k = 0; k < 2; k++) {
+        copy(&c, &pool.sheet);
+        wild(&c);
+        call_every_return(&c, wild_room(room), &ignored, &out);
+    }
+}
+
+/* As many lists as may be, and then 4,100. */
+static void most_lists(void)
+{
+    static const uint8_t most[] = {POOL_CHOICE, 64, POOL_NUMBER, 6};
+    static const uint8_t more[] = {POOL_YES_NO, POOL_CHOICE, 41, POOL_CHOICE, 50};
+    for (int k = 0; k < 2; k++) {
+        pool.sheet.len = 0;
+        append(&pool.sheet, k ? more : most, k ? sizeof more : sizeof most);
+        must(call_sizes(&pool.sheet, &pool.sizes), "a sound sheet is refused");
+        every_return();
+    }
+}
+
 /* The shelf */
 
 /* Stores a run by place and brings it back, then tries both with wild arguments. */
@@ -513,6 +573,7 @@ static void play_pool(void)
     pool.joined.len = pool.next.len = pool.shares.len = 0;
     new_sheet();
     circuits();
+    every_return();
     shelves();
     pool.servers = POOL_MIN_SERVERS + random_below(POOL_MAX_SERVERS - POOL_MIN_SERVERS + 1);
     pool.returns = MOST_RETURNS + random_below(random_below(8) ? 4 : 100);
@@ -540,6 +601,7 @@ int main(int argc, char **argv)
             long_sheet();
             long_circuit();
             long_shelf();
+            most_lists();
         }
         play_pool();
     }

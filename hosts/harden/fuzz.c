@@ -213,6 +213,7 @@ int LLVMFuzzerInitialize(int *argc, char ***argv)
 int LLVMFuzzerTestOneInput(const uint8_t *data, size_t size)
 {
     struct circuit_counts circuit;
+    uint32_t lists;
     input.at = data;
     input.left = size;
     before = 8;
@@ -222,6 +223,7 @@ int LLVMFuzzerTestOneInput(const uint8_t *data, size_t size)
         bytes(&sheet, RUN_BYTES / 2);
         note(7, 0, call_sizes(&sheet, &sizes));
         note(7, 1, call_circuit(&sheet, POOL_MAX_CIRCUIT_BYTES, &out));
+        note(7, 3, call_every_return(&sheet, POOL_MAX_EVERY_RETURN_BYTES, &lists, &out));
         break;
     case 1: {
         uint32_t entries = byte() | (uint32_t)byte() << 8;

@@ -16,10 +16,11 @@ enum { STACK = 1024 * 1024, PROMISED = 64 * 1024, PAINT = 0xa7, SERVERS = 8, RET
 static uint8_t sheet[POOL_MAX_SHEET_BYTES], circuit[POOL_MAX_CIRCUIT_BYTES], values[POOL_MAX_VALUES_BYTES];
 static uint8_t elements[POOL_MAX_RANDOM_BYTES], shares[POOL_MAX_MAKE_BYTES];
 static uint8_t tables[SERVERS][POOL_MAX_TABLE_BYTES], joined[SERVERS * POOL_MAX_TOTALS_BYTES], other[sizeof joined];
-static uint8_t totals[POOL_MAX_JOIN_BYTES], messages[POOL_MAX_SHELF_BYTES], stored[POOL_MAX_SHELF_BYTES];
+static uint8_t every[POOL_MAX_EVERY_RETURN_BYTES], totals[POOL_MAX_JOIN_BYTES];
+static uint8_t messages[POOL_MAX_SHELF_BYTES], stored[POOL_MAX_SHELF_BYTES];
 static size_t sheet_len, circuit_len, table_len, joined_len, written;
 static uint32_t columns, entries, published, wires, multiplications, tests, circuit_bytes, share_bytes, most;
-static uint32_t accepted, refused;
+static uint32_t lists, accepted, refused;
 
 static void tell_sizes(void)
 {
@@ -32,6 +33,15 @@ static void write_circuit(void) { refused |= pool_circuit(sheet, sheet_len, circ
 static void read_circuit(void)
 {
     refused |= pool_read_circuit(entries, circuit, circuit_len, &wires, &multiplications, &tests);
+}
+
+/* As many lists as may be, whatever the sheet. */
+static void every_return(void)
+{
+    static const uint8_t small[12] = {POOL_YES_NO, POOL_YES_NO, POOL_YES_NO, POOL_YES_NO, POOL_YES_NO, POOL_YES_NO,
+                                      POOL_YES_NO, POOL_YES_NO, POOL_YES_NO, POOL_YES_NO, POOL_YES_NO, POOL_YES_NO};
+    refused |= pool_every_return(small, sizeof small, every, sizeof every, &lists, &written);
+    refused |= lists != POOL_MAX_LISTS;
 }
 
 static void make(void)
@@ -138,7 +148,7 @@ static const struct {
     {"sizes", tell_sizes},    {"circuit", write_circuit}, {"read_circuit", read_circuit}, {"make", make},
     {"open", open_tables},    {"share", take_shares},     {"drop", drop_share},           {"share", take_again},
     {"round_one", round_one}, {"round_two", round_two},   {"close", close_tables},        {"join", join},
-    {"shelve", shelve},       {"unshelve", unshelve},
+    {"shelve", shelve},       {"unshelve", unshelve},     {"every_return", every_return},
 };
 
 /* Runs every step; gives the number of those that need more than was promised. */

@@ -12,6 +12,7 @@ mod fixture;
 mod guard;
 mod layout;
 mod limits;
+mod lists;
 mod pages;
 mod pools;
 mod recount;
@@ -39,10 +40,11 @@ const CASE_BLOCKS: (u64, u64) = (5, 60);
 const POOL_BLOCKS: (u64, u64) = (3, 30);
 
 /// The refusals of each function, by the header.
-const REFUSALS: [(Function, &[u32]); 13] = [
+const REFUSALS: [(Function, &[u32]); 14] = [
     (Function::Sizes, &[0, 1, 2]),
     (Function::Circuit, &[0, 1, 2, 14]),
     (Function::ReadCircuit, &[0, 1, 2, 3]),
+    (Function::EveryReturn, &[0, 1, 2, 14, 17]),
     (Function::Make, &[0, 1, 2, 5, 6, 14]),
     (Function::Open, &[0, 1, 2, 4, 14]),
     (Function::Share, &[0, 7, 8, 9, 10, 11, 13, 14]),
@@ -58,10 +60,11 @@ const REFUSALS: [(Function, &[u32]); 13] = [
 type Test = fn(&mut Suite) -> Verdict;
 
 /// Named tests without a seed of their own.
-const NAMED: [(&str, Test); 49] = [
+const NAMED: [(&str, Test); 56] = [
     ("header: constants", sizes::constants),
     ("header: sizes", sizes::lengths),
     ("header: sizes of runs", sizes::runs),
+    ("header: sizes of lists", sizes::lists),
     ("examples: sheets", examples::sheets),
     ("examples: an honest return", examples::honest),
     ("examples: a false entry", examples::cheating),
@@ -72,6 +75,7 @@ const NAMED: [(&str, Test); 49] = [
     ("sizes: random sheets", counts::random),
     ("faults alone and in pairs: circuit", faults::circuit),
     ("faults alone and in pairs: read_circuit", circuits::order),
+    ("faults alone and in pairs: every_return", lists::order),
     ("faults alone and in pairs: make", faults::make),
     ("faults alone and in pairs: open", faults::open),
     ("faults alone and in pairs: share", faults::share),
@@ -99,6 +103,11 @@ const NAMED: [(&str, Test); 49] = [
     ("tables: what is free", tables::free),
     ("decided: the bytes of a share", decided::bytes),
     ("decided: tables added up", decided::sums),
+    ("every return: told by hand", lists::by_hand),
+    ("every return: limits", lists::limits),
+    ("every return: rooms", lists::exact_rooms),
+    ("every return: random sheets", lists::random),
+    ("every return: all and no other", lists::no_other),
     ("shelf: told by hand", shelf::by_hand),
     ("shelf: limits", shelf::limits),
     ("shelf: rooms", shelf::exact_rooms),

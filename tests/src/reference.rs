@@ -16,6 +16,7 @@ pub fn answer(call: &Call) -> Outcome {
         Function::Sizes => plain(sizes(&second::sizes(&call.sheet)?), Vec::new()),
         Function::Circuit => plain(Vec::new(), second::circuit(&call.sheet, call.room)?),
         Function::ReadCircuit => read_circuit(call),
+        Function::EveryReturn => every_return(call),
         Function::Make => make(call),
         Function::Open => open(call),
         Function::Share => share(call),
@@ -41,6 +42,11 @@ fn read_circuit(call: &Call) -> Outcome {
     let circuit = second::read_circuit(call.entries, &call.message)?;
     let counts = [circuit.wires(), circuit.multiplications(), circuit.tests()];
     plain(counts.map(|count| count as u64).to_vec(), Vec::new())
+}
+
+fn every_return(call: &Call) -> Outcome {
+    let listing = second::every_return(&call.sheet, call.room)?;
+    plain(vec![u64::from(listing.lists)], listing.values)
 }
 
 fn make(call: &Call) -> Outcome {

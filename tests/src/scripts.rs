@@ -11,6 +11,7 @@ use crate::suite::{Suite, Verdict};
 /// Lengths that are enough for everything, in place of a room without end.
 const MESSAGE_ROOM: usize = 1_100;
 const CIRCUIT_ROOM: usize = 7_100;
+const LISTS_ROOM: usize = 196_700;
 const MAKE_ROOM: usize = 25_000;
 const SHELF_ROOM: usize = 262_200;
 
@@ -124,6 +125,9 @@ fn case_call(case: &Case) -> Option<Call> {
         Case::Sizes { sheet } => Call { sheet, ..Call::of(Function::Sizes) },
         Case::Circuit { sheet, room } => Call { sheet, room: room.min(CIRCUIT_ROOM), ..Call::of(Function::Circuit) },
         Case::ReadCircuit { entries, bytes } => Call { entries, message: bytes, ..Call::of(Function::ReadCircuit) },
+        Case::EveryReturn { sheet, room } => {
+            Call { sheet, room: room.min(LISTS_ROOM), ..Call::of(Function::EveryReturn) }
+        }
         Case::Make { sheet, servers, id, values, random, room } => {
             let room = room.min(MAKE_ROOM);
             Call { sheet, servers, id, values, random, room, ..Call::of(Function::Make) }
@@ -150,6 +154,9 @@ fn same_case(outcome: &Outcome, answer: &CaseAnswer) -> bool {
         (Ok(Done { numbers, .. }), CaseAnswer::Counts { wires, multiplications, tests }) => {
             *numbers == counts(*wires, *multiplications, *tests)
         }
+        (Ok(Done { numbers, bytes, .. }), CaseAnswer::Listing(listing)) => {
+            *numbers == [u64::from(listing.lists)] && *bytes == listing.values
+        }
         (Ok(_), CaseAnswer::Opened) => true,
         (Ok(Done { numbers, bytes, .. }), CaseAnswer::Joined(joined)) => {
             *numbers == [u64::from(joined.count)] && *bytes == joined.totals
@@ -175,13 +182,14 @@ fn exchanged(suite: &mut Suite, exchange: &Exchange) -> Verdict {
 pub fn cases(suite: &mut Suite, seed: u64) -> Verdict {
     let mut rng = suite.seed(seed);
     for _ in 0..50 {
-        let case = match rng.below(11) {
+        let case = match rng.below(12) {
             0 => Case::random_sizes(&mut rng),
             1 | 2 => Case::random_circuit(&mut rng),
             3 | 4 => Case::random_read_circuit(&mut rng),
             5 => Case::random_make(&mut rng),
             6 | 7 => Case::random_open(&mut rng),
             8 => Case::random_shelf(&mut rng),
+            9 => Case::random_every_return(&mut rng),
             _ => Case::random_join(&mut rng),
         };
         let exchange = Exchange::of(case);

@@ -18,17 +18,20 @@ size_t sizes_table(size_t sheet_len, uint32_t published, uint32_t share_bytes, u
 
 size_t sizes_shelf(uint32_t messages, uint32_t width) { return POOL_SHELF_BYTES(messages, width); }
 
+size_t sizes_every_return(uint32_t columns, uint32_t lists) { return POOL_EVERY_RETURN_BYTES(columns, lists); }
+
 /* The numbered constants, in the order in which the header tells them. */
 size_t sizes_constant(uint32_t number)
 {
     static const size_t constants[] = {
         POOL_DONE, POOL_KIND, POOL_LIMIT, POOL_WIRE, POOL_WRAP, POOL_VALUE, POOL_RANDOM, POOL_SHARE,
         POOL_ELEMENT, POOL_PAIR, POOL_DECIDED, POOL_STAGE, POOL_JOINED, POOL_FULL, POOL_ROOM,
-        POOL_RUN,
+        POOL_MANY, POOL_RUN,
         POOL_PRIME, POOL_MIN_SERVERS, POOL_MAX_SERVERS, POOL_MAX_RETURNS, POOL_MAX_ENTRIES,
         POOL_YES_NO, POOL_CHOICE, POOL_NUMBER, POOL_ROUND_BYTES,
         POOL_MAX_SHEET_BYTES, POOL_MAX_CIRCUIT_BYTES, POOL_MAX_SHARE_BYTES, POOL_MAX_TOTALS_BYTES,
         POOL_MAX_TABLE_BYTES, POOL_MAX_SHELF_MESSAGES, POOL_MAX_SHELF_WIDTH, POOL_MAX_SHELF_BYTES,
+        POOL_MAX_LISTS, POOL_MAX_EVERY_RETURN_BYTES,
     };
     return number < sizeof constants / sizeof constants[0] ? constants[number] : (size_t)-1;
 }
@@ -40,6 +43,7 @@ typedef uint32_t *number;
 uint32_t (*const type_sizes)(in, size_t, number, number, number, number, number, number, number, number, number) = pool_sizes;
 uint32_t (*const type_circuit)(in, size_t, out, size_t, size_t *) = pool_circuit;
 uint32_t (*const type_read_circuit)(uint32_t, in, size_t, number, number, number) = pool_read_circuit;
+uint32_t (*const type_every_return)(in, size_t, out, size_t, number, size_t *) = pool_every_return;
 uint32_t (*const type_make)(in, size_t, uint32_t, uint32_t, in, size_t, in, size_t, out, size_t, size_t *) = pool_make;
 uint32_t (*const type_open)(uint32_t, uint32_t, in, size_t, uint32_t, out, size_t, size_t *) = pool_open;
 uint32_t (*const type_share)(out, size_t, in, size_t, uint64_t, uint64_t, out, size_t, size_t *) = pool_share;

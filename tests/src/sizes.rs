@@ -16,16 +16,17 @@ extern "C" {
     fn sizes_join(published: u32) -> usize;
     fn sizes_table(sheet_len: usize, published: u32, share_bytes: u32, returns: u32) -> usize;
     fn sizes_shelf(messages: u32, width: u32) -> usize;
+    fn sizes_every_return(columns: u32, lists: u32) -> usize;
     fn sizes_constant(number: u32) -> usize;
 }
 
 /// The refusals.
-const REFUSALS: [usize; 16] = [0, 1, 2, 3, 4, 5, 6, 7, 8, 9, 10, 11, 12, 13, 14, 19];
+const REFUSALS: [usize; 17] = [0, 1, 2, 3, 4, 5, 6, 7, 8, 9, 10, 11, 12, 13, 14, 17, 19];
 
 /// After the refusals: p, S from and to, the most returns and entries, the column kinds, a round message's length, and
-/// the largest sizes; R and W at most, and their product.
-const CONSTANTS: [usize; 17] =
-    [2_147_483_647, 2, 8, 1024, 256, 17, 18, 19, 14, 256, 7008, 3102, 1030, 8512, 64, 4096, 262_144];
+/// the largest sizes; R and W at most, and their product; lists at most, and their bytes.
+const CONSTANTS: [usize; 19] =
+    [2_147_483_647, 2, 8, 1024, 256, 17, 18, 19, 14, 256, 7008, 3102, 1030, 8512, 64, 4096, 262_144, 4096, 196_608];
 
 pub fn constants(_: &mut Suite) -> Verdict {
     for (number, must) in REFUSALS.into_iter().chain(CONSTANTS).enumerate() {
@@ -92,6 +93,19 @@ pub fn runs(suite: &mut Suite) -> Verdict {
         suite.number(&shelve, 0)?;
         suite.number(&Call { room: room - 1, ..shelve.clone() }, 14)?;
         suite.number(&Call { message: vec![3; room + 1], ..shelve }, 19)?;
+    }
+    Ok(())
+}
+
+/// The lists of a sheet and the room for them have the size that the header's macro gives.
+pub fn lists(suite: &mut Suite) -> Verdict {
+    suite.seed(10);
+    for (sheet, lists) in [(vec![17], 2), (vec![17, 18, 3, 19, 4], 96), (vec![19, 12], 4096), (vec![17; 12], 4096)] {
+        let columns = told(suite, &sheet)?[0];
+        let room = unsafe { sizes_every_return(columns, lists) };
+        let call = Call { sheet, room, ..Call::of(Function::EveryReturn) };
+        suite.number(&call, 0)?;
+        suite.number(&Call { room: room - 1, ..call }, 14)?;
     }
     Ok(())
 }

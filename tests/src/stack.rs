@@ -48,6 +48,10 @@ fn measure(suite: &mut Suite) -> Result<usize, String> {
         let (messages, width, message, room) = (64, 4096, vec![7; 262_144], 262_144);
         most = most.max(used(suite, &Call { messages, width, message, room, ..Call::of(function) })?);
     }
+    for sheet in [vec![17; 12], vec![19, 12]] {
+        let call = Call { sheet, room: 196_608, ..Call::of(Function::EveryReturn) };
+        most = most.max(used(suite, &call)?);
+    }
     let mut number = [19, 24].repeat(10);
     number.extend([19, 5]);
     for sheet in [vec![17; 256], [18, 64].repeat(4), number] {

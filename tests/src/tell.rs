@@ -15,6 +15,7 @@ impl fmt::Display for Call {
             Function::Sizes => write!(f, "pool_sizes sheet={sheet}"),
             Function::Circuit => write!(f, "pool_circuit sheet={sheet} out_len={room}"),
             Function::ReadCircuit => write!(f, "pool_read_circuit entries={} circuit={message}", self.entries),
+            Function::EveryReturn => write!(f, "pool_every_return sheet={sheet} out_len={room}"),
             Function::Make => {
                 write!(f, "pool_make sheet={sheet} servers={servers} id={} ", self.id)?;
                 write!(f, "values={} random={} out_len={room}", Hex(&self.values), Hex(&self.random))

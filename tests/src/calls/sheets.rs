@@ -51,6 +51,18 @@ impl Call {
         numbers(answer, &words)
     }
 
+    pub(super) fn every_return(&self, rng: &mut Rng) -> Result<Outcome, String> {
+        let sheet = Lent::of("sheet", &self.sheet, rng);
+        let mut out = Lent::room("out", self.room, rng);
+        let mut lists = word32("lists", rng);
+        let mut written = word_size("written", rng);
+        let (from, length) = (sheet.pointer(), sheet.length());
+        let (to, room) = (out.pointer_mut(), out.length());
+        let answer = unsafe { c::pool_every_return(from, length, to, room, lists.pointer(), written.pointer()) };
+        sheet.kept()?;
+        wrote(answer, &out, &written, &[lists])
+    }
+
     pub(super) fn make(&self, rng: &mut Rng) -> Result<Outcome, String> {
         let sheet = Lent::of("sheet", &self.sheet, rng);
         let values = Lent::of("values", &self.values, rng);

@@ -24,9 +24,10 @@ use Rattle.rules.specs.Server.{closeRefusal, totalsLength, totalsMessage}
 use Rattle.rules.specs.Table.{stageByte, waitingIn, stageIn, tableState, tableFault, totalsPlace}
 use Rattle.rules.specs.Table.{closeRefused, closeTable, closeBytes}
 use Rattle.layout.specs.Places.{totalsAt}
+use Rattle.layout.specs.Numbers.{tableOf}
 use Rattle.layout.specs.Writing.{closingBytes, Closable}
 use Rattle.layout.specs.declared.Table.{Table}
-use Rattle.table.specs.Reading.{tableOf, foundIn, Sound}
+use Rattle.table.specs.Reading.{foundIn, Sound}
 use Rattle.table.specs.declared.Found.the-variants as answer
 use Rattle.table.proofs.Answers.{unsound}
 use Rattle.closing.specs.Calls.{Closes}
@@ -106,7 +107,7 @@ module _ (T out : List ℕ) (k : Table) (s : Sound T k) where
   close-narrow = rw (s .says) (narrow-at T out fault-none)
 
   pub close-closes : 6 + 4 * k .published ≤ length out → Closable T k (length out)
-  close-closes l = record { whole = record { limited = s .limited; long = s .long }; enough = l }
+  close-closes l = record { limited = s .limited; totals-long = omega (arith, s .long); enough = l }
 
   closed-at : k .stage ≡ 0 → 6 + 4 * k .published ≤ length out → totalsAt (k .sheet) + 4 * k .published ≤ length T
       → All (λ b. b < 256) T → 1 + 1 ≤ length T

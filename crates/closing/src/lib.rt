@@ -4,12 +4,12 @@
 ghost use Rattle.closing.specs.Calls.{Drops, Closes};
 use layout::CLOSED;
 use layout::IDLE;
-use layout::writing::decide;
 use layout::writing::write_closing;
 use records::Written;
 use table::Found;
 use table::read;
-use table::waits;
+use waiting::waits;
+use waiting::writing::decide;
 
 // Drops the return that waits. Its id stays used.
 pub fn drop(table: &mut [u8]) -> u32
@@ -21,8 +21,8 @@ pub fn drop(table: &mut [u8]) -> u32
             if !waits(k.stage) {
                 return 11;
             }
-            let id = words::read_u32(table, k.wait_place());
-            decide(table, k, 0, id);
+            let w = waiting::read(table, k);
+            decide(table, k, 0, w.id);
             0
         }
     }

@@ -1,5 +1,5 @@
--- What is written piece after piece: the header of a fresh table, cleared bytes, the marks of a decided return, the closing
--- message. A piece goes where the one before ends (`grow`). Assumes that the pieces lie within the buffer.
+-- What is written piece after piece: cleared bytes, the header of a fresh table, a return noted among those decided, the
+-- closing message. A piece goes where the one before ends (`grow`). Assumes that the pieces lie within the buffer.
 use mathlib.Core.Path.{_≡_, refl, sym, ap, _∙_}
 use mathlib.Core.List.{List, [], _∷_, _++_}
 use Prim.Native.Nat.{ℕ, _+_, _*_, _-_, _≤_, _<_}
@@ -8,13 +8,11 @@ use lib.ListN.{length, getD, set, take, drop, replicate, length-append, length-r
 use lib.Seq.{take-all}
 use Rattle.words.specs.Bytes.{bytesOf, part, splice}
 use Rattle.words.proofs.Numbers.{length-bytes}
-use Rattle.words.proofs.Splice.{length-splice}
 use Rattle.words.proofs.Loops.{sets-splice, grow, copy-next}
 use Rattle.totals_message.specs.Totals.{totalsHeader}
 use Rattle.totals_message.proofs.Writing.{length-totals-header}
-use Rattle.layout.specs.Places.{totalsAt, idsAt, waitAt, keptAt}
-use Rattle.limits.specs.Sheets.{sizeOf}
-use Rattle.layout.specs.Writing.{startBytes, erased, decidedAs, closingBytes}
+use Rattle.layout.specs.Places.{totalsAt, idsAt}
+use Rattle.layout.specs.Writing.{startBytes, noted, closingBytes}
 use Rattle.layout.specs.declared.Table.{Table}
 
 -- ---- cleared bytes
@@ -54,32 +52,16 @@ start-written s servers own returns n h =
     )
     (grow s 0 (first ++ bytesOf 2 returns ++ bytesOf 2 0 ++ bytesOf 2 0) (bytesOf 2 n) 10 ten (omega arith))
 
--- ---- a decided return
-pub decided-written : (k : Table) (accepted id : ℕ) (t : List ℕ) → 12 ≤ length t
-    → idsAt (k .sheet) (k .published) + 4 * k .decided + 4 ≤ length t
-    → waitAt (k .sheet) (k .published) (k .returns) + keptAt (sizeOf (k .entries) (k .gates)) ≤ length t
-    → set
-    (erased k
-    (splice
+-- ---- a return noted among those decided
+pub noted-written : (k : Table) (accepted id : ℕ) (t : List ℕ) → 12 ≤ length t
+    → splice
     (splice (splice t 6 (bytesOf 2 (k .decided + 1))) 8 (bytesOf 2 (k .accepted + accepted)))
-    (idsAt (k .sheet) (k .published) + 4 * k .decided) (bytesOf 4 id))) 1 0
-    ≡ decidedAs k accepted id t
-unfolding decidedAs
-decided-written k accepted id t h room kept =
-    let at = idsAt (k .sheet) (k .published) + 4 * k .decided in
-    let counts : List ℕ = bytesOf 2 (k .decided + 1) ++ bytesOf 2 (k .accepted + accepted) in
+    (idsAt (k .sheet) (k .published) + 4 * k .decided) (bytesOf 4 id)
+    ≡ noted k accepted id t
+unfolding noted
+noted-written k accepted id t h =
     let two : length (bytesOf 2 (k .decided + 1)) ≡ 2 = length-bytes 2 (k .decided + 1) in
-    let four : length counts ≡ 4 = simp (length-append, length-bytes) in
-    let id-four : length (bytesOf 4 id) ≡ 4 = length-bytes 4 id in
-    let l : length (splice t 6 counts) ≡ length t = length-splice t 6 counts (omega arith) in
-    let noted : List ℕ = splice (splice t 6 counts) at (bytesOf 4 id) in
-    let m : length noted ≡ length (splice t 6 counts) = length-splice (splice t 6 counts) at (bytesOf 4 id) (omega arith) in
-    let place = waitAt (k .sheet) (k .published) (k .returns) in
-    let zeros : List ℕ = replicate (keptAt (sizeOf (k .entries) (k .gates))) 0 in
-    let z : length zeros ≡ keptAt (sizeOf (k .entries) (k .gates)) = length-replicate (keptAt (sizeOf (k .entries) (k .gates))) 0 in
-    let n : length (splice noted place zeros) ≡ length noted = length-splice noted place zeros (omega arith) in
-    rw (grow t 6 (bytesOf 2 (k .decided + 1)) (bytesOf 2 (k .accepted + accepted)) 2 two (omega arith))
-    (sets-splice (erased k noted) 1 (0 ∷ []) (omega arith))
+    rw (grow t 6 (bytesOf 2 (k .decided + 1)) (bytesOf 2 (k .accepted + accepted)) 2 two (omega arith)) refl
 
 -- ---- the closing message
 pub closing-written : (k : Table) (t out : List ℕ) → 6 ≤ length out

@@ -1,15 +1,31 @@
--- The numbers of a table: their limits, and the length that they give.
+-- The numbers of a table: what a table says, and their limits.
 -- Assumes nothing.
 use mathlib.Core.List.{List}
 use Prim.Native.Nat.{ℕ, _≤_, _<_}
 use lib.ListN.{length}
-use Rattle.layout.specs.Places.{lengthAt}
-use Rattle.limits.specs.Sheets.{sizeOf}
+use Rattle.rules.specs.Settings.{document01}
+use Rattle.rules.specs.Columns.{entriesIn, publishedIn}
+use Rattle.rules.specs.Circuit.{gatesIn, testsIn}
+use Rattle.rules.specs.Table.{stageByte, serversIn, ownIn, returnsIn, decidedIn, acceptedIn, sheetSize, columnsIn}
 use Rattle.layout.specs.declared.Table.{Table}
 
--- the bytes of the table
-abbrev pub lengthOf : Table → ℕ
-lengthOf k = lengthAt (k .sheet) (k .published) (k .returns) (sizeOf (k .entries) (k .gates))
+-- what a table says, by rules
+unfoldable pub tableOf : List ℕ → Table
+tableOf T =
+    record {
+      stage = stageByte document01 T;
+      servers = serversIn document01 T;
+      own = ownIn document01 T;
+      returns = returnsIn document01 T;
+      decided = decidedIn document01 T;
+      accepted = acceptedIn document01 T;
+      sheet = sheetSize document01 T;
+      columns = length (columnsIn document01 T);
+      entries = entriesIn (columnsIn document01 T);
+      published = publishedIn (columnsIn document01 T);
+      gates = gatesIn (columnsIn document01 T);
+      tests = testsIn (columnsIn document01 T);
+    }
 
 -- the numbers of a table whose header and sheet are sound
 pub record Limited (k : Table) : Type 0 where
@@ -23,8 +39,3 @@ pub record Limited (k : Table) : Type 0 where
   pub entries-most : k .entries ≤ 256
   pub published-most : k .published ≤ 256
   pub gates-most : k .gates ≤ 256
-
--- the table lies within its slice
-pub record Whole (T : List ℕ) (k : Table) : Type 0 where
-  pub limited : Limited k
-  pub long : lengthOf k ≤ length T

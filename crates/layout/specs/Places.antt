@@ -1,5 +1,5 @@
--- The places of a table by plain numbers: the length n of the sheet, the published entries, N and the elements of a share.
--- They are rules' places at document 01's setting (proofs/Positions).
+-- The places of a table by plain numbers: the length n of the sheet, the published entries and N. Behind the ids decided
+-- stands the return that waits. They are rules' places at document 01's setting (proofs/Positions).
 -- Assumes nothing.
 use Prim.Native.Nat.{ℕ, _+_, _*_, _≤_}
 
@@ -11,16 +11,6 @@ idsAt n published = 12 + n + 4 * published
 
 abbrev pub waitAt : ℕ → ℕ → ℕ → ℕ
 waitAt n published returns = 12 + n + 4 * published + 4 * returns
-
-abbrev pub shareAt : ℕ → ℕ → ℕ → ℕ
-shareAt n published returns = 12 + n + 4 * published + 4 * returns + 4 + 24
-
-abbrev pub lengthAt : ℕ → ℕ → ℕ → ℕ → ℕ
-lengthAt n published returns size = 12 + n + 4 * published + 4 * returns + 4 + 24 + 4 * size
-
--- the bytes kept for a return that waits: its id, six numbers and a share of so many elements
-abbrev pub keptAt : ℕ → ℕ
-keptAt size = 28 + 4 * size
 
 -- the numbers of a sheet that is read, and of N
 pub record Small (n published returns : ℕ) : Type 0 where

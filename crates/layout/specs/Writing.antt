@@ -1,13 +1,12 @@
--- What is written into a table and into the closing message, in the numbers of code.
+-- What is written: the header of a fresh table, a return noted among those decided, the closing message, in the numbers of code.
 -- Assumes nothing.
 use mathlib.Core.List.{List, [], _∷_, _++_}
 use Prim.Native.Nat.{ℕ, _+_, _*_, _≤_, _<_}
-use lib.ListN.{replicate}
+use lib.ListN.{length}
 use Rattle.words.specs.Bytes.{bytesOf, part, splice}
 use Rattle.totals_message.specs.Totals.{totalsHeader}
-use Rattle.layout.specs.Places.{totalsAt, idsAt, waitAt, keptAt}
-use Rattle.limits.specs.Sheets.{sizeOf}
-use Rattle.layout.specs.Numbers.{Whole}
+use Rattle.layout.specs.Places.{totalsAt, idsAt, waitAt}
+use Rattle.layout.specs.Numbers.{Limited}
 use Rattle.layout.specs.declared.Table.{Table}
 
 -- the header of a fresh table
@@ -15,25 +14,18 @@ unfoldable pub startBytes : ℕ → ℕ → ℕ → ℕ → List ℕ
 startBytes servers own returns n =
     (1 ∷ 0 ∷ servers ∷ own ∷ []) ++ bytesOf 2 returns ++ bytesOf 2 0 ++ bytesOf 2 0 ++ bytesOf 2 n
 
--- a table that keeps nothing of the return that waits
-abbrev pub erased : Table → List ℕ → List ℕ
-erased k t =
-    splice t (waitAt (k .sheet) (k .published) (k .returns)) (replicate (keptAt (sizeOf (k .entries) (k .gates))) 0)
-
--- a table whose waiting return is decided: rules' decidedTable
-unfoldable pub decidedAs : Table → ℕ → ℕ → List ℕ → List ℕ
-decidedAs k accepted id t =
+-- a table with the counts and the id of one return more that is decided
+unfoldable pub noted : Table → ℕ → ℕ → List ℕ → List ℕ
+noted k accepted id t =
     splice
-    (erased k
-    (splice
     (splice t 6 (bytesOf 2 (k .decided + 1) ++ bytesOf 2 (k .accepted + accepted)))
     (idsAt (k .sheet) (k .published) + 4 * k .decided)
-    (bytesOf 4 id)))
-    1 (0 ∷ [])
+    (bytesOf 4 id)
 
 -- a return more can be decided
 pub record Decidable (t : List ℕ) (k : Table) : Type 0 where
-  pub whole : Whole t k
+  pub limited : Limited k
+  pub ids-long : waitAt (k .sheet) (k .published) (k .returns) ≤ length t
   pub some-room : k .decided < k .returns
   pub accepted-few : k .accepted ≤ k .decided
 
@@ -41,6 +33,8 @@ pub record Decidable (t : List ℕ) (k : Table) : Type 0 where
 unfoldable pub closingBytes : Table → List ℕ → List ℕ
 closingBytes k t = totalsHeader (k .own) (k .accepted) ++ part (totalsAt (k .sheet)) (4 * k .published) t
 
+-- the totals lie within the slice, and the buffer has room
 pub record Closable (t : List ℕ) (k : Table) (room : ℕ) : Type 0 where
-  pub whole : Whole t k
+  pub limited : Limited k
+  pub totals-long : idsAt (k .sheet) (k .published) ≤ length t
   pub enough : 6 + 4 * k .published ≤ room

@@ -1,5 +1,5 @@
-// A server's table in lent bytes: the numbers that it says, its places by them, and what is written into it. The
-// contracts cite specs/.
+// A server's table in lent bytes, but for the return that waits: the numbers that it says, its places by them, the header of a
+// fresh table and the closing message. The contracts cite specs/.
 pub mod places;
 pub mod writing;
 

@@ -1,11 +1,11 @@
-// The places of a table: by what it says, and by plain numbers for a table that is not yet written.
+// The places of a table up to the return that waits: by what it says, and by plain numbers for a table that is not yet written.
 ghost use mathlib.Core.Path.{_≡_};
 ghost use Prim.Native.Nat.{_+_, _≤_};
 ghost use lib.ListN.{length};
 ghost use Rattle.words.specs.Bytes.{part};
-ghost use Rattle.layout.specs.Places.{totalsAt, idsAt, waitAt, shareAt, keptAt, lengthAt, Small};
+ghost use Rattle.layout.specs.Places.{totalsAt, idsAt, waitAt, Small};
 ghost use Rattle.limits.specs.Sheets.{sizeOf};
-ghost use Rattle.layout.specs.Numbers.{lengthOf, Limited};
+ghost use Rattle.layout.specs.Numbers.{Limited};
 use crate::Table;
 
 // The sheet of a table, n bytes long, as that part of the table.
@@ -18,19 +18,11 @@ pub fn sheet_part<'a>(t: &'a [u8], n: usize) -> &'a [u8]
 }
 
 // Behind sheet, totals and ids decided: the return that waits.
-fn wait_at(n: usize, published: usize, returns: u32) -> usize
+pub fn wait_at(n: usize, published: usize, returns: u32) -> usize
     requires { ⌜ Small n published returns ⌝ }
     ensures { λ r. ⌜ r ≡ waitAt n published returns ⌝ }
 {
     12 + n + 4 * published + 4 * (returns as usize)
-}
-
-// The bytes of a table whose shares have `size` elements: the id and six numbers of the return that waits, then its share.
-pub fn table_length(n: usize, published: usize, returns: u32, size: usize) -> usize
-    requires { ⌜ Small n published returns × (size ≤ 774) ⌝ }
-    ensures { λ r. ⌜ r ≡ lengthAt n published returns size ⌝ }
-{
-    wait_at(n, published, returns) + 28 + 4 * size
 }
 
 impl Table {
@@ -58,35 +50,11 @@ impl Table {
         wait_at(self.sheet, self.published, self.returns)
     }
 
-    // Behind its id and six numbers, its share.
-    pub fn share_place(self) -> usize
-        requires { ⌜ Limited self ⌝ }
-        ensures { λ r. ⌜ r ≡ shareAt (self .sheet) (self .published) (self .returns) ⌝ }
-    {
-        self.wait_place() + 28
-    }
-
     // The elements of a share.
     pub fn share_size(self) -> usize
         requires { ⌜ Limited self ⌝ }
         ensures { λ r. ⌜ r ≡ sizeOf (self .entries) (self .gates) ⌝ }
     {
         limits::share_size(self.entries, self.gates)
-    }
-
-    // The bytes kept for a return that waits: its id, six numbers and its share.
-    pub fn kept_length(self) -> usize
-        requires { ⌜ Limited self ⌝ }
-        ensures { λ r. ⌜ r ≡ keptAt (sizeOf (self .entries) (self .gates)) ⌝ }
-    {
-        28 + 4 * self.share_size()
-    }
-
-    // The bytes of the table.
-    pub fn length(self) -> usize
-        requires { ⌜ Limited self ⌝ }
-        ensures { λ r. ⌜ r ≡ lengthOf self ⌝ }
-    {
-        table_length(self.sheet, self.published, self.returns, self.share_size())
     }
 }

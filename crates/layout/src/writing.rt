@@ -1,10 +1,9 @@
-// What is written: the header of a fresh table, the marks of a return that is decided, the closing message.
+// What is written: zeros, the header of a fresh table, the id of a return that is decided, the closing message.
 ghost use mathlib.Core.Path.{_≡_};
 ghost use Prim.Native.Nat.{_+_, _≤_};
 ghost use lib.ListN.{length, replicate};
 ghost use Rattle.words.specs.Bytes.{splice};
-ghost use Rattle.layout.specs.Writing.{startBytes, erased, decidedAs, Decidable, closingBytes, Closable};
-ghost use Rattle.layout.specs.Numbers.{Whole};
+ghost use Rattle.layout.specs.Writing.{startBytes, noted, Decidable, closingBytes, Closable};
 use crate::IDLE;
 use crate::Table;
 
@@ -35,25 +34,15 @@ pub fn write_start(t: &mut [u8], servers: u8, own: u8, returns: u32, n: u32)
     words::write_u16(t, 10, n);
 }
 
-// Erases what is kept of the return that waits.
-fn erase(t: &mut [u8], k: Table)
-    requires { ⌜ Whole (now t) k ⌝ }
-    ensures { λ _. ⌜ now (t .exit) ≡ erased k (now (t .entry)) ⌝ }
-{
-    clear(t, k.wait_place(), k.kept_length());
-}
-
-// Notes that the return that waits is decided: the counts, its id, and the stage; nothing else of it is kept.
-pub fn decide(t: &mut [u8], k: Table, accepted: u32, id: u32)
+// Notes a return among those decided: the counts, and its id.
+pub fn note_decided(t: &mut [u8], k: Table, accepted: u32, id: u32)
     requires { ⌜ Decidable (now t) k × (accepted ≤ 1) ⌝ }
-    ensures { λ _. ⌜ now (t .exit) ≡ decidedAs k accepted id (now (t .entry)) ⌝ }
+    ensures { λ _. ⌜ now (t .exit) ≡ noted k accepted id (now (t .entry)) ⌝ }
 {
     let decided = k.decided;
     words::write_u16(t, 6, decided + 1);
     words::write_u16(t, 8, k.accepted + accepted);
     words::write_u32(t, k.ids_place() + 4 * (decided as usize), id);
-    erase(t, k);
-    t[1] = IDLE;
 }
 
 // Writes the closing message of a table.

@@ -27,9 +27,9 @@ use Rattle.columns.specs.declared.Counts.{Counts}
 use Rattle.sheet.specs.Reading.{readingOf}
 use Rattle.sheet.specs.declared.Reading.the-variants as sheet
 use Rattle.sheet.proofs.Answers.{reading-counts}
-use Rattle.layout.specs.Places.{lengthAt}
 use Rattle.limits.specs.Sheets.{sizeOf}
-use Rattle.layout.proofs.Positions.{table-length}
+use Rattle.waiting.specs.Places.{lengthAt}
+use Rattle.waiting.proofs.Positions.{table-length}
 use Rattle.opening.specs.Calls.{Opens}
 use Rattle.opening.specs.Fresh.{freshBytes, Roomy}
 use Rattle.opening.proofs.FreshTable.{open-bytes}

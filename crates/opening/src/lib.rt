@@ -7,13 +7,13 @@ ghost use Rattle.rules.specs.Table.{openRefusal, openLength};
 ghost use Rattle.words.specs.Bytes.{splice};
 ghost use Rattle.opening.specs.Calls.{Opens};
 ghost use Rattle.opening.specs.Fresh.{freshBytes, Roomy};
-use layout::places::table_length;
 use layout::writing::clear;
 use layout::writing::write_start;
 use limits::share_size;
 use records::Written;
 use sheet::Reading;
 use sheet::returns::returns_refusal;
+use waiting::places::table_length;
 
 // What opening answers, where the table's buffer holds so many bytes.
 fn open_checked(servers: u32, own: u32, sheet: &[u8], returns: u32, room: usize) -> Written

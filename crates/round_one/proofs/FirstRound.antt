@@ -1,18 +1,13 @@
 -- Round one: the refusal, the table and the message in the numbers of code are those of rules. Assumes nothing.
 use mathlib.Core.Path.{_≡_, refl, sym, _∙_}
 use mathlib.Core.Bool.{false}
-use mathlib.Core.List.{List, [], _∷_, _++_}
-use Prim.Native.Nat.{ℕ, zero, suc, _+_, _≤_, _<_}
+use mathlib.Core.List.{List}
+use Prim.Native.Nat.{ℕ, zero, suc, _≤_, _<_}
 use native.Mathlib.Omega.{arith}
 use borrow.Author.Tests.{le-leb, lt-leb, leb-true, ne-eqb}
 use lib.Dec.{eqb, leb}
-use lib.ListN.{length, set}
-use Rattle.words.specs.Bytes.{bytesOf, bytesOfAll, splice}
-use Rattle.words.proofs.Numbers.{length-bytes}
-use Rattle.words.proofs.Splice.{length-splice}
-use Rattle.words.proofs.Elements.{length-bytes-all, bytes-all-append, bytes-all-one}
-use Rattle.words.proofs.Loops.{sets-splice, grow}
-use Rattle.records.specs.Outcome.{orElse}
+use lib.ListN.{length}
+use Rattle.words.specs.Bytes.{splice}
 use Rattle.records.specs.Answers.{answered, onlyIf}
 use Rattle.records.specs.declared.Written.the-variants as answer
 use Rattle.records.proofs.Outcome.{or-none, or-first, or-zero}
@@ -22,21 +17,24 @@ use Rattle.rules.specs.Messages.{roundFault, roundMessage, firstSum, secondSum}
 use Rattle.rules.specs.Server as rules
 use Rattle.rules.specs.Server.{whileOne, oneRefusal}
 use Rattle.rules.specs.Server.{messageOne, messageTwo, sigmaIn, summed}
-use Rattle.rules.specs.Table.{stageByte, serversIn, ownIn, openedIn, waitingIn, stageIn, tableState, tableFault, waitPlace}
+use Rattle.rules.specs.Table.{stageByte, serversIn, ownIn, openedIn, waitingIn, stageIn, tableState, tableFault}
 use Rattle.rules.specs.Table.{oneRefused, oneTable, oneBytes}
 use Rattle.rules.proofs.Circuits.Limits.{within-is}
 use Rattle.steps.proofs.Parts.{check-holds}
 use Rattle.round_message.proofs.Rounds.{rounds-summable}
-use Rattle.layout.specs.Places.{waitAt}
+use Rattle.layout.specs.Numbers.{tableOf}
 use Rattle.layout.specs.declared.Table.{Table}
-use Rattle.table.specs.Reading.{tableOf, foundIn, Sound}
+use Rattle.table.specs.Reading.{foundIn, Sound}
 use Rattle.table.specs.declared.Found.the-variants as found
 use Rattle.table.proofs.Answers.{unsound}
-use Rattle.waiting.specs.declared.held.Waiting.{Waiting}
-use Rattle.waiting.specs.Held.{waitsIn, Waits, sigmaAt}
-use Rattle.round_one.specs.One.{oneJoinedFault, oneFaultAt, sumsStored, OneReady}
+use Rattle.waiting.specs.declared.Waiting.{Waiting}
+use Rattle.waiting.specs.Held.{waitsIn}
+use Rattle.waiting.specs.Writing.{summedAs}
+use Rattle.waiting.proofs.Written.{summed-is}
+use Rattle.rounds.specs.Waits.{Waits, sigmaAt}
+use Rattle.round_one.specs.One.{oneJoinedFault, oneFaultAt, OneReady}
 use Rattle.round_one.specs.Calls.{RoundOne}
-use Rattle.waiting.proofs.Holding.{waits-in, stageOf, sound-fault}
+use Rattle.rounds.proofs.Holding.{waits-in, stageOf, sound-fault}
 
 -- ---- the refusal
 joined-at : (T joined : List ℕ)
@@ -79,23 +77,11 @@ ready-at T joined w room v q e =
     }
 
 -- ---- the table and the message
-pub sums-stored : (T : List ℕ) (a d e : ℕ) → 2 ≤ length T → a + 8 ≤ length T
-    → set (splice (splice T a (bytesOf 4 d)) (a + 4) (bytesOf 4 e)) 1 2 ≡ sumsStored T a d e
-unfolding sumsStored
-sums-stored T a d e l h =
-    let both : List ℕ = bytesOfAll 4 (d ∷ e ∷ []) in
-    let split : bytesOf 4 d ++ bytesOf 4 e ≡ both
-    = sym (bytes-all-append 4 (d ∷ []) (e ∷ []) ∙ rw (bytes-all-one 4 d, bytes-all-one 4 e)) in
-    let eight : length both ≡ 8 = length-bytes-all 4 (d ∷ e ∷ []) in
-    let m : length (splice T a both) ≡ length T = length-splice T a both (omega arith) in
-    rw (grow T a (bytesOf 4 d) (bytesOf 4 e) 4 (length-bytes 4 d) (omega arith), split)
-    (sets-splice (splice T a both) 1 (2 ∷ []) (omega arith))
-
-table-at : (T joined : List ℕ) (p : ℕ) → p ≡ waitAt (tableOf T .sheet) (tableOf T .published) (tableOf T .returns)
-    → sumsStored T (p + 4 + 8) (firstSum document01 (tableOf T .servers) joined) (secondSum document01 (tableOf T .servers) joined)
+table-at : (T joined : List ℕ)
+    → summedAs (tableOf T) (firstSum document01 (tableOf T .servers) joined) (secondSum document01 (tableOf T .servers) joined) T
     ≡ oneTable document01 T joined
-unfolding sumsStored oneTable summed waitPlace tableOf
-table-at T joined p e = rw e
+unfolding oneTable summed tableOf
+table-at T joined = summed-is T _ _
 
 bytes-at : (T joined : List ℕ)
     → roundMessage document01 35 (waitsIn T .id) (tableOf T .own)
@@ -106,8 +92,11 @@ bytes-at T joined = refl
 
 module _ (T joined : List ℕ) (k : Table) (s : k ≡ tableOf T) (d e : ℕ) (ed : d ≡ firstSum document01 (k .servers) joined)
     (ee : e ≡ secondSum document01 (k .servers) joined) where
-  pub one-table : (p : ℕ) → p ≡ waitAt (k .sheet) (k .published) (k .returns) → sumsStored T (p + 4 + 8) d e ≡ oneTable document01 T joined
-  one-table p h = rw (ed, ee, s) (table-at T joined p (rw s at h))
+  one-table-at : summedAs k d e T ≡ oneTable document01 T joined
+  one-table-at = rw (ed, ee, s) (table-at T joined)
+
+  pub one-table : (T' : List ℕ) → T' ≡ summedAs k d e T → T' ≡ oneTable document01 T joined
+  one-table T' h = h ∙ one-table-at
 
   pub one-bytes : (w : Waiting) → w ≡ waitsIn T
       → roundMessage document01 35 (w .id) (k .own) (sigmaAt T d e) (w .tau) ≡ oneBytes document01 T joined

@@ -2,24 +2,23 @@
 // that the contracts cite are those of the crate rules, at document 01's setting, and of specs/. A refusal leaves the
 // table and the buffer as they were.
 ghost use mathlib.Core.Path.{_≡_};
-ghost use Prim.Native.Nat.{_+_, _≤_};
 ghost use lib.ListN.{length};
 ghost use Rattle.words.specs.Bytes.{splice};
 ghost use Rattle.rules.specs.Settings.{document01};
 ghost use Rattle.rules.specs.Table.{oneTable, oneBytes};
-ghost use Rattle.waiting.specs.Held.{waitsIn, Waits};
-ghost use Rattle.round_one.specs.One.{oneFaultAt, sumsStored, OneReady};
+ghost use Rattle.waiting.specs.Held.{waitsIn};
+ghost use Rattle.rounds.specs.Waits.{Waits};
+ghost use Rattle.round_one.specs.One.{oneFaultAt, OneReady};
 ghost use Rattle.round_one.specs.Calls.{RoundOne};
 use layout::AWAITS_ONE;
-use layout::AWAITS_TWO;
 use layout::Table;
 use records::Written;
+use rounds::own::own_refusal;
+use rounds::own::sigma_of;
 use table::Found;
 use table::read;
-use waiting::held::Waiting;
-use waiting::held::own_refusal;
-use waiting::held::read_waiting;
-use waiting::held::sigma_of;
+use waiting::Waiting;
+use waiting::writing::store_sums;
 
 // The refusal by the joined messages and by the room for the message that is written: 12, 14, or 0 for none.
 fn one_refusal(t: &[u8], joined: &[u8], k: Table, w: Waiting, room: usize) -> u32
@@ -36,16 +35,6 @@ fn one_refusal(t: &[u8], joined: &[u8], k: Table, w: Waiting, room: usize) -> u3
     0
 }
 
-// Stores the sums d and e from `at`, and the stage.
-fn store_sums(t: &mut [u8], at: usize, d: u32, e: u32)
-    requires { ⌜ (2 ≤ length (now t)) × (at + 8 ≤ length (now t)) ⌝ }
-    ensures { λ _. ⌜ now (t .exit) ≡ sumsStored (now (t .entry)) at d e ⌝ }
-{
-    words::write_u32(t, at, d);
-    words::write_u32(t, at + 4, e);
-    t[1] = AWAITS_TWO;
-}
-
 // Stores the sums of the joined messages, and writes the own message of round two.
 fn take_one(t: &mut [u8], joined: &[u8], k: Table, w: Waiting, out: &mut [u8])
     requires { ⌜ OneReady (now t) (now joined) k w (length (now out)) ⌝ }
@@ -56,8 +45,7 @@ fn take_one(t: &mut [u8], joined: &[u8], k: Table, w: Waiting, out: &mut [u8])
     let d = round_message::first_sum(joined, k.servers);
     let e = round_message::second_sum(joined, k.servers);
     let sigma = sigma_of(t, k, w, d, e);
-    let at = k.wait_place() + 4 + 8;
-    store_sums(t, at, d, e);
+    store_sums(t, k, d, e);
     round_message::write_round(out, 35, w.id, k.own as u8, sigma, w.tau);
 }
 
@@ -72,7 +60,7 @@ pub fn round_one(table: &mut [u8], joined: &[u8], out: &mut [u8]) -> Written
             if k.stage != AWAITS_ONE {
                 return Written::Refused(11);
             }
-            let w = read_waiting(table, k);
+            let w = waiting::read(table, k);
             let refusal = one_refusal(table, joined, k, w, out.len());
             if refusal != 0 {
                 return Written::Refused(refusal);

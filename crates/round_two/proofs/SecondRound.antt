@@ -1,36 +1,36 @@
 -- Round two: the refusal, the verdict and the table in the numbers of code are those of rules. Assumes nothing.
 use mathlib.Core.Path.{_≡_, refl, sym, ap, _∙_}
-use mathlib.Core.Bool.{Bool, true, false, cond}
+use mathlib.Core.Bool.{Bool, true, false}
 use mathlib.Core.List.{List}
 use Prim.Native.Nat.{ℕ, zero, suc}
 use native.Mathlib.Omega.{arith}
 use borrow.Author.Tests.{ne-eqb}
 use lib.Dec.{eqb}
-use lib.ListN.{length}
 use Rattle.records.specs.Answers.{onlyIf}
 use Rattle.records.proofs.Outcome.{or-none, or-first}
 use Rattle.rules.specs.Settings.{document01}
-use Rattle.rules.specs.Columns.{within}
 use Rattle.rules.specs.Messages.{roundFault, roundMessage, firstSum, secondSum, bothZero}
 use Rattle.rules.specs.Server as rules
 use Rattle.rules.specs.Server.{whileTwo, twoRefusal, messageTwo, sigmaIn}
-use Rattle.rules.specs.Judging.{shareSize}
-use Rattle.rules.specs.Table.{stageByte, serversIn, ownIn, openedIn, waitingIn, stageIn, tableState, tableFault, idsPlace, waitPlace}
+use Rattle.rules.specs.Table.{stageByte, serversIn, ownIn, openedIn, waitingIn, stageIn, tableState, tableFault}
 use Rattle.rules.specs.Table.{decidedTable, twoRefused, twoVerdict, twoTable}
 use Rattle.rules.proofs.Circuits.Limits.{within-is}
 use Rattle.round_message.proofs.Rounds.{rounds-summable}
-use Rattle.layout.specs.Writing.{decidedAs, Decidable}
+use Rattle.layout.specs.Numbers.{tableOf}
 use Rattle.layout.specs.declared.Table.{Table}
-use Rattle.table.specs.Reading.{tableOf, foundIn, Sound}
+use Rattle.table.specs.Reading.{foundIn, Sound}
 use Rattle.table.specs.declared.Found.the-variants as found
 use Rattle.table.proofs.Answers.{unsound}
-use Rattle.waiting.specs.declared.held.Waiting.{Waiting}
-use Rattle.waiting.specs.Held.{waitsIn, Waits, sigmaAt}
-use Rattle.waiting.specs.Totals.{withPublished}
+use Rattle.waiting.specs.declared.Waiting.{Waiting}
+use Rattle.waiting.specs.Held.{waitsIn}
+use Rattle.waiting.specs.Writing.{decidedAs}
+use Rattle.waiting.proofs.Written.{decided-is}
+use Rattle.rounds.specs.Waits.{Waits, sigmaAt}
+use Rattle.rounds.specs.Totals.{withPublished}
 use Rattle.round_two.specs.Two.{twoFaultAt, TwoReady}
 use Rattle.round_two.specs.Calls.{verdictOf, RoundTwo}
 use Rattle.round_two.specs.declared.Verdict.the-variants as answer
-use Rattle.waiting.proofs.Holding.{waits-in, stageOf, sound-fault}
+use Rattle.rounds.proofs.Holding.{waits-in, stageOf, sound-fault}
 
 -- ---- the refusal
 joined-at : (T joined : List ℕ)
@@ -56,18 +56,13 @@ module _ (servers : ℕ) (joined : List ℕ) (x : ℕ) (e : x ≡ firstSum docum
   zero-both z y g = rw (← e, ← g, z)
 
 -- ---- what the verdict does to the table
-decided-at : (T t : List ℕ) (accepted : ℕ)
-    → decidedAs (tableOf T) accepted (waitingIn document01 T .id) t ≡ decidedTable document01 T accepted t
-unfolding decidedAs decidedTable tableOf idsPlace waitPlace shareSize
-decided-at T t accepted = refl
-
 verdict-at : (T joined : List ℕ) → bothZero document01 (tableOf T .servers) joined ≡ twoVerdict document01 T joined
 unfolding twoVerdict tableOf
 verdict-at T joined = refl
 
 module _ (T joined : List ℕ) (k : Table) (id : ℕ) (r : TwoReady T joined k id) where
-  decided-is : (t : List ℕ) (accepted : ℕ) → decidedAs k accepted id t ≡ decidedTable document01 T accepted t
-  decided-is t accepted = rw (r .waits .sound .says, r .says) (decided-at T t accepted)
+  decided-to : (t : List ℕ) (accepted : ℕ) → decidedAs k accepted id t ≡ decidedTable document01 T accepted t
+  decided-to t accepted = decided-is T t k accepted id (r .waits .sound .says) (r .says)
 
   verdict-is : bothZero document01 (k .servers) joined ≡ twoVerdict document01 T joined
   verdict-is = rw (r .waits .sound .says) (verdict-at T joined)
@@ -78,24 +73,14 @@ module _ (T joined : List ℕ) (k : Table) (id : ℕ) (r : TwoReady T joined k i
     unfolding twoTable withPublished
     settled-accepted t t' n h p q one =
         let v : twoVerdict document01 T joined ≡ true = sym (e ∙ verdict-is) ∙ h in
-        (sym v, q ∙ decided-is t n ∙ rw (v, p, one))
+        (sym v, q ∙ decided-to t n ∙ rw (v, p, one))
 
     pub settled-rejected : (t' : List ℕ) (n : ℕ) → b ≡ false → t' ≡ decidedAs k n id T → n ≡ 0
         → (false ≡ twoVerdict document01 T joined) × (t' ≡ twoTable document01 T joined)
     unfolding twoTable
     settled-rejected t' n h q none =
         let v : twoVerdict document01 T joined ≡ false = sym (e ∙ verdict-is) ∙ h in
-        (sym v, q ∙ decided-is T n ∙ rw (v, none))
-
--- a return more can be decided, in a table of the same length
-pub waits-decides : (T : List ℕ) (k : Table) → Waits T k → (t : List ℕ) → length t ≡ length T → Decidable t k
-waits-decides T k w t h =
-    let one : _≡_ {A = ℕ} (cond (within 1 2 (k .stage)) 1 0) 1 = rw (w .waiting) in
-    record {
-      whole = record { limited = w .sound .limited; long = omega (arith, w .sound .long) };
-      some-room = omega (arith, w .sound .decided-few, one);
-      accepted-few = w .sound .accepted-few;
-    }
+        (sym v, q ∙ decided-to T n ∙ rw (v, none))
 
 -- ---- the stage
 stage-not : (b : ℕ) (w : rules.Waiting) (f : rules.Waiting → ℕ) → (b ≡ 2 → ⊥) → whileTwo (stageOf b w) f ≡ 11

@@ -9,7 +9,7 @@ use Rattle.rules.specs.Server.{messageTwo}
 use Rattle.rules.specs.Table.{serversIn, ownIn, openedIn, waitingIn}
 use Rattle.round_message.specs.Rounds.{Summable}
 use Rattle.layout.specs.declared.Table.{Table}
-use Rattle.waiting.specs.Held.{Waits}
+use Rattle.rounds.specs.Waits.{Waits}
 
 -- "12": rules' twoRefusal at that stage
 unfoldable pub twoFaultAt : List ℕ → List ℕ → ℕ

@@ -6,19 +6,19 @@ ghost use Rattle.rules.specs.Settings.{document01};
 ghost use Rattle.rules.specs.Messages.{bothZero};
 ghost use Rattle.rules.specs.Table.{twoVerdict, twoTable};
 ghost use Rattle.round_message.specs.Rounds.{Summable};
-ghost use Rattle.waiting.specs.Held.{waitsIn, Waits};
+ghost use Rattle.waiting.specs.Held.{waitsIn};
+ghost use Rattle.rounds.specs.Waits.{Waits};
 ghost use Rattle.round_two.specs.Two.{twoFaultAt, TwoReady};
 ghost use Rattle.round_two.specs.Calls.{RoundTwo};
 use layout::AWAITS_TWO;
 use layout::Table;
-use layout::writing::decide;
+use rounds::adding::add_published;
+use rounds::own::own_refusal;
+use rounds::own::sigma_of;
 use table::Found;
 use table::read;
-use waiting::adding::add_published;
-use waiting::held::Waiting;
-use waiting::held::own_refusal;
-use waiting::held::read_waiting;
-use waiting::held::sigma_of;
+use waiting::Waiting;
+use waiting::writing::decide;
 
 // The verdict on a return, or the number of the refusal.
 pub enum Verdict {
@@ -72,7 +72,7 @@ pub fn round_two(table: &mut [u8], joined: &[u8]) -> Verdict
             if k.stage != AWAITS_TWO {
                 return Verdict::Refused(11);
             }
-            let w = read_waiting(table, k);
+            let w = waiting::read(table, k);
             let refusal = two_refusal(table, joined, k, w);
             if refusal != 0 {
                 return Verdict::Refused(refusal);

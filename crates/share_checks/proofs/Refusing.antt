@@ -23,8 +23,9 @@ use Rattle.share_message.specs.Shares.{headerFaultAt}
 use Rattle.share_message.proofs.Shares.{header-fault, header-long}
 use Rattle.layout.specs.Places.{idsAt}
 use Rattle.limits.specs.Sheets.{sizeOf}
+use Rattle.layout.specs.Numbers.{tableOf}
 use Rattle.layout.specs.declared.Table.{Table}
-use Rattle.table.specs.Reading.{tableOf, Sound}
+use Rattle.table.specs.Reading.{Sound}
 use Rattle.limits.specs.Sheets.{pairSound}
 use Rattle.share_checks.specs.Checks.{startFault, messageFault, lastFault, Fitting}
 

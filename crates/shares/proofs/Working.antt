@@ -15,7 +15,8 @@ use Rattle.snip.specs.declared.judging.Shape.{Shape}
 use Rattle.snip.specs.Judged.{Share, shapeOf, judgedOf}
 use Rattle.limits.specs.Sheets.{sizeOf}
 use Rattle.layout.specs.declared.Table.{Table}
-use Rattle.table.specs.Reading.{tableOf, Sound}
+use Rattle.layout.specs.Numbers.{tableOf}
+use Rattle.table.specs.Reading.{Sound}
 use Rattle.table.proofs.Answers.{headed-of}
 use Rattle.table.proofs.Judged.{cut-reads}
 use Rattle.shares.specs.Taking.{Judgeable}

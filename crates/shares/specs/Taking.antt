@@ -1,19 +1,14 @@
--- What is written of a share that is taken, and what a share has to be for that, in the numbers of code.
+-- What a share has to be to be taken, in the numbers of code.
 -- Assumes nothing.
 use mathlib.Core.Path.{_≡_}
 use mathlib.Core.Bool.{true}
-use mathlib.Core.List.{List, [], _∷_}
+use mathlib.Core.List.{List}
 use Prim.Native.Nat.{ℕ, _*_, _≤_, _<_}
 use lib.ListN.{length, drop}
-use Rattle.words.specs.Bytes.{bytesOfAll, elementsOf, allBelow}
+use Rattle.words.specs.Bytes.{elementsOf, allBelow}
 use Rattle.limits.specs.Sheets.{sizeOf}
 use Rattle.layout.specs.declared.Table.{Table}
 use Rattle.table.specs.Reading.{Sound}
-use Rattle.snip.specs.declared.judging.Judged.{Judged}
-
--- the return that waits: its id, its pair, and what was worked out from its share
-unfoldable pub waitBytes : ℕ → ℕ → ℕ → Judged → List ℕ
-waitBytes id r s j = bytesOfAll 4 (id ∷ r ∷ s ∷ j .d ∷ j .e ∷ j .rh ∷ j .tau ∷ [])
 
 -- the bytes x of the elements of a share, and a pair, that judging can take
 pub record Judgeable (T : List ℕ) (k : Table) (x : List ℕ) (r s : ℕ) : Type 0 where

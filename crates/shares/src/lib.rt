@@ -1,15 +1,14 @@
 // Taking a share. The definitions that the contracts cite are those of the crate rules, at document 01's setting, and
 // of specs/. A refusal leaves the table and the buffer as they were.
 ghost use mathlib.Core.Path.{_≡_};
-ghost use Prim.Native.Nat.{_+_, _≤_};
+ghost use Prim.Native.Nat.{_≤_};
 ghost use lib.ListN.{length};
 ghost use Rattle.words.specs.Bytes.{splice, elementsOf};
 ghost use Rattle.rules.specs.Settings.{document01};
 ghost use Rattle.rules.specs.Table.{columnsIn, shareTable, shareBytes};
 ghost use Rattle.snip.specs.Judged.{judgedOf};
 ghost use Rattle.shares.specs.Calls.{Shares};
-ghost use Rattle.shares.specs.Taking.{waitBytes, Judgeable, Takable};
-use layout::AWAITS_ONE;
+ghost use Rattle.shares.specs.Taking.{Judgeable, Takable};
 use layout::Table;
 use layout::places::sheet_part;
 use records::Written;
@@ -19,6 +18,7 @@ use snip::judging::Shape;
 use snip::judging::judge;
 use table::Found;
 use table::read;
+use waiting::Waiting;
 
 // What the server works out from the elements x of a share with the pair r, s.
 fn judged(t: &[u8], k: Table, x: &[u8], r: u32, s: u32) -> Judged
@@ -36,15 +36,6 @@ fn judged(t: &[u8], k: Table, x: &[u8], r: u32, s: u32) -> Judged
     judge(sheet_part(t, k.sheet), shape, k.own, &share[..size], r, s)
 }
 
-// Writes the return that waits, but for its elements.
-fn write_waiting(t: &mut [u8], at: usize, id: u32, r: u32, s: u32, j: Judged)
-    requires { ⌜ at + 28 ≤ length (now t) ⌝ }
-    ensures { λ _. ⌜ now (t .exit) ≡ splice (now (t .entry)) at (waitBytes id r s j) ⌝ }
-{
-    let numbers = [id, r, s, j.d, j.e, j.rh, j.tau];
-    elements::write(t, at, &numbers);
-}
-
 // Takes a share m, of which x are the element bytes, that is not refused: it waits for round one, whose message is written.
 fn take(table: &mut [u8], k: Table, m: &[u8], x: &[u8], r: u32, s: u32, out: &mut [u8])
     requires { ⌜ Takable (now table) k (now m) (now x) r s × (14 ≤ length (now out)) ⌝ }
@@ -53,10 +44,16 @@ fn take(table: &mut [u8], k: Table, m: &[u8], x: &[u8], r: u32, s: u32, out: &mu
 {
     let id = share_message::id_of(m);
     let j = judged(table, k, x, r, s);
-    let at = k.wait_place();
-    write_waiting(table, at, id, r, s, j);
-    words::copy(table, at + 28, x);
-    table[1] = AWAITS_ONE;
+    let w = Waiting {
+        id,
+        r,
+        s,
+        d: j.d,
+        e: j.e,
+        rh: j.rh,
+        tau: j.tau,
+    };
+    waiting::writing::write(table, k, w, x);
     round_message::write_round(out, 34, id, k.own as u8, j.d, j.e);
 }
 

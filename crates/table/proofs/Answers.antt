@@ -1,35 +1,29 @@
 -- What the reader of a table finds: where the header is sound, the parts of the judgement decide; and what a sound table
--- keeps to. Each part of the code is rules' part at what the table says (`counts-is`, `totals-is`, `waiting-is`).
+-- keeps to. Each part of the code is rules' part at what the table says (`counts-is`, `totals-is`).
 -- Assumes nothing.
-use mathlib.Core.Path.{_≡_, refl, sym, ap, _∙_}
+use mathlib.Core.Path.{_≡_, refl, sym, _∙_}
 use mathlib.Core.Bool.{Bool, true, false, not, cond, _&&_, _||_}
 use mathlib.Core.List.{List}
-use Prim.Native.Nat.{ℕ, _+_, _*_, _≤_}
-use native.Mathlib.Nat.{add-zero}
+use Prim.Native.Nat.{ℕ, _+_, _≤_}
 use native.Mathlib.Omega.{arith}
 use borrow.Author.Tests.{leb-true, eqb-true}
-use lib.Dec.{leb, eqb, lit<}
+use lib.Dec.{leb, eqb}
 use lib.ListN.{length}
-use Rattle.algebra.specs.Lists.{tabulate}
 use Rattle.algebra.proofs.Members.{and-left, and-right}
-use Rattle.algebra.proofs.Tables.{tabulate-cong}
-use Rattle.words.specs.Bytes.{valueOf, part, elementsOf, allBelow}
+use Rattle.words.specs.Bytes.{allBelow}
 use Rattle.words.proofs.Splice.{length-part}
-use Rattle.words.proofs.Elements.{elements-whole}
-use Rattle.steps.proofs.Parts.{part-of-part}
 use Rattle.rules.specs.Settings.{document01}
 use Rattle.rules.specs.Columns.{check, within, sheetFault, totalsFit}
-use Rattle.rules.specs.Judging.{shareSize, allowedPair}
+use Rattle.rules.specs.Judging.{shareSize}
 use Rattle.rules.specs.Table.{sheetSize, sheetIn, columnsIn, totalsIn, waits, tableLength}
-use Rattle.rules.specs.Table.{totalsPlace, waitPlace, sharePlace}
-use Rattle.rules.specs.Table.{headerSound, countsSound, waitingSound, tableSound, tableFault}
+use Rattle.rules.specs.Table.{totalsPlace, headerSound, countsSound, waitingSound, tableSound, tableFault}
 use Rattle.rules.proofs.Circuits.Refusals.{sheet-limits}
-use Rattle.layout.specs.Places.{waitAt}
-use Rattle.layout.specs.Numbers.{lengthOf, Whole}
+use Rattle.layout.specs.Numbers.{tableOf}
+use Rattle.layout.specs.Writing.{Decidable}
 use Rattle.layout.specs.declared.Table.{Table}
-use Rattle.table.specs.Reading.{tableOf, headIn, foundIn, startSound}
-use Rattle.limits.specs.Sheets.{pairSound}
-use Rattle.table.specs.Reading.{countsSoundAt, totalsSoundAt, waitingSoundAt, Headed, Sound}
+use Rattle.waiting.specs.Places.{lengthOf, Whole}
+use Rattle.waiting.specs.Held.{Stands}
+use Rattle.table.specs.Reading.{headIn, foundIn, startSound, countsSoundAt, totalsSoundAt, Headed, Sound}
 use Rattle.table.specs.declared.Found.{Found}
 use Rattle.table.specs.declared.Found.the-variants as answer
 use Rattle.table.proofs.Header.{start-facts, header-is}
@@ -89,19 +83,6 @@ totals-is : (T : List ℕ) → allBelow 2147483647 (totalsIn document01 T) ≡ t
 unfolding totalsSoundAt tableOf totalsPlace
 totals-is T = refl
 
-six-words : (T : List ℕ) (a : ℕ) → a + 24 ≤ length T
-    → tabulate (λ j. valueOf (part (a + 4 * j) 4 T)) 6 ≡ elementsOf 4 (part a 24 T)
-six-words T a h =
-    sym (elements-whole 4 (lit< tt) (part a 24 T) 6 (length-part a 24 T h)
-    ∙ tabulate-cong (λ j. valueOf (part (4 * j) 4 (part a 24 T))) (λ j. valueOf (part (a + 4 * j) 4 T)) 6
-    (λ i k. ap valueOf (part-of-part (4 * i) 4 a 24 T (omega arith))))
-
-waiting-is : (T : List ℕ) → lengthOf (tableOf T) ≤ length T → waitingSound document01 T ≡ waitingSoundAt (tableOf T) T
-unfolding waitingSound waitingSoundAt tableOf waitPlace sharePlace shareSize allowedPair pairSound
-waiting-is T h =
-    let w = waitAt (tableOf T .sheet) (tableOf T .published) (tableOf T .returns) in
-    simp (add-zero, six-words T (w + 4) (omega arith))
-
 -- ---- counts that are sound bound the table
 counts-long : (k : Table) (T : List ℕ) → countsSoundAt k T ≡ true
     → (lengthOf k ≤ length T) × (k .decided + cond (within 1 2 (k .stage)) 1 0 ≤ k .returns) × (k .accepted ≤ k .decided)
@@ -120,6 +101,9 @@ counts-long k T e =
 
 pub whole : (T : List ℕ) (k : Table) → Headed T k → countsSoundAt k T ≡ true → Whole T k
 whole T k h e = record { limited = h .limited; long = counts-long k T e .0 }
+
+pub stands : (T : List ℕ) (k : Table) → Headed T k → countsSoundAt k T ≡ true → Stands T k
+stands T k h e = record { says = h .says; whole = whole T k h e }
 
 -- ---- what is found
 module _ (T : List ℕ) where
@@ -143,9 +127,9 @@ module _ (T : List ℕ) where
         quiet-at w = rw (h, counts-is T, c, totals-is T, t, w)
 
         waits-at : within 1 2 (tableOf T .stage) ≡ true
-            → foundBy (waitingSoundAt (tableOf T) T) (tableOf T) ≡ foundIn T
+            → foundBy (waitingSound document01 T) (tableOf T) ≡ foundIn T
         unfolding foundIn tableSound tableFault tableOf
-        waits-at w = rw (h, counts-is T, c, totals-is T, t, w, waiting-is T (counts-long (tableOf T) T c .0))
+        waits-at w = rw (h, counts-is T, c, totals-is T, t, w) refl
 
 module _ (T : List ℕ) (k : Table) (h : Headed T k) where
   pub found-counts : countsSoundAt k T ≡ false → answer.Refused 11 ≡ foundIn T
@@ -159,7 +143,7 @@ module _ (T : List ℕ) (k : Table) (h : Headed T k) where
   found-quiet = rw (h .says) (quiet-at T (h .header))
 
   pub found-waiting : countsSoundAt k T ≡ true → totalsSoundAt k T ≡ true → within 1 2 (k .stage) ≡ true
-      → foundBy (waitingSoundAt k T) k ≡ foundIn T
+      → foundBy (waitingSound document01 T) k ≡ foundIn T
   found-waiting = rw (h .says) (waits-at T (h .header))
 
 -- ---- a sound table
@@ -192,3 +176,21 @@ sound T k e = let b = table-of (tableSound document01 T) (tableOf T) k e in rw (
 pub unsound : (T : List ℕ) (n : ℕ) → foundIn T ≡ answer.Refused n → (tableFault document01 T ≡ n) × (n ≡ 0 → ⊥)
 unfolding foundIn tableFault
 unsound T n e = let b = none-of (tableSound document01 T) (tableOf T) n e in (rw (b .0, b .1), λ z. omega (arith, b .1))
+
+-- ---- what a sound table gives to what is done with the return that waits
+pub stands-sound : (T : List ℕ) (k : Table) → Sound T k → Stands T k
+stands-sound T k s = record { says = s .says; whole = record { limited = s .limited; long = s .long } }
+
+-- where a return waits it can be decided, in a table of the same length
+pub decidable : (T : List ℕ) (k : Table) → Sound T k → within 1 2 (k .stage) ≡ true → (t : List ℕ) → length t ≡ length T
+    → Decidable t k × Whole t k
+decidable T k s w t h =
+    let one : _≡_ {A = ℕ} (cond (within 1 2 (k .stage)) 1 0) 1 = rw w in (
+      record {
+        limited = s .limited;
+        ids-long = omega (arith, s .long);
+        some-room = omega (arith, s .decided-few, one);
+        accepted-few = s .accepted-few;
+      },
+      record { limited = s .limited; long = omega (arith, s .long) },
+    )

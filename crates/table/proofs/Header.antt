@@ -19,7 +19,8 @@ use Rattle.columns.specs.declared.Counts.{Counts}
 use Rattle.sheet.specs.Reading.{readingOf}
 use Rattle.sheet.specs.declared.Reading.the-variants as sheet
 use Rattle.sheet.proofs.Answers.{reading-refused, reading-counts}
-use Rattle.table.specs.Reading.{tableOf, headIn, startSound, Started}
+use Rattle.layout.specs.Numbers.{tableOf}
+use Rattle.table.specs.Reading.{headIn, startSound, Started}
 use Rattle.table.specs.declared.Found.the-variants as answer
 
 pub is-false : (b : Bool) → (b ≡ true → ⊥) → b ≡ false

@@ -1,13 +1,13 @@
 -- The parts of a table's judgement, test by test: the one that fails, or the last where the others hold. Assumes nothing.
 use mathlib.Core.Path.{_≡_, refl, sym, _∙_}
-use mathlib.Core.Bool.{Bool, true, false, not, cond}
+use mathlib.Core.Bool.{Bool, true, false, cond}
 use mathlib.Core.List.{List}
 use Prim.Native.Nat.{ℕ, _+_, _-_, _*_, _≤_, _<_}
 use native.Mathlib.Omega.{arith}
-use borrow.Author.Tests.{le-leb, lt-leb, not-true, not-false}
+use borrow.Author.Tests.{le-leb, lt-leb}
 use lib.Dec.{leb}
 use lib.ListN.{length, take, drop}
-use Rattle.words.specs.Bytes.{valueOf, part, elementsOf, allBelow}
+use Rattle.words.specs.Bytes.{part, elementsOf, allBelow}
 use Rattle.records.specs.Outcome.{ok, orElse}
 use Rattle.records.proofs.Outcome.{or-none}
 use Rattle.rules.specs.Settings.{document01}
@@ -15,13 +15,11 @@ use Rattle.rules.specs.Columns.{within, check, readSheet, columnsOf, returnsFau
 use Rattle.rules.specs.Table.{sheetIn, columnsIn}
 use Rattle.rules.proofs.Circuits.Limits.{within-is}
 use Rattle.rules.proofs.Circuits.Refusals.{sheet-read}
-use Rattle.steps.proofs.Parts.{span}
-use Rattle.layout.specs.Places.{totalsAt, idsAt, waitAt}
-use Rattle.limits.specs.Sheets.{sizeOf}
-use Rattle.layout.specs.Numbers.{lengthOf}
+use Rattle.layout.specs.Places.{totalsAt, idsAt}
+use Rattle.layout.specs.Numbers.{tableOf}
 use Rattle.layout.specs.declared.Table.{Table}
-use Rattle.table.specs.Reading.{tableOf, Headed, countsSoundAt, totalsSoundAt, waitingSoundAt}
-use Rattle.limits.specs.Sheets.{pairSound}
+use Rattle.waiting.specs.Places.{lengthOf}
+use Rattle.table.specs.Reading.{Headed, countsSoundAt, totalsSoundAt}
 
 -- ---- the sheet x of a table, as the code cuts it out: it is read
 module _ (T : List ℕ) (k : Table) (h : Headed T k) (x : List ℕ) (ex : x ≡ part 12 (k .sheet) T) where
@@ -75,44 +73,10 @@ module _ (k : Table) (T : List ℕ) where
       unfolding countsSoundAt
       counts-but d = rw (f, le-leb _ _ l, le-leb (k .decided + cond (within 1 2 (k .stage)) 1 0) (k .returns) d)
 
--- ---- totals, and the return that waits, as the code cuts them out
+-- ---- totals, as the code cuts them out
 module _ (k : Table) (T : List ℕ) where
   pub totals-cut : allBelow 2147483647
       (elementsOf 4 (take (idsAt (k .sheet) (k .published) - totalsAt (k .sheet)) (drop (totalsAt (k .sheet)) T)))
       ≡ totalsSoundAt k T
   unfolding totalsSoundAt
   totals-cut = let e : idsAt (k .sheet) (k .published) - totalsAt (k .sheet) ≡ 4 * k .published = omega arith in rw e
-
--- the return that waits stands at w, and its pair is r and s
-pub record PairAt (k : Table) (T : List ℕ) (w r s : ℕ) : Type 0 where
-  pub place : w ≡ waitAt (k .sheet) (k .published) (k .returns)
-  pub first : r ≡ valueOf (part (w + 4) 4 T)
-  pub second : s ≡ valueOf (part (w + 4 + 4) 4 T)
-
-module _ {k : Table} {T : List ℕ} {w r s : ℕ} (at : PairAt k T w r s) where
-  module _ (b : Bool) (eb : b ≡ pairSound (k .gates) r s) where
-    pub pair-fails : not b ≡ true → false ≡ waitingSoundAt k T
-    unfolding waitingSoundAt
-    pair-fails n =
-        let p : pairSound (k .gates) r s ≡ false = sym eb ∙ not-true b n in
-        rw (← at .place, ← at .first, ← at .second, p)
-
-    module _ (holds : not b ≡ false) (b' : Bool)
-        (eb' : b' ≡ allBelow 2147483647 (elementsOf 4 (take (w + 4 + 24 - (w + 4)) (drop (w + 4) T)))) where
-      pub words-fail : not b' ≡ true → false ≡ waitingSoundAt k T
-      unfolding waitingSoundAt
-      words-fail n =
-          let p : pairSound (k .gates) r s ≡ true = sym eb ∙ not-false b holds in
-          let q : allBelow 2147483647 (elementsOf 4 (part (w + 4) 24 T)) ≡ false
-          = rw (span (w + 4) 24 T) at (sym eb' ∙ not-true b' n) in
-          rw (← at .place, ← at .first, ← at .second, p, q)
-
-      pub share-decides : not b' ≡ false → (z : ℕ) → z ≡ sizeOf (k .entries) (k .gates)
-          → allBelow 2147483647 (elementsOf 4 (take (w + 4 + 24 + 4 * z - (w + 4 + 24)) (drop (w + 4 + 24) T)))
-          ≡ waitingSoundAt k T
-      unfolding waitingSoundAt
-      share-decides n z ez =
-          let p : pairSound (k .gates) r s ≡ true = sym eb ∙ not-false b holds in
-          let q : allBelow 2147483647 (elementsOf 4 (part (w + 4) 24 T)) ≡ true
-          = rw (span (w + 4) 24 T) at (sym eb' ∙ not-false b' n) in
-          rw (← at .place, ← at .first, ← at .second, p, q, ← ez, span (w + 4 + 24) (4 * z) T)

@@ -8,35 +8,16 @@ use lib.Dec.{eqb, ltb, leb}
 use lib.ListN.{length, getD}
 use Rattle.words.specs.Bytes.{valueOf, part, elementsOf, allBelow}
 use Rattle.rules.specs.Settings.{document01}
-use Rattle.rules.specs.Columns.{check, within, entriesIn, publishedIn, sheetFault, totalsFit}
-use Rattle.rules.specs.Circuit.{gatesIn, testsIn}
-use Rattle.rules.specs.Table.{stageByte, serversIn, ownIn, returnsIn, decidedIn, acceptedIn, sheetSize, sheetIn, columnsIn}
-use Rattle.rules.specs.Table.{headerSound, tableSound, tableFault}
-use Rattle.layout.specs.Places.{totalsAt, waitAt}
-use Rattle.limits.specs.Sheets.{sizeOf, pairSound}
-use Rattle.layout.specs.Numbers.{lengthOf, Limited}
+use Rattle.rules.specs.Columns.{check, within, sheetFault, totalsFit}
+use Rattle.rules.specs.Table.{sheetIn, columnsIn, headerSound, tableSound, tableFault}
+use Rattle.layout.specs.Places.{totalsAt}
+use Rattle.layout.specs.Numbers.{tableOf, Limited}
 use Rattle.layout.specs.declared.Table.{Table}
+use Rattle.waiting.specs.Places.{lengthOf}
 use Rattle.table.specs.declared.Found.{Found}
 use Rattle.table.specs.declared.Found.the-variants as answer
 
--- ---- what a table says
-unfoldable pub tableOf : List ℕ → Table
-tableOf T =
-    record {
-      stage = stageByte document01 T;
-      servers = serversIn document01 T;
-      own = ownIn document01 T;
-      returns = returnsIn document01 T;
-      decided = decidedIn document01 T;
-      accepted = acceptedIn document01 T;
-      sheet = sheetSize document01 T;
-      columns = length (columnsIn document01 T);
-      entries = entriesIn (columnsIn document01 T);
-      published = publishedIn (columnsIn document01 T);
-      gates = gatesIn (columnsIn document01 T);
-      tests = testsIn (columnsIn document01 T);
-    }
-
+-- ---- what is found
 -- what the reader answers: what a sound table says, or rules' refusal of the table
 unfoldable pub foundIn : List ℕ → Found
 foundIn T = cond (tableSound document01 T) (answer.Table (tableOf T)) (answer.Refused (tableFault document01 T))
@@ -66,7 +47,7 @@ pub record Started (T : List ℕ) : Type 0 where
   pub returns-most : valueOf (part 4 2 T) ≤ 1024
   pub sheet-long : 12 + valueOf (part 10 2 T) ≤ length T
 
--- ---- counts, totals and the return that waits, by the numbers of the header
+-- ---- counts and totals, by the numbers of the header
 module _ (k : Table) (T : List ℕ) where
   unfoldable pub countsSoundAt : Bool
   countsSoundAt =
@@ -76,13 +57,6 @@ module _ (k : Table) (T : List ℕ) where
 
   unfoldable pub totalsSoundAt : Bool
   totalsSoundAt = allBelow 2147483647 (elementsOf 4 (part (totalsAt (k .sheet)) (4 * k .published) T))
-
-  unfoldable pub waitingSoundAt : Bool
-  waitingSoundAt =
-      let w = waitAt (k .sheet) (k .published) (k .returns) in
-      pairSound (k .gates) (valueOf (part (w + 4) 4 T)) (valueOf (part (w + 4 + 4) 4 T))
-      && (allBelow 2147483647 (elementsOf 4 (part (w + 4) 24 T))
-      && allBelow 2147483647 (elementsOf 4 (part (w + 4 + 24) (4 * sizeOf (k .entries) (k .gates)) T)))
 
 -- ---- facts that the calls require
 -- a table whose header and sheet are sound

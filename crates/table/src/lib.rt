@@ -1,16 +1,10 @@
 // The reading of a server's table in lent bytes: what a table says, where its length, stage, counts, sheet, numbers and
 // elements keep to the limits. The contracts cite rules and specs/.
 ghost use mathlib.Core.Path.{_≡_};
-ghost use mathlib.Core.Bool.{cond};
 ghost use Rattle.words.specs.Bytes.{elementsOf};
-ghost use Rattle.rules.specs.Columns.{within};
 ghost use Rattle.rules.specs.Server.{isMember};
-ghost use Rattle.layout.specs.Numbers.{Whole};
-ghost use Rattle.table.specs.Reading.{startSound, headIn, foundIn};
-ghost use Rattle.table.specs.Reading.{countsSoundAt, totalsSoundAt, waitingSoundAt, Headed};
-ghost use Rattle.limits.specs.Sheets.{pairSound};
-use layout::AWAITS_ONE;
-use layout::AWAITS_TWO;
+ghost use Rattle.waiting.specs.Places.{Whole};
+ghost use Rattle.table.specs.Reading.{startSound, headIn, foundIn, countsSoundAt, totalsSoundAt, Headed};
 use layout::CLOSED;
 use layout::Table;
 use layout::places::sheet_part;
@@ -44,26 +38,6 @@ pub fn has_id(ids: &[u8], id: u32) -> bool
         at += 4;
     }
     found
-}
-
-// Whether a return waits at a stage.
-pub fn waits(stage: u8) -> bool
-    ensures { λ r. ⌜ r ≡ within 1 2 stage ⌝ }
-{
-    if stage < AWAITS_ONE {
-        return false;
-    }
-    stage <= AWAITS_TWO
-}
-
-// How many returns wait at a stage.
-fn waiting(stage: u8) -> u32
-    ensures { λ r. ⌜ r ≡ cond (within 1 2 stage) 1 0 ⌝ }
-{
-    if waits(stage) {
-        return 1;
-    }
-    0
 }
 
 // Whether the header is sound, as far as it can be judged before the sheet is read.
@@ -133,13 +107,13 @@ fn counts_sound(t: &[u8], k: Table) -> bool
     if sheet::returns::returns_refusal(sheet_part(t, k.sheet), k.returns) != 0 {
         return false;
     }
-    if t.len() < k.length() {
+    if t.len() < waiting::places::length(k) {
         return false;
     }
     if k.returns < k.decided {
         return false;
     }
-    if k.returns - k.decided < waiting(k.stage) {
+    if k.returns - k.decided < waiting::count(k.stage) {
         return false;
     }
     k.accepted <= k.decided
@@ -155,25 +129,6 @@ fn totals_sound(t: &[u8], k: Table) -> bool
     elements::below(&t[start..end], field::P)
 }
 
-// Whether the return that waits has a pair, and its numbers are elements.
-fn waiting_sound(t: &[u8], k: Table) -> bool
-    requires { ⌜ Whole (now t) k ⌝ }
-    ensures { λ r. ⌜ r ≡ waitingSoundAt k (now (t .entry)) ⌝ }
-{
-    let at = k.wait_place() + 4;
-    let r = words::read_u32(t, at);
-    let s = words::read_u32(t, at + 4);
-    if !limits::pair_sound(k.gates, r as u64, s as u64) {
-        return false;
-    }
-    let share = at + 24;
-    if !elements::below(&t[at..share], field::P) {
-        return false;
-    }
-    let end = share + 4 * k.share_size();
-    elements::below(&t[share..end], field::P)
-}
-
 // What a sound table says.
 pub fn read(t: &[u8]) -> Found
     ensures { λ r. ⌜ r ≡ foundIn (now (t .entry)) ⌝ }
@@ -187,10 +142,10 @@ pub fn read(t: &[u8]) -> Found
             if !totals_sound(t, k) {
                 return Found::Refused(UNSOUND);
             }
-            if !waits(k.stage) {
+            if !waiting::waits(k.stage) {
                 return Found::Table(k);
             }
-            if !waiting_sound(t, k) {
+            if !waiting::sound(t, k) {
                 return Found::Refused(UNSOUND);
             }
             Found::Table(k)

@@ -1,6 +1,5 @@
--- Laws of the return that waits, and of adding its published entries.
-pub mod Holding
-pub mod AddedWords
-pub mod PublishedEntries
-pub mod PublishedSums
-pub mod AddedColumns
+-- Laws of the return that waits: its places, its numbers, whether it is sound, what is written.
+pub mod Positions
+pub mod Held
+pub mod Soundness
+pub mod Written

@@ -1,44 +1,29 @@
--- The return that waits, in the numbers of code, and what the functions on it ask for.
+-- The return that waits, in the numbers of code, and what reading it asks for.
 -- Assumes nothing.
 use mathlib.Core.Path.{_≡_}
-use mathlib.Core.Bool.{true}
 use mathlib.Core.List.{List}
-use Prim.Native.Nat.{ℕ, _<_}
-use lib.ListN.{getD}
-use Rattle.words.specs.Bytes.{allBelow}
-use Rattle.field.specs.Residues.{prime, residues}
+use Prim.Native.Nat.{ℕ}
 use Rattle.rules.specs.Settings.{document01}
-use Rattle.rules.specs.Columns.{within}
-use Rattle.rules.specs.Judging.{firstOnly, aOf, bOf, cOf, sigmaFrom}
-use Rattle.rules.specs.Table.{ownIn, columnsIn, waitingIn}
+use Rattle.rules.specs.Table.{waitingIn}
+use Rattle.layout.specs.Numbers.{tableOf}
 use Rattle.layout.specs.declared.Table.{Table}
-use Rattle.table.specs.Reading.{Sound}
-use Rattle.waiting.specs.declared.held.Waiting.{Waiting}
+use Rattle.waiting.specs.Places.{Whole}
+use Rattle.waiting.specs.declared.Waiting.{Waiting}
 
--- rules' waitingIn, without the pair and the share
+-- rules' waitingIn, without the share
 unfoldable pub waitsIn : List ℕ → Waiting
 waitsIn T =
     record {
       id = waitingIn document01 T .id;
+      r = waitingIn document01 T .r;
+      s = waitingIn document01 T .s;
       d = waitingIn document01 T .d;
       e = waitingIn document01 T .e;
       rh = waitingIn document01 T .rh;
       tau = waitingIn document01 T .tau;
     }
 
--- a return waits in the sound table T
-pub record Waits (T : List ℕ) (k : Table) : Type 0 where
-  pub sound : Sound T k
-  pub waiting : within 1 2 (k .stage) ≡ true
-  pub rh-below : waitingIn document01 T .rh < prime
-  pub d-below : waitingIn document01 T .d < prime
-  pub e-below : waitingIn document01 T .e < prime
-  pub elements-below : allBelow prime (waitingIn document01 T .elements) ≡ true
-
--- rules' sigmaIn, at the sums d and e
-unfoldable pub sigmaAt : List ℕ → ℕ → ℕ → ℕ
-sigmaAt T d e =
-    let x : ℕ → ℕ = λ i. getD (waitingIn document01 T .elements) i 0 in
-    let cs = columnsIn document01 T in
-    sigmaFrom residues (firstOnly residues (ownIn document01 T)) d e (aOf residues document01 cs x) (bOf residues document01 cs x)
-    (cOf residues document01 cs x) (waitingIn document01 T .rh)
+-- the table says k, and lies within its slice
+pub record Stands (T : List ℕ) (k : Table) : Type 0 where
+  pub says : k ≡ tableOf T
+  pub whole : Whole T k

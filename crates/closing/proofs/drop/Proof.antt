@@ -1,16 +1,15 @@
 -- `closing::drop` meets its contract: a sound table gives the reads and the writes their room, and the return that waits
 -- is decided (`drop-done`); else it is refused (`drop-unsound`, `drop-quiet`). Assumes nothing.
-use mathlib.Core.Path.{_≡_, sym, _∙_}
+use mathlib.Core.Path.{_≡_, refl, sym, _∙_}
 use mathlib.Core.Bool.{true}
 use mathlib.Core.List.{List}
 use Prim.Native.Nat.{ℕ}
-use native.Mathlib.Omega.{arith}
 use borrow.Author.Tests.{not-true, not-false}
 use Rattle.rules.specs.Columns.{within}
 use Rattle.layout.specs.declared.Table.{Table}
 use Rattle.table.specs.Reading.{Sound}
-use Rattle.table.proofs.Answers.{sound}
-use Rattle.closing.proofs.Dropping.{drop-unsound, drop-quiet, drop-done, drop-decides}
+use Rattle.table.proofs.Answers.{sound, stands-sound, decidable}
+use Rattle.closing.proofs.Dropping.{drop-unsound, drop-quiet, drop-done}
 use borrow.Author.Needs.{needs}
 use Rattle.closing.proofs.drop.Statement.{statement}
 use Rattle.closing.proofs.drop.Tie as tie
@@ -52,16 +51,14 @@ returns c =
     let u = c .before .before .before in
     drop-quiet (bytes u) _ (sound-table u) (sym (c .before .waits .ensures) ∙ not-true _ (c .if1 .taken))
 
-wait-place-requires : tie.Need-wait-place-requires
-wait-place-requires c κs = sound-table (found (c .before)) .limited
-
-read-u32-requires : tie.Need-read-u32-requires
-read-u32-requires c κs = omega (arith, sound-table (found (c .before .before)) .long, c .wait-place .ensures)
+read-requires-2 : tie.Need-read-requires-2
+read-requires-2 c κs = let u = found (c .before) in stands-sound (bytes u) _ (sound-table u)
 
 decide-requires : tie.Need-decide-requires
 decide-requires c κs =
-    let one = c .before .before .before .before in
-    (drop-decides (bytes (found one)) _ (sound-table (found one)) (one-waits one), search needs)
+    let one = c .before .before .before in
+    let d = decidable (bytes (found one)) _ (sound-table (found one)) (one-waits one) (bytes (found one)) refl in
+    (d .0, d .1, search needs)
 
 same-length-2 : tie.Need-same-length-2
 same-length-2 c = search needs
@@ -77,10 +74,10 @@ same-length-3 c = search needs
 
 returns-3 : tie.Need-returns-3
 returns-3 c =
-    let id = c .before .before .before .before in
-    let one = id .before .before .before in
-    rw (c .before .before .decide .ensures, id .read-u32 .ensures, id .before .wait-place .ensures)
-    (drop-done (bytes (found one)) _ (sound-table (found one)) (one-waits one))
+    let w = c .before .before .before .before in
+    let one = w .before .before in
+    drop-done (bytes (found one)) _ (sound-table (found one)) (one-waits one) (w .read2 .result) (w .read2 .ensures) _ _
+    (c .before .before .decide .ensures) refl
 
 pub drop-spec : {M : Type 1} → statement M
 drop-spec =
@@ -92,8 +89,7 @@ drop-spec =
     waits-requires
     same-length
     returns
-    wait-place-requires
-    read-u32-requires
+    read-requires-2
     decide-requires
     same-length-2
     returns-2

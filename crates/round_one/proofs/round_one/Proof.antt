@@ -1,7 +1,7 @@
 -- `round_one::round_one` meets its contract: what a sound table gives is what the functions below ask for, and each way out is
 -- a case of the definition (`first-unsound`, `first-stage`, `first-refused`, `first-done`). Assumes nothing.
 use mathlib.Core.Path.{sym, _∙_}
-use Rattle.table.proofs.Answers.{sound}
+use Rattle.table.proofs.Answers.{sound, stands-sound}
 use Rattle.round_one.proofs.FirstRound.{first-unsound, first-stage, first-refused, first-done, first-ready, first-waits}
 use borrow.Author.Needs.{needs}
 use Rattle.round_one.proofs.round_one.Statement.{statement}
@@ -30,17 +30,14 @@ returns c =
     let s = sound T _ (sym (r .read .ensures) ∙ u .k .given .1) in
     first-stage T J O _ s (c .if1 .taken)
 
-read-waiting-requires : tie.Need-read-waiting-requires
-read-waiting-requires c κs =
+read-requires-2 : tie.Need-read-requires-2
+read-requires-2 c κs =
     let i = c .before in
     let u = i .before .before .before in
     let r = u .before .before in
     let a = r .before .before .before .before .before in
     let T = a .args .table .now in
-    let J = a .args .joined .now in
-    let O = a .args .out .now in
-    let s = sound T _ (sym (r .read .ensures) ∙ u .k .given .1) in
-    first-waits T J O _ s (i .if1 .left)
+    stands-sound T _ (sound T _ (sym (r .read .ensures) ∙ u .k .given .1))
 
 one-refusal-requires : tie.Need-one-refusal-requires
 one-refusal-requires c κs =
@@ -53,7 +50,7 @@ one-refusal-requires c κs =
     let J = a .args .joined .now in
     let O = a .args .out .now in
     let s = sound T _ (sym (r .read .ensures) ∙ u .k .given .1) in
-    (first-waits T J O _ s (i .if1 .left), w .read-waiting .ensures)
+    (first-waits T J O _ s (i .if1 .left), w .read2 .ensures)
 
 same-length-2 : tie.Need-same-length-2
 same-length-2 c = search needs
@@ -85,7 +82,7 @@ take-one-requires c κs =
     let O = a .args .out .now in
     let s = sound T _ (sym (r .read .ensures) ∙ u .k .given .1) in
     let v = first-waits T J O _ s (i .if1 .left) in
-    first-ready T J O _ s (i .if1 .left) _ (f .one-refusal .ensures) _ v (w .read-waiting .ensures) (z .if2 .left)
+    first-ready T J O _ s (i .if1 .left) _ (f .one-refusal .ensures) _ v (w .read2 .ensures) (z .if2 .left)
 
 same-length-3 : tie.Need-same-length-3
 same-length-3 c = search needs
@@ -128,7 +125,7 @@ round-one-spec =
     enum-known-k
     same-length
     returns
-    read-waiting-requires
+    read-requires-2
     one-refusal-requires
     same-length-2
     returns-2

@@ -1,6 +1,6 @@
 -- `round_one::take_one` meets its contract: the sums are stored where rules says (`one-table`), and the message is that of
 -- round two with these sums (`one-bytes`). Assumes nothing.
-use mathlib.Core.Path.{_∙_, ap}
+use mathlib.Core.Path.{ap}
 use Rattle.field.proofs.Below.{sum-below}
 use Rattle.words.specs.Bytes.{splice}
 use Rattle.rules.specs.Messages.{firstSum, secondSum}
@@ -25,15 +25,6 @@ sigma-of-requires c κs =
       rw (c .before .second-sum .ensures) (sum-below _ _),
     )
 
-wait-place-requires : tie.Need-wait-place-requires
-wait-place-requires c κs = search needs
-
-add-at : tie.Need-add-at
-add-at c = search needs
-
-add-at-2 : tie.Need-add-at-2
-add-at-2 c = search needs
-
 store-sums-requires : tie.Need-store-sums-requires
 store-sums-requires c κs = search needs
 
@@ -53,8 +44,7 @@ returns : tie.Need-returns
 returns c =
     let m = c .before .before in
     let u = m .before .before .before .before .before in
-    let p = u .before .before in
-    let g = p .before in
+    let g = u .before .before in
     let e = g .before .before in
     let d = e .before in
     let a = d .before .before .before .before in
@@ -64,7 +54,7 @@ returns c =
     let s = a .pre .waits .sound .says in
     let sum1 = d .first-sum .ensures in
     let sum2 = e .second-sum .ensures in (
-      u .store-sums .ensures ∙ one-table T J k s _ _ sum1 sum2 _ (p .wait-place .ensures),
+      one-table T J k s _ _ sum1 sum2 _ (u .store-sums .ensures),
       rw (m .write-round .ensures, g .sigma-of .ensures)
           (ap (splice (a .args .out .now) 0) (one-bytes T J k s _ _ sum1 sum2 (a .args .w) (a .pre .says))),
     )
@@ -76,9 +66,6 @@ take-one-spec =
     first-sum-requires
     second-sum-requires
     sigma-of-requires
-    wait-place-requires
-    add-at
-    add-at-2
     store-sums-requires
     cast-write-round
     write-round-requires

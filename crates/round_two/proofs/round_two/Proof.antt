@@ -2,7 +2,7 @@
 -- a case of the definition (`second-unsound`, `second-stage`, `second-refused`, `second-accepted`, `second-rejected`).
 -- Assumes nothing.
 use mathlib.Core.Path.{sym, _∙_}
-use Rattle.table.proofs.Answers.{sound}
+use Rattle.table.proofs.Answers.{sound, stands-sound}
 use Rattle.round_two.proofs.SecondRound.{second-unsound, second-stage, second-waits, second-refused, second-ready}
 use Rattle.round_two.proofs.SecondRound.{second-accepted, second-rejected}
 use borrow.Author.Needs.{needs}
@@ -31,16 +31,14 @@ returns c =
     let s = sound T _ (sym (r .read .ensures) ∙ u .k .given .1) in
     second-stage T J _ s (c .if1 .taken)
 
-read-waiting-requires : tie.Need-read-waiting-requires
-read-waiting-requires c κs =
+read-requires-2 : tie.Need-read-requires-2
+read-requires-2 c κs =
     let i = c .before in
     let u = i .before .before .before in
     let r = u .before .before in
     let a = r .before .before .before .before in
     let T = a .args .table .now in
-    let J = a .args .joined .now in
-    let s = sound T _ (sym (r .read .ensures) ∙ u .k .given .1) in
-    second-waits T J _ s (i .if1 .left)
+    stands-sound T _ (sound T _ (sym (r .read .ensures) ∙ u .k .given .1))
 
 two-refusal-requires : tie.Need-two-refusal-requires
 two-refusal-requires c κs =
@@ -52,7 +50,7 @@ two-refusal-requires c κs =
     let T = a .args .table .now in
     let J = a .args .joined .now in
     let s = sound T _ (sym (r .read .ensures) ∙ u .k .given .1) in
-    (second-waits T J _ s (i .if1 .left), w .read-waiting .ensures)
+    (second-waits T J _ s (i .if1 .left), w .read2 .ensures)
 
 same-length-2 : tie.Need-same-length-2
 same-length-2 c = search needs
@@ -81,7 +79,7 @@ settle-requires c κs =
     let T = a .args .table .now in
     let J = a .args .joined .now in
     let s = sound T _ (sym (r .read .ensures) ∙ u .k .given .1) in
-    second-ready T J _ s (i .if1 .left) _ (f .two-refusal .ensures) _ (w .read-waiting .ensures) (z .if2 .left)
+    second-ready T J _ s (i .if1 .left) _ (f .two-refusal .ensures) _ (w .read2 .ensures) (z .if2 .left)
 
 same-length-3 : tie.Need-same-length-3
 same-length-3 c = search needs
@@ -138,7 +136,7 @@ round-two-spec =
     enum-known-k
     same-length
     returns
-    read-waiting-requires
+    read-requires-2
     two-refusal-requires
     same-length-2
     returns-2

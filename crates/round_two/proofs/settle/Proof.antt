@@ -2,7 +2,8 @@
 -- What the contract requires is found by search; what was tested and done is named. Assumes nothing.
 use mathlib.Core.Path.{refl}
 use native.Mathlib.Omega.{arith}
-use Rattle.round_two.proofs.SecondRound.{settled-accepted, settled-rejected, waits-decides}
+use Rattle.table.proofs.Answers.{decidable}
+use Rattle.round_two.proofs.SecondRound.{settled-accepted, settled-rejected}
 use borrow.Author.Needs.{needs}
 use Rattle.round_two.proofs.settle.Statement.{statement}
 use Rattle.round_two.proofs.settle.Tie as tie
@@ -14,7 +15,12 @@ add-published-requires : tie.Need-add-published-requires
 add-published-requires c κs = search needs
 
 decide-requires : tie.Need-decide-requires
-decide-requires c κs = (search (needs, waits-decides), omega arith)
+decide-requires c κs =
+    let p = c .before .before .before in
+    let a = p .before .before .before .before .before .before in
+    let w = a .pre .waits in
+    let d = decidable (a .args .t .now) (a .args .k) (w .sound) (w .waiting) (p .add-published .last .0) (p .add-published .kept .0) in
+    (d .0, d .1, omega arith)
 
 same-length : tie.Need-same-length
 same-length c = search needs
@@ -28,7 +34,11 @@ returns c =
     (d .decide .ensures) refl
 
 decide-requires-2 : tie.Need-decide-requires-2
-decide-requires-2 c κs = (search (needs, waits-decides), omega arith)
+decide-requires-2 c κs =
+    let a = c .before .before .before .before .before in
+    let w = a .pre .waits in
+    let d = decidable (a .args .t .now) (a .args .k) (w .sound) (w .waiting) (a .args .t .now) refl in
+    (d .0, d .1, omega arith)
 
 same-length-2 : tie.Need-same-length-2
 same-length-2 c = search needs

@@ -1,6 +1,6 @@
 -- `round_two::two_refusal` meets its contract: sigma and tau make the own message of round two (`two-joined`).
 -- Assumes nothing.
-use Rattle.waiting.proofs.Holding.{d-element, e-element}
+use Rattle.rounds.proofs.Holding.{d-element, e-element}
 use Rattle.round_two.proofs.SecondRound.{two-joined}
 use borrow.Author.Needs.{needs}
 use Rattle.round_two.proofs.two_refusal.Statement.{statement}

@@ -9,7 +9,7 @@ use lib.ListN.{length}
 use Rattle.rules.specs.Settings.{document01}
 use Rattle.rules.specs.Columns.{totalsFit}
 use Rattle.rules.specs.Table.{columnsIn}
-use Rattle.layout.specs.Numbers.{lengthOf}
+use Rattle.waiting.specs.Places.{lengthOf}
 use Rattle.table.proofs.Judged.{cut-reads, fits, fits-not, counts-unfit, counts-short, counts-over, counts-but}
 use borrow.Author.Needs.{needs}
 use Rattle.table.proofs.counts_sound.Statement.{statement}
@@ -66,8 +66,8 @@ returns-3 c =
     counts-over (given (one .before) .args .k) (bytes (one .before)) (totals-fit one) (long-enough two)
     (omega (arith, c .if3 .taken))
 
-waiting-requires : tie.Need-waiting-requires
-waiting-requires c κs = search needs
+count-requires : tie.Need-count-requires
+count-requires c κs = search needs
 
 returns-4 : tie.Need-returns-4
 returns-4 c =
@@ -75,7 +75,7 @@ returns-4 c =
     let two = three .before .before in
     let one = two .before .before in
     counts-over (given (one .before) .args .k) (bytes (one .before)) (totals-fit one) (long-enough two)
-    (omega (arith, c .if4 .taken, c .before .waiting .ensures, three .if3 .left))
+    (omega (arith, c .if4 .taken, c .before .count .ensures, three .if3 .left))
 
 returns-5 : tie.Need-returns-5
 returns-5 c =
@@ -84,7 +84,7 @@ returns-5 c =
     let two = three .before .before in
     let one = two .before .before in
     counts-but (given (one .before) .args .k) (bytes (one .before)) (totals-fit one) (long-enough two)
-    (omega (arith, four .if4 .left, four .before .waiting .ensures, three .if3 .left))
+    (omega (arith, four .if4 .left, four .before .count .ensures, three .if3 .left))
 
 pub counts-sound-spec : {M : Type 1} → statement M
 counts-sound-spec =
@@ -96,6 +96,6 @@ counts-sound-spec =
     length-requires
     returns-2
     returns-3
-    waiting-requires
+    count-requires
     returns-4
     returns-5)

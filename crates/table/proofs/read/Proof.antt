@@ -6,8 +6,11 @@ use mathlib.Core.List.{List}
 use Prim.Native.Nat.{ℕ}
 use borrow.Author.Tests.{not-true, not-false}
 use Rattle.layout.specs.declared.Table.{Table}
-use Rattle.table.specs.Reading.{countsSoundAt, totalsSoundAt, waitingSoundAt, Headed, foundIn}
-use Rattle.table.proofs.Answers.{foundBy, headed, whole, found-headless, found-counts, found-totals, found-quiet, found-waiting}
+use Rattle.rules.specs.Settings.{document01}
+use Rattle.rules.specs.Table.{waitingSound}
+use Rattle.table.specs.Reading.{countsSoundAt, totalsSoundAt, Headed, foundIn}
+use Rattle.table.proofs.Answers.{foundBy, headed, whole, stands}
+use Rattle.table.proofs.Answers.{found-headless, found-counts, found-totals, found-quiet, found-waiting}
 use borrow.Author.Needs.{needs}
 use Rattle.table.proofs.read.Statement.{statement}
 use Rattle.table.proofs.read.Tie as tie
@@ -38,7 +41,7 @@ abbrev third : tie.Else3 → tie.Else2
 third c = c .before .before
 
 one-waits : (c : tie.Else3) → let u = first (second (third c)) in
-    foundBy (waitingSoundAt (table u) (bytes u)) (table u) ≡ foundIn (bytes u)
+    foundBy (waitingSound document01 (bytes u)) (table u) ≡ foundIn (bytes u)
 one-waits c =
     let two = third c in
     let one = second two in
@@ -82,13 +85,13 @@ returns-3 c =
     found-quiet (bytes (first one)) _ (header (first one)) (counts-hold one) (totals-hold two)
     (sym (c .before .waits .ensures) ∙ not-true _ (c .if3 .taken))
 
-waiting-sound-requires : tie.Need-waiting-sound-requires
-waiting-sound-requires c κs =
-    let one = second (third c) in whole (bytes (first one)) _ (header (first one)) (counts-hold one)
+sound-requires : tie.Need-sound-requires
+sound-requires c κs =
+    let one = second (third c) in stands (bytes (first one)) _ (header (first one)) (counts-hold one)
 
 returns-4 : tie.Need-returns-4
 returns-4 c =
-    rw (sym (c .before .waiting-sound .ensures) ∙ not-true _ (c .if4 .taken)) at (one-waits (c .before .before))
+    rw (sym (c .before .sound .ensures) ∙ not-true _ (c .if4 .taken)) at (one-waits (c .before .before))
 
 returns-5 : tie.Need-returns-5
 returns-5 c =
@@ -98,7 +101,7 @@ returns-5 c =
 
 returns-6 : tie.Need-returns-6
 returns-6 c =
-    rw (sym (c .before .waiting-sound .ensures) ∙ not-false _ (c .if4 .left)) at (one-waits (c .before .before))
+    rw (sym (c .before .sound .ensures) ∙ not-false _ (c .if4 .left)) at (one-waits (c .before .before))
 
 pub read-spec : {M : Type 1} → statement M
 read-spec =
@@ -113,7 +116,7 @@ read-spec =
     returns-2
     waits-requires
     returns-3
-    waiting-sound-requires
+    sound-requires
     returns-4
     returns-5
     returns-6)

@@ -3,6 +3,7 @@ pub mod Natural
 pub mod Growth
 pub mod Stretches
 pub mod Walk
+pub mod BitLength
 pub mod Limits
 pub mod Refusals
 pub mod Size

@@ -4,7 +4,7 @@ use mathlib.Core.List.{List, [], _∷_, _++_}
 use Prim.Native.Nat.{ℕ, zero, suc, _+_, _-_, _*_, _^_}
 use Rattle.words.specs.Bytes.{bytesOf}
 use Rattle.rules.specs.Settings.{Setting}
-use Rattle.rules.specs.Columns.{Column, yesNo, choice, number, entriesOf}
+use Rattle.rules.specs.Columns.{Column, yesNo, choice, number, top, bitLength, entriesOf}
 
 -- "1: constant. 2: entry number. 3: add two wires. 4: wire times constant. 5: multiply two wires. 6: test that a wire is
 -- zero. Kinds 1 to 5 each make the next wire, from 0."
@@ -52,6 +52,22 @@ unfoldable pub bitAdds : ℕ → ℕ → ℕ → List Step
 bitAdds zero w q = []
 bitAdds (suc n) w q = bitAdds n w q ++ (scale (w + 3 * n) (2 ^ n) ∷ add (q + 2 * n) (suc (q + 2 * n)) ∷ [])
 
+-- the bits' sum, and its test
+unfoldable pub bitSum : ℕ → ℕ → ℕ → List Step
+bitSum n w q = bitAdds n w q ++ (test (q + 2 * n) ∷ [])
+
+-- "Entry v; 2b bit checks; the sum and test of kind 19 over the first bits; then the constant p - T, add v to it, add each of
+-- the second bits times 2^j, bit by bit as there, and test": n is the top T, of b bits, and q is the wire of v times p - 1
+unfoldable pub topSums : Setting → ℕ → ℕ → ℕ → ℕ → List Step
+topSums σ w q b n =
+    (scale w (σ .modulus - 1) ∷ [])
+    ++ (bitSum b (suc w) q
+    ++ (constant (σ .modulus - n) ∷ add (suc (q + 2 * b)) w ∷ bitSum b (suc w + 3 * b) (suc (suc (q + 2 * b)))))
+
+unfoldable pub topSteps : Setting → ℕ → ℕ → ℕ → ℕ → List Step
+topSteps σ e w b n =
+    (entry e ∷ []) ++ (bitChecks (2 * b) (suc e) (suc w) ++ topSums σ w (suc w + 3 * (2 * b)) b n)
+
 -- "Kind 17 is one bit check. Kind 18: B bit checks; then the options' sum; test the last sum. Kind 19: entry v; b bit
 -- checks; v times p - 1; then the bits' sum; test the last sum."
 -- The column's first entry is e, and w is the next wire
@@ -63,33 +79,46 @@ columnSteps σ e w (number n) =
     ++ (bitChecks n (suc e) (suc w)
     ++ ((scale w (σ .modulus - 1) ∷ [])
     ++ (bitAdds n (suc w) (suc w + 3 * n) ++ (test (suc w + 3 * n + 2 * n) ∷ []))))
+columnSteps σ e w (top n) = topSteps σ e w (bitLength n) n
 
--- the additions and the products with a constant among a column's steps: in the bit checks, then in the sum
+-- the additions and the products with a constant among a column's steps: in the bit checks, then in the sums
 unfoldable pub addsOf : Column → ℕ
 addsOf yesNo = 1
 addsOf (choice n) = n + n
 addsOf (number n) = n + n
+addsOf (top n) = suc (4 * bitLength n)
 
 unfoldable pub scalesOf : Column → ℕ
 scalesOf yesNo = 0
 scalesOf (choice n) = 0
 scalesOf (number n) = suc n
+scalesOf (top n) = suc (2 * bitLength n)
+
+-- its constants
+unfoldable pub constantsOf : Column → ℕ
+constantsOf yesNo = 0
+constantsOf (choice n) = 0
+constantsOf (number n) = 0
+constantsOf (top n) = 1
 
 -- the wires, multiplications and tests of a column's steps
 unfoldable pub wiresOf : Column → ℕ
 wiresOf yesNo = 3
 wiresOf (choice n) = 3 * n + n
 wiresOf (number n) = suc (3 * n) + suc (2 * n)
+wiresOf (top n) = 10 * bitLength n + 4
 
 unfoldable pub gatesOf : Column → ℕ
 gatesOf yesNo = 1
 gatesOf (choice n) = n
 gatesOf (number n) = n
+gatesOf (top n) = 2 * bitLength n
 
 unfoldable pub testsOf : Column → ℕ
 testsOf yesNo = 1
 testsOf (choice n) = n + 1
 testsOf (number n) = n + 1
+testsOf (top n) = 2 * bitLength n + 2
 
 -- "A sheet's circuit starts with the constant p - 1, wire 0. Then for each column"
 unfoldable pub circuitFrom : Setting → ℕ → ℕ → List Column → List Step
@@ -112,7 +141,7 @@ unfoldable pub testsIn : List Column → ℕ
 testsIn [] = 0
 testsIn (c ∷ cs) = testsOf c + testsIn cs
 
--- and its additions and products with a constant
+-- and its additions, products with a constant, and constants behind wire 0
 unfoldable pub addsIn : List Column → ℕ
 addsIn [] = 0
 addsIn (c ∷ cs) = addsOf c + addsIn cs
@@ -120,3 +149,7 @@ addsIn (c ∷ cs) = addsOf c + addsIn cs
 unfoldable pub scalesIn : List Column → ℕ
 scalesIn [] = 0
 scalesIn (c ∷ cs) = scalesOf c + scalesIn cs
+
+unfoldable pub constantsIn : List Column → ℕ
+constantsIn [] = 0
+constantsIn (c ∷ cs) = constantsOf c + constantsIn cs

@@ -7,14 +7,24 @@ use Prim.Native.Nat.{ℕ, zero, suc, _+_, _-_, _*_, _^_, _≤_, max}
 use lib.Dec.{leb, ltb, eqb}
 use lib.ListN.{getD}
 use Rattle.algebra.specs.Lists.{every, tabulate, countFrom}
+use Rattle.words.specs.Bytes.{valueOf}
 use Rattle.records.specs.Outcome.{Outcome, ok, refused}
 use Rattle.records.specs.Records.{Format, read}
 use Rattle.rules.specs.Settings.{Setting}
 
--- "17, yes/no: no body. 18, choice: 1 byte B, 2 to 64. 19, number: 1 byte b, 1 to 24."
+-- "17, yes/no: no body. 18, choice: 1 byte B, 2 to 64. 19, number: 1 byte b, 1 to 24." "Column kind 20: a 4-byte top T, 1 to
+-- 16,777,215."
 pub data Column : Type 0 where
   yesNo : Column
-  choice number : ℕ → Column
+  choice number top : ℕ → Column
+
+-- "b the bit length of T": the least b with T below 2^b, where T is below 2^24; looked for from n downwards
+unfoldable pub lengthWithin : ℕ → ℕ → ℕ
+lengthWithin zero v = 0
+lengthWithin (suc n) v = cond (leb (2 ^ n) v) (suc n) (lengthWithin n v)
+
+unfoldable pub bitLength : ℕ → ℕ
+bitLength v = lengthWithin 24 v
 
 -- low to high, both included
 abbrev pub within : ℕ → ℕ → ℕ → Bool
@@ -26,40 +36,52 @@ limitedColumn fits c = cond fits (ok c) (refused 2)
 
 -- "Each is one kind byte, then a body whose length the kind fixes."
 unfoldable pub columnBody : ℕ → Option ℕ
-columnBody k = cond (eqb k 17) (some 0) (cond (eqb k 18) (some 1) (cond (eqb k 19) (some 1) none))
+columnBody k =
+    cond (eqb k 17) (some 0)
+    (cond (eqb k 18) (some 1)
+    (cond (eqb k 19) (some 1)
+    (cond (eqb k 20) (some 4) none)))
 
 unfoldable pub columnOf : ℕ → List ℕ → Outcome Column
 columnOf k body =
     cond (eqb k 17) (ok yesNo)
     (cond (eqb k 18) (limitedColumn (within 2 64 (getD body 0 0)) (choice (getD body 0 0)))
-    (limitedColumn (within 1 24 (getD body 0 0)) (number (getD body 0 0))))
+    (cond (eqb k 19) (limitedColumn (within 1 24 (getD body 0 0)) (number (getD body 0 0)))
+    (limitedColumn (within 1 16777215 (valueOf body)) (top (valueOf body)))))
 
 abbrev pub columnFormat : Format Column
 columnFormat = record { bodyOf = columnBody; atFault = 1; judge = λ done k body. columnOf k body }
 
--- "One entry, 0 or 1. B entries; the chosen one is 1, the rest 0. Entry v, then b bit entries, lowest first."
+-- "One entry, 0 or 1. B entries; the chosen one is 1, the rest 0. Entry v, then b bit entries, lowest first." "The
+-- entries are v, the b bits of v, and the b bits of T - v."
 unfoldable pub entriesOf : Column → ℕ
 entriesOf yesNo = 1
 entriesOf (choice n) = n
 entriesOf (number n) = suc n
+entriesOf (top n) = suc (2 * bitLength n)
 
--- "Published entries: every entry of kinds 17 and 18, and v of kind 19." They are the first of a column's entries
+-- "Published entries: every entry of kinds 17 and 18, and v of kind 19." Of kind 20 "only v is published". They are the first
+-- of a column's entries
 unfoldable pub publishedOf : Column → ℕ
 publishedOf yesNo = 1
 publishedOf (choice n) = n
 publishedOf (number n) = 1
+publishedOf (top n) = 1
 
--- "A value is 0 or 1, the chosen option from 0 to B - 1, or v from 0 to 2^b - 1": how many values there are
+-- "A value is 0 or 1, the chosen option from 0 to B - 1, or v from 0 to 2^b - 1." Of kind 20 "legal values are
+-- 0 to T": how many values there are
 unfoldable pub valuesOf : Column → ℕ
 valuesOf yesNo = 2
 valuesOf (choice n) = n
 valuesOf (number n) = 2 ^ n
+valuesOf (top n) = suc n
 
--- "a column's largest value (2^b - 1 for kind 19, else 1)"
+-- "a column's largest value (2^b - 1 for kind 19, else 1)", and "T is its largest value for refusal 4"
 unfoldable pub largestOf : Column → ℕ
 largestOf yesNo = 1
 largestOf (choice n) = 1
 largestOf (number n) = 2 ^ n - 1
+largestOf (top n) = n
 
 -- the entries and the published entries of a sheet
 unfoldable pub entriesIn : List Column → ℕ

@@ -1,6 +1,7 @@
 -- Document 01, "Examples at the bench": the marked cases as one table, then the others, with cases of the readings that
 -- docs/DECISIONS.md tells and of the limits. Each row says what it shows and is a test that computes; proofs/Computed has
--- them pass. TableExamples has the rows about a server's table.
+-- them pass. TopExamples has the rows about a column with a top
+-- of its own, TableExamples those about a server's table.
 -- Assumes nothing.
 use mathlib.Core.Bool.{Bool, _&&_, not}
 use mathlib.Core.List.{List, [], _∷_, _++_}
@@ -74,7 +75,7 @@ toShare r s =
     (shareMessage σ 77 0 (madeShare σ yesSheet 2 (1 ∷ []) random 0)) r s 14
 
 -- opening for two servers, with room enough
-abbrev toOpen : List ℕ → ℕ → ℕ
+abbrev pub toOpen : List ℕ → ℕ → ℕ
 toOpen sheet returns = openRefusal σ 2 0 sheet returns 100000
 
 unfoldable pub marked : List Row
@@ -131,19 +132,19 @@ refused12 = 114 ∷ 101 ∷ 102 ∷ 117 ∷ 115 ∷ 101 ∷ 100 ∷ 32 ∷ 49 �
 abbrev refused2 : List ℕ
 refused2 = 114 ∷ 101 ∷ 102 ∷ 117 ∷ 115 ∷ 101 ∷ 100 ∷ 32 ∷ 50 ∷ 10 ∷ []
 
--- a sheet with all three kinds
+-- a sheet with kinds 17, 18 and 19
 abbrev allKinds : List ℕ
 allKinds = 17 ∷ 18 ∷ 3 ∷ 19 ∷ 2 ∷ []
 
 abbrev widest : List ℕ
 widest = 17 ∷ 19 ∷ 24 ∷ 18 ∷ 2 ∷ []
 
--- ten columns 19 24 and one 19 5: 256 entries
+-- kind 20 with the top 16,777,215; five of them and one with the top 31: 256 entries
+abbrev pub wide : List ℕ
+wide = 20 ∷ 255 ∷ 255 ∷ 255 ∷ 0 ∷ []
+
 abbrev largest : List ℕ
-largest =
-    (19 ∷ 24 ∷ 19 ∷ 24 ∷ 19 ∷ 24 ∷ 19 ∷ 24 ∷ 19 ∷ 24 ∷ [])
-    ++ (19 ∷ 24 ∷ 19 ∷ 24 ∷ 19 ∷ 24 ∷ 19 ∷ 24 ∷ 19 ∷ 24 ∷ [])
-    ++ (19 ∷ 5 ∷ [])
+largest = wide ++ wide ++ wide ++ wide ++ wide ++ (20 ∷ 31 ∷ 0 ∷ 0 ∷ 0 ∷ [])
 
 unfoldable pub unmarked : List Row
 unmarked =
@@ -216,13 +217,13 @@ circuits =
     ∷ row "2,048 wires are within the limits" (eqb (toLimits 2048 1 1) 0)
     ∷ row "2,049 wires: 2" (eqb (toLimits 2049 1 1) 2)
     ∷ row "no test, and then byte 99: 1, the total limits last" (eqb (circuitFault σ 1 (circuitBytes σ (sized 2 1 0) ++ (99 ∷ []))) 1)
-    ∷ row "the largest circuit of a sheet: 1,248 wires" (eqb (suc (wiresIn (columnsOf largest))) 1248)
-    ∷ row "7,008 bytes" (eqb (length (circuitBytes σ (circuitOf σ (columnsOf largest)))) 7008)
+    ∷ row "the largest circuit of a sheet: 1,275 wires" (eqb (suc (wiresIn (columnsOf largest))) 1275)
+    ∷ row "7,161 bytes" (eqb (length (circuitBytes σ (circuitOf σ (columnsOf largest)))) 7161)
     ∷ []
 
 -- what a sheet comes to: columns, entries, published entries, wires, multiplications, tests, circuit bytes, share message
 -- bytes, the greatest N
-abbrev weight : List ℕ → List ℕ
+abbrev pub weight : List ℕ → List ℕ
 weight s =
     let z = sizesOf σ s in
     z .columns ∷ z .entries ∷ z .published ∷ z .wires ∷ z .multiplications ∷ z .tests ∷ z .circuitBytes ∷ z .shareBytes
@@ -235,8 +236,8 @@ greatest s = sizesOf σ s .greatestReturns
 unfoldable pub sizes : List Row
 sizes =
     row "sheet 17: 4 wires, 21 bytes, 42 in a share message" (same (weight (17 ∷ [])) (1 ∷ 1 ∷ 1 ∷ 4 ∷ 1 ∷ 1 ∷ 21 ∷ 42 ∷ 1024 ∷ []))
-    ∷ row "one column of each kind" (same (weight allKinds) (3 ∷ 7 ∷ 5 ∷ 28 ∷ 6 ∷ 8 ∷ 156 ∷ 106 ∷ 1024 ∷ []))
-    ∷ row "the largest circuit of a sheet, by the table of body lengths" (eqb (circuitSize σ (columnsOf largest)) 7008)
+    ∷ row "kinds 17, 18 and 19" (same (weight allKinds) (3 ∷ 7 ∷ 5 ∷ 28 ∷ 6 ∷ 8 ∷ 156 ∷ 106 ∷ 1024 ∷ []))
+    ∷ row "the largest circuit of a sheet, by the table of body lengths" (eqb (circuitSize σ (columnsOf largest)) 7161)
     ∷ row "b = 24: 128" (eqb (greatest (19 ∷ 24 ∷ [])) 128)
     ∷ row "b = 22: 512 opens, 513 is refused 4"
     (eqb (greatest (19 ∷ 22 ∷ [])) 512 && (eqb (toOpen (19 ∷ 22 ∷ []) 512) 0 && eqb (toOpen (19 ∷ 22 ∷ []) 513) 4))

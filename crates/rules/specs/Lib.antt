@@ -24,4 +24,5 @@ pub mod Runs
 pub mod WholeRun
 pub mod Made
 pub mod Examples
+pub mod TopExamples
 pub mod TableExamples

@@ -7,7 +7,7 @@ use lib.ListN.{length, getD}
 use Rattle.algebra.specs.Lists.{All, tabulate}
 use Rattle.algebra.specs.Ops.{Ops}
 use Rattle.rules.specs.Settings.{Setting}
-use Rattle.rules.specs.Columns.{Column, yesNo, choice, number, entriesOf}
+use Rattle.rules.specs.Columns.{Column}
 use Rattle.rules.specs.Circuit.{Step, constant, entry, add, scale, multiply, test, gatesOf, circuitOf}
 
 -- What the steps mean where wires hold values of X: an entry, a constant, the sum of two wires, a wire times a constant,

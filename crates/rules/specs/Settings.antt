@@ -22,12 +22,12 @@ document01 = record { modulus = 2147483647; width = 4; circuitLimit = 17920; tot
 -- What the theorems assume of a setting
 pub record Facts (σ : Setting) : Type 0 where
   pub prime : Prime (σ .modulus)
-  -- points up to 513 differ, 2 ^ 24 fits, 64 ones do not wrap
-  pub large : 16777216 < σ .modulus
+  -- points up to 513 differ, the sum of two numbers of 24 bits fits, 64 ones do not wrap
+  pub large : 33554432 < σ .modulus
   -- an element fits its bytes
   pub fits : σ .modulus ≤ 256 ^ σ .width
   -- the circuit of every sheet with at most 256 entries fits
-  pub roomy : 1 + σ .width + 256 * (24 + σ .width) ≤ σ .circuitLimit
+  pub roomy : 1 + σ .width + 256 * (24 + 2 * σ .width) ≤ σ .circuitLimit
   -- a totals message is no round message, and its first byte and a table's are bytes
   pub apart : 35 < σ .totalsByte
   pub totals-fits : σ .totalsByte < 256

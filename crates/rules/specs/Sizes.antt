@@ -9,7 +9,8 @@ use lib.ListN.{length}
 use Rattle.rules.specs.Settings.{Setting}
 use Rattle.rules.specs.Columns.{Column, entriesOf, entriesIn, publishedIn, sheetFault, columnsOf, totalsFit, mostReturns}
 use Rattle.rules.specs.Columns.{serversFault, ownFault}
-use Rattle.rules.specs.Circuit.{Step, addsOf, scalesOf, gatesOf, testsOf, addsIn, scalesIn, gatesIn, testsIn}
+use Rattle.rules.specs.Circuit.{Step, constantsOf, addsOf, scalesOf, gatesOf, testsOf}
+use Rattle.rules.specs.Circuit.{constantsIn, addsIn, scalesIn, gatesIn, testsIn}
 use Rattle.rules.specs.CircuitReader.{bodyLengths, stepWires, stepGates, stepTests, circuitFault, countIn, sheetCircuit}
 use Rattle.rules.specs.Judging.{shareSize}
 use Rattle.rules.specs.Making.{shareMessage, shareLength}
@@ -59,10 +60,10 @@ weighed (l ∷ ls) (n ∷ ns) = n * suc l + weighed ls ns
 
 -- the steps of one column, and those of a sheet's circuit, which starts with a constant
 abbrev pub columnKinds : Column → List ℕ
-columnKinds c = 0 ∷ entriesOf c ∷ addsOf c ∷ scalesOf c ∷ gatesOf c ∷ testsOf c ∷ []
+columnKinds c = constantsOf c ∷ entriesOf c ∷ addsOf c ∷ scalesOf c ∷ gatesOf c ∷ testsOf c ∷ []
 
 abbrev pub circuitKinds : List Column → List ℕ
-circuitKinds cs = 1 ∷ entriesIn cs ∷ addsIn cs ∷ scalesIn cs ∷ gatesIn cs ∷ testsIn cs ∷ []
+circuitKinds cs = suc (constantsIn cs) ∷ entriesIn cs ∷ addsIn cs ∷ scalesIn cs ∷ gatesIn cs ∷ testsIn cs ∷ []
 
 unfoldable pub columnSize : Setting → Column → ℕ
 columnSize σ c = weighed (bodyLengths σ) (columnKinds c)
@@ -75,7 +76,8 @@ pub record ToldFromSheet (σ : Setting) (sheet : List ℕ) : Type 0 where
   -- its circuit is read, over its entries, with its numbers of multiplications and tests; kinds 1 to 5 make a wire each
   pub circuit-is-read : circuitFault σ (entriesIn (columnsOf sheet)) (sheetCircuit σ sheet) ≡ 0
   pub wires-are : sizesOf σ sheet .wires
-      ≡ 1 + (entriesIn (columnsOf sheet) + addsIn (columnsOf sheet) + scalesIn (columnsOf sheet) + gatesIn (columnsOf sheet))
+      ≡ suc (constantsIn (columnsOf sheet))
+      + (entriesIn (columnsOf sheet) + addsIn (columnsOf sheet) + scalesIn (columnsOf sheet) + gatesIn (columnsOf sheet))
   pub multiplications-are : sizesOf σ sheet .multiplications ≡ gatesIn (columnsOf sheet)
   pub tests-are : sizesOf σ sheet .tests ≡ testsIn (columnsOf sheet)
   -- its bytes, counted by the table of body lengths

@@ -2,10 +2,10 @@
 -- computes. `walk-is-run` in proofs says that this is the run of the circuit.
 -- Assumes nothing.
 use mathlib.Core.List.{List, [], _∷_, _++_}
-use Prim.Native.Nat.{ℕ, zero, suc, _+_, _-_, _^_}
+use Prim.Native.Nat.{ℕ, zero, suc, _+_, _-_, _*_, _^_}
 use Rattle.algebra.specs.Lists.{tabulate}
 use Rattle.rules.specs.Settings.{Setting}
-use Rattle.rules.specs.Columns.{Column, yesNo, choice, number, entriesOf}
+use Rattle.rules.specs.Columns.{Column, yesNo, choice, number, top, bitLength, entriesOf}
 use Rattle.rules.specs.Circuit.{gatesOf}
 use Rattle.rules.specs.Run.{Meaning}
 
@@ -27,6 +27,7 @@ module _ {X : Type 0} (σ : Setting) (μ : Meaning X) where
   bitsAt e yesNo = e
   bitsAt e (choice n) = e
   bitsAt e (number n) = suc e
+  bitsAt e (top n) = suc e
 
   -- a column whose first entry is e, where t multiplications stand before it
   unfoldable pub columnLefts : ℕ → Column → List X
@@ -35,17 +36,30 @@ module _ {X : Type 0} (σ : Setting) (μ : Meaning X) where
   unfoldable pub columnRights : ℕ → Column → List X
   columnRights e c = tabulate (λ i. lessOne (bitsAt e c + i)) (gatesOf c)
 
-  unfoldable pub bitTests : ℕ → ℕ → Column → List X
-  bitTests e t c = tabulate (λ i. bitOut (bitsAt e c + i) (t + i)) (gatesOf c)
+  -- n bit checks of the entries from e, where t multiplications stand before them
+  unfoldable pub bitTests : ℕ → ℕ → ℕ → List X
+  bitTests e t n = tabulate (λ i. bitOut (e + i) (t + i)) n
 
-  unfoldable pub sumTests : ℕ → Column → List X
-  sumTests e yesNo = []
-  sumTests e (choice n) = sumFrom (μ .constantOf (σ .modulus - 1)) (λ i. μ .entryAt (e + i)) n ∷ []
-  sumTests e (number n) =
-      sumFrom (μ .times (μ .entryAt e) (σ .modulus - 1)) (λ i. μ .times (μ .entryAt (suc e + i)) (2 ^ i)) n ∷ []
+  -- a, and n bit entries from e by weight
+  unfoldable pub weighted : X → ℕ → ℕ → X
+  weighted a e n = sumFrom a (λ i. μ .times (μ .entryAt (e + i)) (2 ^ i)) n
+
+  -- "v times p - 1; then the bits' sum": v is entry a, and its n bits are the entries from e
+  unfoldable pub numberTest : ℕ → ℕ → ℕ → X
+  numberTest a e n = weighted (μ .times (μ .entryAt a) (σ .modulus - 1)) e n
+
+  -- "the constant p - T, add v to it, add each of the second bits times 2^j": m is the top T
+  unfoldable pub restTest : ℕ → ℕ → ℕ → ℕ → X
+  restTest m a e n = weighted (μ .plus (μ .constantOf (σ .modulus - m)) (μ .entryAt a)) e n
 
   unfoldable pub columnTests : ℕ → ℕ → Column → List X
-  columnTests e t c = bitTests e t c ++ sumTests e c
+  columnTests e t yesNo = bitTests e t 1
+  columnTests e t (choice n) =
+      bitTests e t n ++ (sumFrom (μ .constantOf (σ .modulus - 1)) (λ i. μ .entryAt (e + i)) n ∷ [])
+  columnTests e t (number n) = bitTests (suc e) t n ++ (numberTest e (suc e) n ∷ [])
+  columnTests e t (top n) =
+      bitTests (suc e) t (2 * bitLength n)
+      ++ (numberTest e (suc e) (bitLength n) ∷ restTest n e (suc e + bitLength n) (bitLength n) ∷ [])
 
   unfoldable pub walkLefts : ℕ → List Column → List X
   walkLefts e [] = []

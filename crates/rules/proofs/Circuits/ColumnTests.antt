@@ -1,26 +1,30 @@
 -- One column in a field: its tests are all zero exactly when its entries encode a legal value. A bit check says that an
 -- entry is 0 or 1; the last test says that the options' entries add up to 1, or that v is the number with those bits.
 -- Assumes nothing.
-use mathlib.Core.Path.{_≡_, sym, _∙_, ap, ap₂}
+use mathlib.Core.Path.{_≡_, refl, sym, _∙_, ap, ap₂}
 use mathlib.Core.Logic.{_⊎_, inl, inr}
 use mathlib.Core.Bool.{Bool, cond, true, false}
 use mathlib.Core.List.{List, [], _∷_}
 use Prim.Native.Nat.{ℕ, zero, suc, _+_, _-_, _*_, _/_, _%_, _^_, _≤_, _<_}
-use native.Mathlib.Nat.{add-zero as n-add-zero, mul-zero as n-mul-zero, mul-suc as n-mul-suc}
+use native.Mathlib.Nat.{pow-le-pow-right, add-zero as n-add-zero, mul-zero as n-mul-zero, mul-suc as n-mul-suc}
 use native.Mathlib.Omega.{arith}
+use native.Mathlib.Decide.{decLt}
+use borrow.Author.Tests.{lt-ltb, le-ltb}
+use lib.Dec.{ltb}
 use Rattle.algebra.specs.Lists.{All, all[], all∷, tabulate}
 use Rattle.algebra.specs.Ops.{Ops, Field}
 use Rattle.algebra.proofs.Ring.{ring, add-zero, zero-add, add-assoc, add-neg, neg-add, mul-zero, zero-mul, mul-one, mul-add}
-use Rattle.algebra.proofs.Ring.{sub-zero, ι-add}
+use Rattle.algebra.proofs.Ring.{sub-zero, add-cancel, ι-add}
 use Rattle.algebra.proofs.Members.{all-append, all-left, all-right, all-getD, all-tabulate}
 use Rattle.algebra.proofs.Tables.{length-tabulate, getD-tabulate}
 use Rattle.rules.specs.Settings.{Setting}
-use Rattle.rules.specs.Columns.{Column, yesNo, choice, number, entriesOf, valuesOf}
-use Rattle.rules.specs.Circuit.{gatesOf}
+use Rattle.rules.specs.Columns.{Column, yesNo, choice, number, top, bitLength, entriesOf, valuesOf}
 use Rattle.rules.specs.Run.{Meaning, onList}
-use Rattle.rules.specs.Walk.{sumFrom, lessOne, bitOut, bitsAt, bitTests, sumTests, columnTests}
-use Rattle.rules.specs.Values.{encoded}
+use Rattle.rules.specs.Walk.{sumFrom, lessOne, bitOut, bitTests, weighted, numberTest, restTest, columnTests}
+use Rattle.rules.specs.Values.{twoNumbers, encoded}
+use Rattle.rules.proofs.Circuits.BitLength.{BitLength, bit-length}
 use Rattle.rules.proofs.Circuits.Limits.{InLimits}
+use Rattle.rules.proofs.Circuits.Encoding.{two-below}
 use Rattle.rules.proofs.Circuits.Digits.{total, Bits, numberOf, number-below, digit-at, number-again, oneAt, one-at-below}
 use Rattle.rules.proofs.Circuits.Digits.{flag-below, total-most, One, total-one, one-total}
 
@@ -30,6 +34,12 @@ tabulate-all f n h i l =
 
 all-one : {A : Type 0} {P : A → Type 0} {a : A} → All P (a ∷ []) → P a
 all-one (all∷ p ps) = p
+
+all-first : {A : Type 0} {P : A → Type 0} {a : A} {s : List A} → All P (a ∷ s) → P a
+all-first (all∷ p ps) = p
+
+all-second : {A : Type 0} {P : A → Type 0} {a b : A} {s : List A} → All P (a ∷ b ∷ s) → P b
+all-second (all∷ p (all∷ q ps)) = q
 
 abbrev isYes : {A : Type 0} → Dec A → Bool
 isYes (yes a) = true
@@ -55,10 +65,10 @@ module _ (𝓕 : Field) where
       ap ι (n-mul-suc a b) ∙ ι-add 𝓕 (a * b) a ∙ ap₂ _⊕_ (ι-mul a b) (sym (mul-one 𝓕 (ι a)))
       ∙ sym (mul-add 𝓕 (ι a) (ι b) 𝟙) ∙ ap (ι a ⊗_) (sym (𝓕 .law-ι-suc b))
 
-  -- p - 1 is - 1, and a sum of up to 64 ones is 1 only where there is one
+  -- p - 1 is - 1, and numbers below 2^25 differ
   module _
-      (σ : Setting) (minus-one : ι (σ .modulus - 1) ≡ neg 𝟙)
-      (only-one : (k : ℕ) → k ≤ 64 → ι k ≡ ι 1 → k ≡ 1)
+      (σ : Setting) (large : 33554432 < σ .modulus) (minus-one : ι (σ .modulus - 1) ≡ neg 𝟙)
+      (small : (a b : ℕ) → a < 33554432 → b < 33554432 → ι a ≡ ι b → a ≡ b)
     where
       abbrev m : ℕ
       m = σ .modulus - 1
@@ -91,7 +101,7 @@ module _ (𝓕 : Field) where
 
       choice-one : (k : ℕ) → k ≤ 64 → ι m ⊕ ι k ≡ 𝟘 → k ≡ 1
       choice-one k h e =
-          only-one k h (sub-zero 𝓕 (sym (id-choice (ι k)) ∙ ap (_⊕ ι k) (sym minus-one) ∙ e) ∙ sym ι-one)
+          small k 1 (omega arith) (omega arith) (sub-zero 𝓕 (sym (id-choice (ι k)) ∙ ap (_⊕ ι k) (sym minus-one) ∙ e) ∙ sym ι-one)
 
       id-number : (v k : F) → v ⊗ neg 𝟙 ⊕ k ≡ k ⊕ neg v
       id-number v k = simp ring
@@ -101,6 +111,21 @@ module _ (𝓕 : Field) where
 
       value-number : (v : F) → v ⊗ ι m ⊕ v ≡ 𝟘
       value-number v = ap (λ t. v ⊗ t ⊕ v) minus-one ∙ id-number v v ∙ add-neg 𝓕 v
+
+      -- ---- the second sum of a top
+      modulus-zero : ι (σ .modulus) ≡ 𝟘
+      modulus-zero =
+          let next : σ .modulus ≡ suc m = omega arith in
+          ap ι next ∙ 𝓕 .law-ι-suc m ∙ ap (_⊕ 𝟙) minus-one ∙ neg-add 𝓕 𝟙
+
+      rest-zero : (n k : ℕ) → n ≤ 33554432 → k ≡ n → ι (σ .modulus - n) ⊕ ι k ≡ 𝟘
+      rest-zero n k h e =
+          let whole : σ .modulus - n + k ≡ σ .modulus = omega arith in
+          sym (ι-add 𝓕 (σ .modulus - n) k) ∙ ap ι whole ∙ modulus-zero
+
+      zero-rest : (n k : ℕ) → n < 33554432 → k < 33554432 → ι (σ .modulus - n) ⊕ ι k ≡ 𝟘 → k ≡ n
+      zero-rest n k h l e =
+          small k n l h (add-cancel 𝓕 {a = ι (σ .modulus - n)} (e ∙ sym (rest-zero n n (omega arith) refl)))
 
       module _ (x : ℕ → F) where
         abbrev μ : Meaning F
@@ -125,104 +150,220 @@ module _ (𝓕 : Field) where
         unfolding bits
         bits-below e n i l = bit-below (x (e + i))
 
-        bits-are : (e t : ℕ) (c : Column) → Zeros (bitTests σ μ e t c)
-            → (i : ℕ) → i < gatesOf c → x (bitsAt σ μ e c + i) ≡ ι (bits (bitsAt σ μ e c) i)
+        bits-are : (e t n : ℕ) → Zeros (bitTests σ μ e t n) → (i : ℕ) → i < n → x (e + i) ≡ ι (bits e i)
         unfolding bitTests bitOut lessOne bits
-        bits-are e t c z i l =
-            bit-zero (x (bitsAt σ μ e c + i))
-            (tabulate-all (λ i. bitOut σ μ (bitsAt σ μ e c + i) (t + i)) (gatesOf c) z i l)
+        bits-are e t n z i l = bit-zero (x (e + i)) (tabulate-all (λ i. bitOut σ μ (e + i) (t + i)) n z i l)
 
-        bits-zero : (e t : ℕ) (c : Column) (d : ℕ → ℕ) → Bits d (gatesOf c)
-            → ((i : ℕ) → i < gatesOf c → x (bitsAt σ μ e c + i) ≡ ι (d i)) → Zeros (bitTests σ μ e t c)
+        second-bits : (e b : ℕ) → ((i : ℕ) → i < 2 * b → x (e + i) ≡ ι (bits e i))
+            → (i : ℕ) → i < b → x (e + b + i) ≡ ι (bits (e + b) i)
+        unfolding bits
+        second-bits e b at i l =
+            let place : e + (b + i) ≡ e + b + i = omega arith in
+            rw place at (at (b + i) (omega arith))
+
+        bits-zero : (e t n : ℕ) (d : ℕ → ℕ) → Bits d n → ((i : ℕ) → i < n → x (e + i) ≡ ι (d i)) → Zeros (bitTests σ μ e t n)
         unfolding bitTests bitOut lessOne
-        bits-zero e t c d h at =
-            all-tabulate (λ i. bitOut σ μ (bitsAt σ μ e c + i) (t + i)) (gatesOf c)
-            (λ i l. zero-bit (x (bitsAt σ μ e c + i)) (d i) (h i l) (at i l))
+        bits-zero e t n d h at =
+            all-tabulate (λ i. bitOut σ μ (e + i) (t + i)) n (λ i l. zero-bit (x (e + i)) (d i) (h i l) (at i l))
 
-        scaled : (d : ℕ → ℕ) (e i : ℕ) → x (suc e + i) ≡ ι (d i) → x (suc e + i) ⊗ ι (2 ^ i) ≡ ι (d i * 2 ^ i)
-        scaled d e i q = ap (_⊗ ι (2 ^ i)) q ∙ sym (ι-mul (d i) (2 ^ i))
+        -- ---- the n entries from e are the digits of v
+        record Digits (v e n : ℕ) : Type 0 where
+          digits-below : v < 2 ^ n
+          digit-is : (i : ℕ) → i < n → x (e + i) ≡ ι (v / 2 ^ i % 2)
+
+        digits-of : (e n : ℕ) → ((i : ℕ) → i < n → x (e + i) ≡ ι (bits e i)) → Digits (numberOf (bits e) n) e n
+        digits-of e n at = record {
+          digits-below = number-below (bits e) n (bits-below e n);
+          digit-is = λ i l. at i l ∙ ap ι (sym (digit-at (bits e) n (bits-below e n) i l));
+        }
+
+        digits-zero : (v e t n : ℕ) → Digits v e n → Zeros (bitTests σ μ e t n)
+        digits-zero v e t n r = bits-zero e t n (λ i. v / 2 ^ i % 2) (λ i l. omega arith) (r .digit-is)
+
+        digits-sum : (a : F) (v e n : ℕ) → Digits v e n → weighted σ μ a e n ≡ a ⊕ ι v
+        unfolding weighted
+        digits-sum a v e n r =
+            sum-is a (λ i. x (e + i) ⊗ ι (2 ^ i)) (λ i. v / 2 ^ i % 2 * 2 ^ i) n
+            (λ i l. ap (_⊗ ι (2 ^ i)) (r .digit-is i l) ∙ sym (ι-mul (v / 2 ^ i % 2) (2 ^ i)))
+            ∙ ap (λ k. a ⊕ ι k) (number-again n v (r .digits-below))
+
+        -- ---- the test of a number: entry a is the number with these digits
+        number-is : (v a e n : ℕ) → Digits v e n → numberTest σ μ a e n ≡ 𝟘 → x a ≡ ι v
+        unfolding numberTest
+        number-is v a e n r z = number-value (x a) (ι v) (sym (digits-sum (x a ⊗ ι m) v e n r) ∙ z)
+
+        is-number : (v a e n : ℕ) → Digits v e n → x a ≡ ι v → numberTest σ μ a e n ≡ 𝟘
+        unfolding numberTest
+        is-number v a e n r q =
+            digits-sum (x a ⊗ ι m) v e n r ∙ ap (x a ⊗ ι m ⊕_) (sym q) ∙ value-number (x a)
+
+        -- the second test of a top: entry a and the number with these digits add up to n
+        rest-sum : (n v a r e b : ℕ) → Digits r e b → x a ≡ ι v
+            → restTest σ μ n a e b ≡ ι (σ .modulus - n) ⊕ ι (v + r)
+        unfolding restTest
+        rest-sum n v a r e b d q =
+            digits-sum (ι (σ .modulus - n) ⊕ x a) r e b d
+            ∙ ap (λ k. ι (σ .modulus - n) ⊕ k ⊕ ι r) q
+            ∙ add-assoc 𝓕 _ (ι v) (ι r) ∙ ap (ι (σ .modulus - n) ⊕_) (sym (ι-add 𝓕 v r))
+
+        -- ---- two numbers' digits, one after another
+        two-at : (b v w e : ℕ) → Digits v e b → Digits w (e + b) b
+            → (j : ℕ) → j < 2 * b → x (e + j) ≡ ι (twoNumbers b v w j)
+        unfolding twoNumbers
+        two-at b v w e r r' j l = go (decLt j b)
+          where
+            go : Dec (j < b) → x (e + j) ≡ ι (cond (ltb j b) (v / 2 ^ j % 2) (w / 2 ^ (j - b) % 2))
+            go (yes k) = rw (lt-ltb j b k) (r .digit-is j k)
+            go (no k) =
+                let place : e + j ≡ e + b + (j - b) = omega arith in
+                rw (le-ltb j b (omega arith)) (ap x place ∙ r' .digit-is (j - b) (omega arith))
+
+        at-two : (b v w e : ℕ) → v < 2 ^ b → w < 2 ^ b → ((j : ℕ) → j < 2 * b → x (e + j) ≡ ι (twoNumbers b v w j))
+            → Digits v e b × Digits w (e + b) b
+        unfolding twoNumbers
+        at-two b v w e h h' at = (
+          record { digits-below = h; digit-is = λ i l. rw (lt-ltb i b l) at (at i (omega arith)) },
+          record { digits-below = h'; digit-is = second },
+        )
+          where
+            second : (i : ℕ) → i < b → x (e + b + i) ≡ ι (w / 2 ^ i % 2)
+            second i l =
+                let place : e + b + i ≡ e + (b + i) = omega arith in
+                let back : b + i - b ≡ i = omega arith in
+                ap x place ∙ at (b + i) (omega arith)
+                ∙ rw (le-ltb (b + i) b (omega arith)) (ap (λ k. ι (w / 2 ^ k % 2)) back)
 
         -- ---- zero tests say a legal value
-        by-tests : (c : Column) → InLimits c → (e t : ℕ) → Zeros (bitTests σ μ e t c) → Zeros (sumTests σ μ e c)
-            → Encoded x e c
-        unfolding bitsAt gatesOf sumTests valuesOf encoded entriesOf
-        by-tests yesNo w e t z s = record {
+        pub column-encoded : (c : Column) → InLimits c → (e t : ℕ) → Zeros (columnTests σ μ e t c) → Encoded x e c
+        unfolding columnTests valuesOf encoded entriesOf
+        column-encoded yesNo w e t z = record {
           value = bits e 0;
           value-below = bits-below e 1 0 (omega arith);
-          column-is = λ i l. let i0 : i ≡ 0 = omega arith in ap (λ k. x (e + k)) i0 ∙ bits-are e t yesNo z 0 (omega arith);
+          column-is = λ i l. let i0 : i ≡ 0 = omega arith in ap (λ k. x (e + k)) i0 ∙ bits-are e t 1 z 0 (omega arith);
         }
-        by-tests (choice n) w e t z s = record {
+        column-encoded (choice n) w e t z = record {
           value = one .chosen;
           value-below = one .chosen-below;
           column-is = λ i l. at i l ∙ ap ι (one .digits-are i l);
         }
           where
             at : (i : ℕ) → i < n → x (e + i) ≡ ι (bits e i)
-            at = bits-are e t (choice n) z
+            at = bits-are e t n (all-left (bitTests σ μ e t n) _ z)
 
             last : ι m ⊕ ι (total (bits e) n) ≡ 𝟘
-            last = sym (sum-is (ι m) (λ i. x (e + i)) (bits e) n at) ∙ all-one s
+            last =
+                sym (sum-is (ι m) (λ i. x (e + i)) (bits e) n at) ∙ all-one (all-right (bitTests σ μ e t n) _ z)
 
             one : One (bits e) n
             one =
                 let most : total (bits e) n ≤ n = total-most (bits e) n (bits-below e n) in
                 total-one (bits e) n (bits-below e n) (choice-one (total (bits e) n) (omega (arith, w .1)) last)
-        by-tests (number n) w e t z s = record {
+        column-encoded (number n) w e t z = record {
           value = numberOf (bits (suc e)) n;
-          value-below = number-below (bits (suc e)) n (bits-below (suc e) n);
+          value-below = d .digits-below;
           column-is = at-entry;
         }
           where
-            d : ℕ → ℕ
-            d = bits (suc e)
+            d : Digits (numberOf (bits (suc e)) n) (suc e) n
+            d = digits-of (suc e) n (bits-are (suc e) t n (all-left (bitTests σ μ (suc e) t n) _ z))
 
-            at : (i : ℕ) → i < n → x (suc e + i) ≡ ι (d i)
-            at = bits-are e t (number n) z
-
-            last : x e ⊗ ι m ⊕ ι (numberOf d n) ≡ 𝟘
-            last =
-                sym (sum-is (x e ⊗ ι m) (λ i. x (suc e + i) ⊗ ι (2 ^ i)) (λ i. d i * 2 ^ i) n (λ i l. scaled d e i (at i l)))
-                ∙ all-one s
-
-            at-entry : (i : ℕ) → i < suc n → x (e + i) ≡ ι (encoded (number n) (numberOf d n) i)
-            at-entry zero l = ap x (n-add-zero e) ∙ number-value (x e) _ last
+            at-entry : (i : ℕ) → i < suc n → x (e + i) ≡ ι (encoded (number n) (numberOf (bits (suc e)) n) i)
+            at-entry zero l =
+                ap x (n-add-zero e) ∙ number-is _ e (suc e) n d (all-one (all-right (bitTests σ μ (suc e) t n) _ z))
             at-entry (suc j) l =
                 let shift : e + suc j ≡ suc e + j = omega arith in
-                ap x shift ∙ at j (omega arith) ∙ ap ι (sym (digit-at d n (bits-below (suc e) n) j (omega arith)))
+                ap x shift ∙ d .digit-is j (omega arith)
+        column-encoded (top n) w e t z = record { value = v; value-below = omega (arith, adds); column-is = at-entry }
+          where
+            b : ℕ
+            b = bitLength n
 
-        pub column-encoded : (c : Column) → InLimits c → (e t : ℕ) → Zeros (columnTests σ μ e t c) → Encoded x e c
-        unfolding columnTests
-        column-encoded c w e t z =
-            by-tests c w e t (all-left (bitTests σ μ e t c) (sumTests σ μ e c) z)
-            (all-right (bitTests σ μ e t c) (sumTests σ μ e c) z)
+            k : BitLength n
+            k = bit-length n (w .0) (w .1)
+
+            at : (i : ℕ) → i < 2 * b → x (suc e + i) ≡ ι (bits (suc e) i)
+            at = bits-are (suc e) t (2 * b) (all-left (bitTests σ μ (suc e) t (2 * b)) _ z)
+
+            v : ℕ
+            v = numberOf (bits (suc e)) b
+
+            r : ℕ
+            r = numberOf (bits (suc e + b)) b
+
+            d : Digits v (suc e) b
+            d = digits-of (suc e) b (λ i l. at i (omega arith))
+
+            d' : Digits r (suc e + b) b
+            d' = digits-of (suc e + b) b (second-bits (suc e) b at)
+
+            sums : Zeros (numberTest σ μ e (suc e) b ∷ restTest σ μ n e (suc e + b) b ∷ [])
+            sums = all-right (bitTests σ μ (suc e) t (2 * b)) _ z
+
+            v-is : x e ≡ ι v
+            v-is = number-is v e (suc e) b d (all-first sums)
+
+            adds : v + r ≡ n
+            adds =
+                let most : 2 ^ b ≤ 2 ^ 24 = pow-le-pow-right (omega arith) (k .bits-most) in
+                zero-rest n (v + r) (omega (arith, w .1)) (omega (arith, d .digits-below, d' .digits-below))
+                (sym (rest-sum n v e r (suc e + b) b d' v-is) ∙ all-second sums)
+
+            at-entry : (i : ℕ) → i < suc (2 * b) → x (e + i) ≡ ι (encoded (top n) v i)
+            at-entry zero l = ap x (n-add-zero e) ∙ v-is
+            at-entry (suc j) l =
+                let shift : e + suc j ≡ suc e + j = omega arith in
+                let left : r ≡ n - v = omega (arith, adds) in
+                ap x shift ∙ two-at b v r (suc e) d d' j (omega arith) ∙ ap (λ k. ι (twoNumbers b v k j)) left
 
         -- ---- a legal value has zero tests
-        pub encoded-column : (c : Column) (e t : ℕ) → Encoded x e c → Zeros (columnTests σ μ e t c)
-        unfolding columnTests bitsAt gatesOf sumTests valuesOf encoded entriesOf
-        encoded-column yesNo e t r =
-            all-append (bits-zero e t yesNo (λ i. r .value) (λ i l. r .value-below) (r .column-is)) all[]
-        encoded-column (choice n) e t r =
-            all-append (bits-zero e t (choice n) (oneAt (r .value)) (λ i l. one-at-below (r .value) i) (r .column-is))
+        pub encoded-column : (c : Column) → InLimits c → (e t : ℕ) → Encoded x e c → Zeros (columnTests σ μ e t c)
+        unfolding columnTests valuesOf encoded entriesOf
+        encoded-column yesNo w e t r = bits-zero e t 1 (λ i. r .value) (λ i l. r .value-below) (r .column-is)
+        encoded-column (choice n) w e t r =
+            all-append (bits-zero e t n (oneAt (r .value)) (λ i l. one-at-below (r .value) i) (r .column-is))
             (all∷ last all[])
           where
             last : sumFrom σ μ (ι m) (λ i. x (e + i)) n ≡ 𝟘
             last =
                 sum-is (ι m) (λ i. x (e + i)) (oneAt (r .value)) n (r .column-is)
                 ∙ ap₂ _⊕_ minus-one (ap ι (one-total (r .value) n (r .value-below)) ∙ ι-one) ∙ neg-add 𝓕 𝟙
-        encoded-column (number n) e t r =
-            all-append (bits-zero e t (number n) d (λ i l. omega arith) at) (all∷ last all[])
+        encoded-column (number n) w e t r =
+            all-append (digits-zero (r .value) (suc e) t n d) (all∷ (is-number (r .value) e (suc e) n d first) all[])
           where
-            d : ℕ → ℕ
-            d i = r .value / 2 ^ i % 2
-
-            at : (i : ℕ) → i < n → x (suc e + i) ≡ ι (d i)
-            at i l = let shift : suc e + i ≡ e + suc i = omega arith in ap x shift ∙ r .column-is (suc i) (omega arith)
+            d : Digits (r .value) (suc e) n
+            d = record {
+              digits-below = r .value-below;
+              digit-is = λ i l. let shift : suc e + i ≡ e + suc i = omega arith in ap x shift ∙ r .column-is (suc i) (omega arith);
+            }
 
             first : x e ≡ ι (r .value)
             first = ap x (sym (n-add-zero e)) ∙ r .column-is 0 (omega arith)
+        encoded-column (top n) w e t r =
+            all-append
+            (bits-zero (suc e) t (2 * b) (twoNumbers b v (n - v)) (λ i l. two-below b v (n - v) i) at)
+            (all∷ (is-number v e (suc e) b (both .0) first) (all∷ last all[]))
+          where
+            b : ℕ
+            b = bitLength n
 
-            last : sumFrom σ μ (x e ⊗ ι m) (λ i. x (suc e + i) ⊗ ι (2 ^ i)) n ≡ 𝟘
+            v : ℕ
+            v = r .value
+
+            k : BitLength n
+            k = bit-length n (w .0) (w .1)
+
+            at : (j : ℕ) → j < 2 * b → x (suc e + j) ≡ ι (twoNumbers b v (n - v) j)
+            at j l = let shift : suc e + j ≡ e + suc j = omega arith in ap x shift ∙ r .column-is (suc j) (omega arith)
+
+            both : Digits v (suc e) b × Digits (n - v) (suc e + b) b
+            both =
+                at-two b v (n - v) (suc e) (omega (arith, r .value-below, k .below-power))
+                (omega (arith, k .below-power)) at
+
+            first : x e ≡ ι v
+            first = ap x (sym (n-add-zero e)) ∙ r .column-is 0 (omega arith)
+
+            last : restTest σ μ n e (suc e + b) b ≡ 𝟘
             last =
-                sum-is (x e ⊗ ι m) (λ i. x (suc e + i) ⊗ ι (2 ^ i)) (λ i. d i * 2 ^ i) n (λ i l. scaled d e i (at i l))
-                ∙ ap (λ k. x e ⊗ ι m ⊕ ι k) (number-again n (r .value) (r .value-below))
-                ∙ ap (x e ⊗ ι m ⊕_) (sym first) ∙ value-number (x e)
+                rest-sum n v e (n - v) (suc e + b) b (both .1) first
+                ∙ rest-zero n (v + (n - v)) (omega (arith, w .1)) (omega (arith, r .value-below))

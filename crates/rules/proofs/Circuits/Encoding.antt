@@ -1,9 +1,9 @@
 -- The encoding of legal values, column by column: its length is the sheet's number of entries, and each entry is below
 -- 2^24, since a number has at most 24 bits. Assumes nothing.
 use mathlib.Core.Path.{_≡_, refl, sym, _∙_, ap, ap₂}
-use mathlib.Core.Bool.{Bool, true, false}
+use mathlib.Core.Bool.{Bool, true, false, cond}
 use mathlib.Core.List.{List, [], _∷_, _++_}
-use Prim.Native.Nat.{ℕ, zero, suc, _+_, _^_, _≤_, _<_}
+use Prim.Native.Nat.{ℕ, zero, suc, _+_, _-_, _/_, _%_, _^_, _≤_, _<_}
 use native.Mathlib.Nat.{pow-le-pow-right}
 use native.Mathlib.Omega.{arith}
 use borrow.Author.Tests.{ltb-true}
@@ -14,8 +14,8 @@ use Rattle.algebra.specs.Lists.{All, all[], all∷, tabulate}
 use Rattle.algebra.proofs.Members.{all-append, all-tabulate, and-left, and-right}
 use Rattle.algebra.proofs.Tables.{length-tabulate, getD-tabulate}
 use Rattle.rules.specs.Settings.{Setting, Facts}
-use Rattle.rules.specs.Columns.{Column, yesNo, choice, number, entriesOf, valuesOf, entriesIn}
-use Rattle.rules.specs.Values.{encoded, legalValues, encoding}
+use Rattle.rules.specs.Columns.{Column, yesNo, choice, number, top, bitLength, entriesOf, valuesOf, entriesIn}
+use Rattle.rules.specs.Values.{twoNumbers, encoded, legalValues, encoding}
 use Rattle.rules.proofs.Circuits.Limits.{InLimits}
 use Rattle.rules.proofs.Circuits.Digits.{one-at-below}
 
@@ -55,12 +55,22 @@ encoding-length (c ∷ cs) (v ∷ vs) h =
     ∙ ap₂ _+_ (length-tabulate (encoded c v) (entriesOf c)) (encoding-length cs vs (legal-tail c cs v vs h))
 
 -- ---- every entry is below 2^24
+pub two-below : (b v w j : ℕ) → twoNumbers b v w j < 2
+unfolding twoNumbers
+two-below b v w j = go (ltb j b)
+  where
+    go : (t : Bool) → cond t (v / 2 ^ j % 2) (w / 2 ^ (j - b) % 2) < 2
+    go true = omega arith
+    go false = omega arith
+
 encoded-below : (c : Column) → InLimits c → (v : ℕ) → v < valuesOf c → (i : ℕ) → encoded c v i < 16777216
 unfolding encoded valuesOf
 encoded-below yesNo w v l i = omega arith
 encoded-below (choice n) w v l i = omega (arith, one-at-below v i)
 encoded-below (number n) w v l zero = let most : 2 ^ n ≤ 2 ^ 24 = pow-le-pow-right (omega arith) (w .1) in omega arith
 encoded-below (number n) w v l (suc j) = omega arith
+encoded-below (top n) w v l zero = omega arith
+encoded-below (top n) w v l (suc j) = omega (arith, two-below (bitLength n) v (n - v) j)
 
 pub encoding-below : (cs : List Column) (vs : List ℕ) → All InLimits cs → legalValues cs vs ≡ true
     → All (λ a. a < 16777216) (encoding cs vs)

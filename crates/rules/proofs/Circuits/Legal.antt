@@ -53,8 +53,8 @@ module _ (O : Ops) (x : ℕ → O .F) (e : ℕ) (c : Column) (cs : List Column) 
           ∙ ap (O .ι) (sym (ap (λ k. getD (encoding (c ∷ cs) (v ∷ q .values)) k 0) place ∙ encoding-tail c cs v (q .values) j))
 
 module _
-    (𝓕 : Field) (σ : Setting) (minus-one : 𝓕 .ops .ι (σ .modulus - 1) ≡ 𝓕 .ops .neg (𝓕 .ops .𝟙))
-    (only-one : (k : ℕ) → k ≤ 64 → 𝓕 .ops .ι k ≡ 𝓕 .ops .ι 1 → k ≡ 1) (x : ℕ → 𝓕 .ops .F)
+    (𝓕 : Field) (σ : Setting) (large : 33554432 < σ .modulus) (minus-one : 𝓕 .ops .ι (σ .modulus - 1) ≡ 𝓕 .ops .neg (𝓕 .ops .𝟙))
+    (small : (a b : ℕ) → a < 33554432 → b < 33554432 → 𝓕 .ops .ι a ≡ 𝓕 .ops .ι b → a ≡ b) (x : ℕ → 𝓕 .ops .F)
   where
     open Ops (𝓕 .ops) using (F, 𝟘, ι)
 
@@ -70,20 +70,20 @@ module _
     walk-encodes [] w e t z = record { values = []; legal = refl; entries-are = λ i l. absurd (omega arith) }
     walk-encodes (c ∷ cs) (all∷ w ws) e t z =
         let rest = walkTests σ μ (e + entriesOf c) (t + gatesOf c) cs in
-        let r = column-encoded 𝓕 σ minus-one only-one x c w e t (all-left (columnTests σ μ e t c) rest z) in
+        let r = column-encoded 𝓕 σ large minus-one small x c w e t (all-left (columnTests σ μ e t c) rest z) in
         front-encodes (𝓕 .ops) x e c cs (r .value) (r .value-below) (r .column-is)
         (walk-encodes cs ws (e + entriesOf c) (t + gatesOf c) (all-right (columnTests σ μ e t c) rest z))
 
-    values-walk : (cs : List Column) (vs : List ℕ) → legalValues cs vs ≡ true → (e t : ℕ)
+    values-walk : (cs : List Column) (vs : List ℕ) → All InLimits cs → legalValues cs vs ≡ true → (e t : ℕ)
         → ((i : ℕ) → i < entriesIn cs → x (e + i) ≡ ι (getD (encoding cs vs) i 0)) → Zeros (walkTests σ μ e t cs)
     unfolding walkTests legalValues entriesIn
-    values-walk [] vs h e t at = all[]
-    values-walk (c ∷ cs) [] h e t at = absurd (not-legal false refl h)
-    values-walk (c ∷ cs) (v ∷ vs) h e t at =
+    values-walk [] vs w h e t at = all[]
+    values-walk (c ∷ cs) [] w h e t at = absurd (not-legal false refl h)
+    values-walk (c ∷ cs) (v ∷ vs) (all∷ w ws) h e t at =
         all-append
-        (encoded-column 𝓕 σ minus-one only-one x c e t
+        (encoded-column 𝓕 σ large minus-one small x c w e t
         (record { value = v; value-below = legal-head c cs v vs h; column-is = here }))
-        (values-walk cs vs (legal-tail c cs v vs h) (e + entriesOf c) (t + gatesOf c) there)
+        (values-walk cs vs ws (legal-tail c cs v vs h) (e + entriesOf c) (t + gatesOf c) there)
       where
         here : (i : ℕ) → i < entriesOf c → x (e + i) ≡ ι (encoded c v i)
         here i l = at i (omega arith) ∙ ap ι (encoding-head c cs v vs i l)
@@ -108,7 +108,7 @@ module _
         from : Encodes (𝓕 .ops) cs x → Valid (𝓕 .ops) σ cs x
         from r =
             subst Zeros (sym (walk-is-run σ μ cs .tests-are))
-            (values-walk cs (r .values) (r .legal) 0 0 (λ i l. ap x (zero-add i) ∙ r .entries-are i l))
+            (values-walk cs (r .values) w (r .legal) 0 0 (λ i l. ap x (zero-add i) ∙ r .entries-are i l))
 
 -- ---- at numbers below p
 module _ (σ : Setting) (facts : Facts σ) where
@@ -124,10 +124,10 @@ module _ (σ : Setting) (facts : Facts σ) where
   abbrev value : R .F → ℕ
   value = toNumbers p (facts .prime) .φ
 
-  few-ones : (k : ℕ) → k ≤ 64 → R .ι k ≡ R .ι 1 → k ≡ 1
-  few-ones k h e =
-      sym (value-of p (facts .prime) k (omega (arith, facts .large))) ∙ ap value e
-      ∙ value-of p (facts .prime) 1 (omega (arith, facts .large))
+  few-same : (a b : ℕ) → a < 33554432 → b < 33554432 → R .ι a ≡ R .ι b → a ≡ b
+  few-same a b h k e =
+      sym (value-of p (facts .prime) a (omega (arith, facts .large))) ∙ ap value e
+      ∙ value-of p (facts .prime) b (omega (arith, facts .large))
 
   zeros-down : {l : List (R .F)} → All (λ y. y ≡ R .𝟘) l → All (λ y. y ≡ 0) (map value l)
   zeros-down all[] = all[]
@@ -179,7 +179,7 @@ module _ (σ : Setting) (facts : Facts σ) where
         (λ z. encodes-lifts .1 (says .0 (valid-lifts .0 z)), λ r. valid-lifts .1 (says .1 (encodes-lifts .0 r)))
       where
         says : Valid R σ cs lifted ↔ Encodes R cs lifted
-        says = field-says-legal 𝓡 σ (minus-one-is p (facts .prime)) few-ones lifted cs w
+        says = field-says-legal 𝓡 σ (facts .large) (minus-one-is p (facts .prime)) few-same lifted cs w
 
     -- from a sheet's bytes
     pub sheet-tests-say-legal : (s : List ℕ) → readSheet s ≡ ok cs

@@ -1,9 +1,9 @@
--- What a sheet that is read keeps to. Each column that reading takes is within its limits and has no more bytes than
+-- What a sheet that is read keeps to. Each column that reading takes is within its limits and has at most 5 bytes for 3
 -- entries; the limit on all entries then bounds every count. Assumes nothing.
-use mathlib.Core.Path.{_≡_, refl, ap, ap₂, _∙_, subst}
+use mathlib.Core.Path.{_≡_, refl, sym, ap, ap₂, _∙_, subst}
 use mathlib.Core.Bool.{Bool, true, false, cond}
 use mathlib.Core.List.{List, [], _∷_, _++_}
-use mathlib.Core.Option.{some, none}
+use mathlib.Core.Option.{Option, some, none}
 use Prim.Native.Nat.{ℕ, zero, suc, _+_, _*_, _≤_, _<_}
 use native.Mathlib.Omega.{arith}
 use borrow.Author.Tests.{leb-true, le-leb}
@@ -11,33 +11,36 @@ use lib.Dec.{leb, eqb}
 use lib.ListN.{length, getD, length-append}
 use Rattle.algebra.specs.Lists.{All, all[], all∷, countFrom}
 use Rattle.algebra.proofs.Members.{all-map, all-append, in-all, in-count, and-true, and-left, and-right}
+use Rattle.words.specs.Bytes.{valueOf}
 use Rattle.records.specs.Outcome.{Outcome, ok, refused}
 use Rattle.records.specs.Records.{readFrom, Says, nothing, more}
 use Rattle.records.proofs.Runs.{says-of-read}
-use Rattle.rules.specs.Columns.{Column, yesNo, choice, number, within, limitedColumn, columnBody, columnOf, columnFormat}
-use Rattle.rules.specs.Columns.{entriesOf, publishedOf, entriesIn, publishedIn, publishedFrom, sheetLimits, limitedSheet}
+use Rattle.rules.specs.Columns.{Column, yesNo, choice, number, top, within, limitedColumn, columnBody, columnOf}
+use Rattle.rules.specs.Columns.{columnFormat, entriesOf, publishedOf, entriesIn, publishedIn, publishedFrom, sheetLimits, limitedSheet}
 use Rattle.rules.specs.Columns.{readSheet}
 use Rattle.rules.specs.Circuit.{wiresOf, gatesOf, testsOf, wiresIn, gatesIn, testsIn}
 use Rattle.rules.specs.Judging.{shareSize}
+use Rattle.rules.proofs.Circuits.BitLength.{bit-length}
 
 -- a column within its limits
 abbrev pub InLimits : Column → Type 0
 InLimits yesNo = Unit {0}
 InLimits (choice n) = (2 ≤ n) × (n ≤ 64)
 InLimits (number n) = (1 ≤ n) × (n ≤ 24)
+InLimits (top n) = (1 ≤ n) × (n ≤ 16777215)
 
 -- what holds where the sheet s is read as the columns cs
 pub record Limits (s : List ℕ) (cs : List Column) : Type 0 where
   pub in-limits : All InLimits cs
   pub some-entries : 1 ≤ entriesIn cs
   pub entries-most : entriesIn cs ≤ 256
-  pub bytes-most : length s ≤ entriesIn cs
+  pub bytes-most : length s ≤ 426
   pub columns-most : length cs ≤ entriesIn cs
   pub some-gates : 1 ≤ gatesIn cs
   pub gates-most : gatesIn cs ≤ entriesIn cs
   pub some-tests : 1 ≤ testsIn cs
   pub tests-most : testsIn cs ≤ 384
-  pub wires-most : suc (wiresIn cs) ≤ 1248
+  pub wires-most : suc (wiresIn cs) ≤ 1275
   pub share-most : shareSize cs ≤ 774
   pub some-published : 1 ≤ publishedIn cs
   pub published-most : publishedIn cs ≤ entriesIn cs
@@ -45,12 +48,13 @@ pub record Limits (s : List ℕ) (cs : List Column) : Type 0 where
   pub published-below : All (λ e. e < entriesIn cs) (publishedFrom 0 cs)
 
 -- ---- counts of columns within their limits
--- how many columns are of kind 19
+-- how many columns hold numbers of more than one bit
 unfoldable pub numbersIn : List Column → ℕ
 numbersIn [] = 0
 numbersIn (yesNo ∷ cs) = numbersIn cs
 numbersIn (choice n ∷ cs) = numbersIn cs
 numbersIn (number n ∷ cs) = suc (numbersIn cs)
+numbersIn (top n ∷ cs) = suc (numbersIn cs)
 
 pub record Bounds (cs : List Column) : Type 0 where
   pub columns-few : length cs ≤ entriesIn cs
@@ -59,10 +63,10 @@ pub record Bounds (cs : List Column) : Type 0 where
   pub tests-few : 2 * testsIn cs ≤ 3 * entriesIn cs
   pub tests-many : gatesIn cs ≤ testsIn cs
   pub published-few : publishedIn cs ≤ entriesIn cs
-  pub published-many : entriesIn cs ≤ 25 * publishedIn cs
-  -- with 11 numbers or more the first bounds the wires, with 10 or fewer the second
-  pub wires-few : wiresIn cs + 3 * numbersIn cs ≤ 5 * entriesIn cs
-  pub wires-few' : wiresIn cs ≤ 4 * entriesIn cs + 22 * numbersIn cs
+  pub published-many : entriesIn cs ≤ 49 * publishedIn cs
+  -- with 6 numbers or more the first bounds the wires, with 5 or fewer the second
+  pub wires-few : wiresIn cs + numbersIn cs ≤ 5 * entriesIn cs
+  pub wires-few' : wiresIn cs ≤ 4 * entriesIn cs + 48 * numbersIn cs
 
 pub bounds : (cs : List Column) → All InLimits cs → Bounds cs
 unfolding entriesOf publishedOf gatesOf testsOf wiresOf entriesIn publishedIn gatesIn testsIn wiresIn numbersIn
@@ -70,6 +74,7 @@ bounds [] all[] = search arith
 bounds (yesNo ∷ cs) (all∷ h hs) = let r = bounds cs hs in search arith
 bounds (choice n ∷ cs) (all∷ h hs) = let r = bounds cs hs in search arith
 bounds (number n ∷ cs) (all∷ h hs) = let r = bounds cs hs in search arith
+bounds (top n ∷ cs) (all∷ h hs) = let r = bounds cs hs in let b = bit-length n (h .0) (h .1) in search arith
 
 -- ---- published entries
 pub count-length : (a n : ℕ) → length (countFrom a n) ≡ n
@@ -89,6 +94,7 @@ unfolding publishedOf entriesOf
 published-few-of yesNo = omega arith
 published-few-of (choice n) = omega arith
 published-few-of (number n) = omega arith
+published-few-of (top n) = omega arith
 
 published-low : (cs : List Column) (e : ℕ) → All (λ j. j < e + entriesIn cs) (publishedFrom e cs)
 unfolding publishedFrom entriesIn
@@ -107,56 +113,101 @@ within-both low high n h =
 pub within-is : (low high n : ℕ) → low ≤ n → n ≤ high → within low high n ≡ true
 within-is low high n h h' = and-true (leb low n) (leb n high) (le-leb low n h) (le-leb n high h')
 
-counted-ok : (fits : Bool) (a c : Column) → limitedColumn fits a ≡ ok c → (fits ≡ true) × (a ≡ c)
+-- the bytes of a column, its kind byte too
+unfoldable pub recordSize : Column → ℕ
+recordSize yesNo = 1
+recordSize (choice n) = 2
+recordSize (number n) = 2
+recordSize (top n) = 5
+
+-- what a record says, by the length of its kind's body: a column within its limits and of that size, or refusal 2
+data Said : Option ℕ → Outcome Column → Type 0 where
+  column : (n : ℕ) (c : Column) → InLimits c → suc n ≡ recordSize c → Said (some n) (ok c)
+  unknown : (c : Column) → InLimits c → Said none (ok c)
+  two : (n : Option ℕ) → Said n (refused 2)
+
+said-limited : (fits : Bool) (n : ℕ) (c : Column) → (fits ≡ true → InLimits c) → suc n ≡ recordSize c
+    → Said (some n) (limitedColumn fits c)
 unfolding limitedColumn
-counted-ok true a c h = (refl, cc)
-counted-ok false a c h = let z : _≡_ {A = ℕ} 0 1 = cc in absurd (omega arith)
+said-limited true n c h e = column n c (h refl) e
+said-limited false n c h e = two (some n)
 
--- a column is within its limits, and has no more bytes than entries
-abbrev Taken : ℕ → Column → Type 0
-Taken n c = InLimits c × (suc n ≤ entriesOf c)
+said-unknown : (fits : Bool) (c : Column) → (fits ≡ true → InLimits c) → Said none (limitedColumn fits c)
+unfolding limitedColumn
+said-unknown true c h = unknown c (h refl)
+said-unknown false c h = two none
 
-column-taken : (k : ℕ) (body : List ℕ) (c : Column) → columnBody k ≡ some (length body) → columnOf k body ≡ ok c
-    → Taken (length body) c
-unfolding columnBody columnOf entriesOf
-column-taken k body c = by-kind (eqb k 17) (eqb k 18) (eqb k 19)
+said : (k : ℕ) (body : List ℕ) → Said (columnBody k) (columnOf k body)
+unfolding columnBody columnOf recordSize
+said k body = by-kind (eqb k 17) (eqb k 18) (eqb k 19) (eqb k 20)
   where
     x : ℕ
     x = getD body 0 0
 
-    by-kind : (a b d : Bool)
-        → cond a (some 0) (cond b (some 1) (cond d (some 1) none)) ≡ some (length body)
-        → cond a (ok yesNo)
-        (cond b (limitedColumn (within 2 64 x) (choice x)) (limitedColumn (within 1 24 x) (number x))) ≡ ok c
-        → Taken (length body) c
-    by-kind true b d e h =
-        let z : 0 ≡ length body = cc in
-        let q : yesNo ≡ c = cc in
-        subst (Taken (length body)) q (tt, omega arith)
-    by-kind false true d e h =
-        let z : 1 ≡ length body = cc in
-        let w = counted-ok (within 2 64 x) (choice x) c h in
-        let l = within-both 2 64 x (w .0) in
-        subst (Taken (length body)) (w .1) (l, omega arith)
-    by-kind false false true e h =
-        let z : 1 ≡ length body = cc in
-        let w = counted-ok (within 1 24 x) (number x) c h in
-        let l = within-both 1 24 x (w .0) in
-        subst (Taken (length body)) (w .1) (l, omega arith)
-    by-kind false false false e h = let z : _≡_ {A = ℕ} 0 1 = cc in absurd (omega arith)
+    y : ℕ
+    y = valueOf body
+
+    by-kind : (a b d f : Bool)
+        → Said (cond a (some 0) (cond b (some 1) (cond d (some 1) (cond f (some 4) none))))
+        (cond a (ok yesNo)
+        (cond b (limitedColumn (within 2 64 x) (choice x))
+        (cond d (limitedColumn (within 1 24 x) (number x)) (limitedColumn (within 1 16777215 y) (top y)))))
+    by-kind true b d f = column 0 yesNo tt refl
+    by-kind false true d f = said-limited (within 2 64 x) 1 (choice x) (within-both 2 64 x) refl
+    by-kind false false true f = said-limited (within 1 24 x) 1 (number x) (within-both 1 24 x) refl
+    by-kind false false false true = said-limited (within 1 16777215 y) 4 (top y) (within-both 1 16777215 y) refl
+    by-kind false false false false = said-unknown (within 1 16777215 y) (top y) (within-both 1 16777215 y)
+
+pub column-limited : (k : ℕ) (body : List ℕ) (c : Column) → columnOf k body ≡ ok c → InLimits c
+column-limited k body c = by (said k body)
+  where
+    by : {n : Option ℕ} {r : Outcome Column} → Said n r → r ≡ ok c → InLimits c
+    by (column n d w q) e = let v : d ≡ c = cc in subst InLimits v w
+    by (unknown d w) e = let v : d ≡ c = cc in subst InLimits v w
+    by (two n) e = let z : _≡_ {A = ℕ} 0 1 = cc in absurd (omega arith)
+
+pub column-refused : (k : ℕ) (body : List ℕ) (m : ℕ) → columnOf k body ≡ refused m → m ≡ 2
+column-refused k body m = by (said k body)
+  where
+    by : {n : Option ℕ} {r : Outcome Column} → Said n r → r ≡ refused m → m ≡ 2
+    by (column n d w q) e = let z : _≡_ {A = ℕ} 0 1 = cc in absurd (omega arith)
+    by (unknown d w) e = let z : _≡_ {A = ℕ} 0 1 = cc in absurd (omega arith)
+    by (two n) e = cc
+
+pub column-sized : (k : ℕ) (body : List ℕ) (c : Column) (m : ℕ) → columnBody k ≡ some m → columnOf k body ≡ ok c
+    → suc m ≡ recordSize c
+column-sized k body c m = by (said k body)
+  where
+    by : {n : Option ℕ} {r : Outcome Column} → Said n r → n ≡ some m → r ≡ ok c → suc m ≡ recordSize c
+    by (column n d w q) e h =
+        let u : n ≡ m = cc in
+        let v : d ≡ c = cc in
+        ap suc (sym u) ∙ q ∙ ap recordSize v
+    by (unknown d w) e h = let z : _≡_ {A = ℕ} 0 1 = cc in absurd (omega arith)
+    by (two n) e h = let z : _≡_ {A = ℕ} 0 1 = cc in absurd (omega arith)
+
+-- a column has at most 5 bytes for 3 entries
+record-few : (c : Column) → InLimits c → 3 * recordSize c ≤ 5 * entriesOf c
+unfolding recordSize entriesOf
+record-few yesNo w = omega arith
+record-few (choice n) w = omega arith
+record-few (number n) w = omega arith
+record-few (top n) w = let b = bit-length n (w .0) (w .1) in omega arith
 
 entries-append : (a b : List Column) → entriesIn (a ++ b) ≡ entriesIn a + entriesIn b
 unfolding entriesIn
 entries-append [] b = omega arith
 entries-append (c ∷ a) b = omega (arith, entries-append a b)
 
-columns-taken : {s : List ℕ} {cs : List Column} → Says columnFormat s cs → All InLimits cs × (length s ≤ entriesIn cs)
+columns-taken : {s : List ℕ} {cs : List Column} → Says columnFormat s cs → All InLimits cs × (3 * length s ≤ 5 * entriesIn cs)
 unfolding entriesIn
 columns-taken nothing = (all[], omega arith)
 columns-taken (more {s} {done} k body c w e j) =
     let before = columns-taken w in
-    let t = column-taken k body c e j in
-    (all-append (before .0) (all∷ (t .0) all[]), rw (length-append, entries-append) (omega arith))
+    let w' = column-limited k body c j in
+    let few = record-few c w' in
+    let size = column-sized k body c (length body) e j in
+    (all-append (before .0) (all∷ w' all[]), rw (length-append, entries-append) (omega arith))
 
 sheet-ok : (r : Outcome (List Column)) (cs : List Column) → limitedSheet r ≡ ok cs
     → (r ≡ ok cs) × (within 1 256 (entriesIn cs) ≡ true)

@@ -1,5 +1,6 @@
 -- Published entries. Those of legal values are at most their column's largest value, so that n of them stay below p where
--- the totals fit. They are every entry of kinds 17 and 18 and v of kind 19, and no bit entry: by the columns in front.
+-- the totals fit. They are every entry of kinds 17 and 18 and v of kinds 19 and 20, and no bit entry: by the columns in
+-- front.
 -- Assumes nothing.
 use mathlib.Core.Path.{_≡_, refl, sym, _∙_, ap, subst}
 use mathlib.Core.Logic.{⊎-elim, inl, inr}
@@ -14,7 +15,7 @@ use lib.ListN.{getD}
 use Rattle.algebra.specs.Lists.{In, every, countFrom}
 use Rattle.algebra.proofs.Members.{and-left, and-right, in-append, append-in, in-count, count-in}
 use Rattle.rules.specs.Settings.{Setting}
-use Rattle.rules.specs.Columns.{Column, yesNo, choice, number, entriesOf, publishedOf, valuesOf, largestOf, entriesIn}
+use Rattle.rules.specs.Columns.{Column, yesNo, choice, number, top, bitLength, entriesOf, publishedOf, valuesOf, largestOf, entriesIn}
 use Rattle.rules.specs.Columns.{publishedFrom, totalsFit}
 use Rattle.rules.specs.Values.{encoded, legalValues, encoding}
 use Rattle.rules.proofs.Circuits.Limits.{published-few-of}
@@ -27,6 +28,8 @@ encoded-largest yesNo v l i h = omega arith
 encoded-largest (choice n) v l i h = omega (arith, one-at-below v i)
 encoded-largest (number n) v l zero h = omega arith
 encoded-largest (number n) v l (suc j) h = absurd (omega arith)
+encoded-largest (top n) v l zero h = omega arith
+encoded-largest (top n) v l (suc j) h = absurd (omega arith)
 
 published-from : (a e : ℕ) (cs : List Column) → In e (publishedFrom a cs) → a ≤ e
 unfolding publishedFrom
@@ -93,21 +96,21 @@ published-at c after i l (d ∷ before) a =
     append-in _ (countFrom a (publishedOf d)) rest
     (inr (subst (λ e. In e rest) there (published-at c after i l before (a + entriesOf d))))
 
-bit-from : (after : List Column) (n j : ℕ) → j < n
-    → (before : List Column) (a : ℕ) → In (a + (entriesIn before + suc j)) (publishedFrom a (before ++ (number n ∷ after))) → ⊥
-unfolding entriesIn publishedFrom publishedOf entriesOf
-bit-from after n j l [] a k =
+hidden-from : (c : Column) (after : List Column) (j : ℕ) → publishedOf c ≤ j → j < entriesOf c
+    → (before : List Column) (a : ℕ) → In (a + (entriesIn before + j)) (publishedFrom a (before ++ (c ∷ after))) → ⊥
+unfolding entriesIn publishedFrom
+hidden-from c after j h l [] a k =
     ⊎-elim
-    (λ q. omega (arith, in-count a 1 _ q .1))
-    (λ q. omega (arith, published-from (a + suc n) _ after q))
-    (in-append _ (countFrom a 1) (publishedFrom (a + suc n) after) k)
-bit-from after n j l (c ∷ before) a k =
-    let rest = publishedFrom (a + entriesOf c) (before ++ (number n ∷ after)) in
-    let there : a + (entriesOf c + entriesIn before + suc j) ≡ a + entriesOf c + (entriesIn before + suc j) = omega arith in
+    (λ q. omega (arith, in-count a (publishedOf c) _ q .1))
+    (λ q. omega (arith, published-from (a + entriesOf c) _ after q))
+    (in-append _ (countFrom a (publishedOf c)) (publishedFrom (a + entriesOf c) after) k)
+hidden-from c after j h l (d ∷ before) a k =
+    let rest = publishedFrom (a + entriesOf d) (before ++ (c ∷ after)) in
+    let there : a + (entriesOf d + entriesIn before + j) ≡ a + entriesOf d + (entriesIn before + j) = omega arith in
     ⊎-elim
-    (λ q. omega (arith, in-count a (publishedOf c) _ q .1, published-few-of c))
-    (λ q. bit-from after n j l before (a + entriesOf c) (subst (λ e. In e rest) there q))
-    (in-append _ (countFrom a (publishedOf c)) rest k)
+    (λ q. omega (arith, in-count a (publishedOf d) _ q .1, published-few-of d))
+    (λ q. hidden-from c after j h l before (a + entriesOf d) (subst (λ e. In e rest) there q))
+    (in-append _ (countFrom a (publishedOf d)) rest k)
 
 module _ (before after : List Column) where
   from-start : (c : Column) (i j : ℕ) → i < publishedOf c → entriesIn before + i ≡ j
@@ -128,9 +131,23 @@ module _ (before after : List Column) where
   unfolding publishedOf
   number-published n = from-start (number n) 0 _ (omega arith) (add-zero _)
 
-  -- "Bit entries are never published"
+  pub top-published : (n : ℕ) → In (entriesIn before) (publishedFrom 0 (before ++ (top n ∷ after)))
+  unfolding publishedOf
+  top-published n = from-start (top n) 0 _ (omega arith) (add-zero _)
+
+  -- "Bit entries are never published": no entry of a column behind its published ones is
+  not-published : (c : Column) (j : ℕ) → publishedOf c ≤ j → j < entriesOf c
+      → In (entriesIn before + j) (publishedFrom 0 (before ++ (c ∷ after))) → ⊥
+  not-published c j h l k =
+      hidden-from c after j h l before 0
+      (subst (λ e. In e (publishedFrom 0 (before ++ (c ∷ after)))) (sym (zero-add (entriesIn before + j))) k)
+
   pub bits-not-published : (n j : ℕ) → j < n
       → In (entriesIn before + suc j) (publishedFrom 0 (before ++ (number n ∷ after))) → ⊥
-  bits-not-published n j l k =
-      bit-from after n j l before 0
-      (subst (λ e. In e (publishedFrom 0 (before ++ (number n ∷ after)))) (sym (zero-add (entriesIn before + suc j))) k)
+  unfolding publishedOf entriesOf
+  bits-not-published n j l k = not-published (number n) (suc j) (omega arith) (omega arith) k
+
+  pub top-bits-not-published : (n j : ℕ) → j < 2 * bitLength n
+      → In (entriesIn before + suc j) (publishedFrom 0 (before ++ (top n ∷ after))) → ⊥
+  unfolding publishedOf entriesOf
+  top-bits-not-published n j l k = not-published (top n) (suc j) (omega arith) (omega arith) k

@@ -14,13 +14,13 @@ use Rattle.algebra.specs.Lists.{sumOver}
 use Rattle.records.specs.Outcome.{Outcome, ok, refused, orElse}
 use Rattle.records.proofs.Outcome.{or-none, or-first}
 use Rattle.records.specs.Records.{Format, andOn, oneRecord, readFrom, read}
-use Rattle.rules.specs.Columns.{Column, yesNo, choice, number, within, limitedColumn, columnOf, columnFormat, entriesIn}
+use Rattle.rules.specs.Columns.{Column, within, columnFormat, entriesIn}
 use Rattle.rules.specs.Columns.{sheetLimits, limitedSheet, readSheet, faultIn, listIn, sheetFault, columnsOf, check}
 use Rattle.rules.specs.Settings.{Setting}
 use Rattle.rules.specs.Circuit.{Step, constant, entry, add, scale, multiply, test}
 use Rattle.rules.specs.CircuitReader.{stepOf, stepWires, stepGates, stepTests, stepFault, judgedStep, judgeStep}
 use Rattle.rules.specs.CircuitReader.{stepFormat, circuitLimits, limitedCircuit, readCircuit}
-use Rattle.rules.proofs.Circuits.Limits.{Limits, limits}
+use Rattle.rules.proofs.Circuits.Limits.{Limits, limits, column-refused}
 
 module _ {A : Type 0} where
   not-refused : {a : A} {n : ℕ} → _≡_ {A = Outcome A} (ok a) (refused n) → ⊥
@@ -66,20 +66,6 @@ module _
 abbrev OneOrTwo : ℕ → Type 0
 OneOrTwo n = (n ≡ 1) ⊎ (n ≡ 2)
 
-column-refused : (k : ℕ) (body : List ℕ) (n : ℕ) → columnOf k body ≡ refused n → OneOrTwo n
-unfolding columnOf limitedColumn
-column-refused k body n h = by-kind (eqb k 17) (eqb k 18) h
-  where
-    x : ℕ
-    x = getD body 0 0
-
-    by-kind : (a b : Bool)
-        → cond a (ok yesNo) (cond b (limitedColumn (within 2 64 x) (choice x)) (limitedColumn (within 1 24 x) (number x))) ≡ refused n
-        → OneOrTwo n
-    by-kind true b g = absurd (not-refused g)
-    by-kind false true g = inr (limits-refused (choice x) (within 2 64 x) n g)
-    by-kind false false g = inr (limits-refused (number x) (within 1 24 x) n g)
-
 pub sheet-refusals : (s : List ℕ) (n : ℕ) → readSheet s ≡ refused n → (n ≡ 1) ⊎ (n ≡ 2)
 unfolding readSheet limitedSheet sheetLimits
 sheet-refusals s n h = outcome (read columnFormat s) refl h
@@ -87,7 +73,7 @@ sheet-refusals s n h = outcome (read columnFormat s) refl h
     outcome : (r : Outcome (List Column)) → read columnFormat s ≡ r → limitedSheet r ≡ refused n → OneOrTwo n
     outcome (ok cs) q g = inr (limits-refused cs (within 1 256 (entriesIn cs)) n g)
     outcome (refused m) q g =
-        refused-by columnFormat OneOrTwo (inl refl) (λ done k body l. column-refused k body l) s n
+        refused-by columnFormat OneOrTwo (inl refl) (λ done k body l h. inr (column-refused k body l h)) s n
         (let e : m ≡ n = cc in q ∙ ap refused e)
 
 -- a sheet without a fault is read as its columns, and a sheet that is read has no fault

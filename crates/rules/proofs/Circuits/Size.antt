@@ -1,5 +1,5 @@
--- How many bytes a sheet's circuit has. Each column's steps have at most 24 + w bytes for each of its entries, where an
--- element has w bytes; with w = 4 a bound for many numbers and one for few give at most 7,008 for every sheet.
+-- How many bytes a sheet's circuit has. Each column's steps have at most 24 + 2 w bytes for each of its entries, where an
+-- element has w bytes; with w = 4 a bound for many numbers and one for few give at most 7,161 for every sheet.
 -- Assumes nothing.
 use mathlib.Core.Path.{_≡_, refl, _∙_, ap}
 use mathlib.Core.List.{List, [], _∷_, _++_}
@@ -11,11 +11,12 @@ use Rattle.algebra.specs.Lists.{All, all[], all∷}
 use Rattle.words.proofs.Numbers.{length-bytes}
 use Rattle.records.specs.Outcome.{ok}
 use Rattle.rules.specs.Settings.{Setting, Facts}
-use Rattle.rules.specs.Columns.{Column, yesNo, choice, number, entriesOf, entriesIn, readSheet}
+use Rattle.rules.specs.Columns.{Column, yesNo, choice, number, top, bitLength, entriesOf, entriesIn, readSheet}
 use Rattle.rules.specs.Circuit.{Step, constant, entry, add, scale, multiply, test, stepBytes, circuitBytes, bitCheck}
-use Rattle.rules.specs.Circuit.{bitChecks, optionAdds, bitAdds, columnSteps, wiresOf, circuitFrom, circuitOf}
-use Rattle.rules.specs.Circuit.{addsOf, scalesOf, gatesOf, testsOf, addsIn, scalesIn, gatesIn, testsIn}
+use Rattle.rules.specs.Circuit.{bitChecks, optionAdds, bitAdds, bitSum, topSums, topSteps, columnSteps, wiresOf, circuitFrom, circuitOf}
+use Rattle.rules.specs.Circuit.{constantsOf, addsOf, scalesOf, gatesOf, testsOf, constantsIn, addsIn, scalesIn, gatesIn, testsIn}
 use Rattle.rules.specs.Sizes.{weighed, columnSize, circuitSize}
+use Rattle.rules.proofs.Circuits.BitLength.{BitLength, bit-length}
 use Rattle.rules.proofs.Circuits.Limits.{InLimits, limits, numbersIn}
 
 module _ (σ : Setting) where
@@ -67,15 +68,24 @@ module _ (σ : Setting) where
   weights-size zero w q = size-none ∙ omega arith
   weights-size (suc n) w q = simp (size-append, size-next, size-none, weights-size n w q) (omega arith)
 
+  sum-size : (n w q : ℕ) → size (bitSum n w q) ≡ (8 + σ .width) * n + 3
+  unfolding bitSum stepSize
+  sum-size n w q = simp (size-append, size-next, size-none, weights-size) (omega arith)
+
+  top-size : (b n e w : ℕ) → size (topSteps σ e w b n) ≡ (48 + 2 * σ .width) * b + 18 + 2 * σ .width
+  unfolding topSteps topSums stepSize
+  top-size b n e w = simp (size-append, size-next, size-none, bits-size, sum-size) (omega arith)
+
   -- a column's steps have the bytes that the table of body lengths tells
   pub column-size : (c : Column) (e w : ℕ) → size (columnSteps σ e w c) ≡ columnSize σ c
-  unfolding columnSteps stepSize columnSize weighed entriesOf addsOf scalesOf gatesOf testsOf
+  unfolding columnSteps stepSize columnSize weighed entriesOf constantsOf addsOf scalesOf gatesOf testsOf
   column-size yesNo e w = bits-size 1 e w ∙ omega arith
   column-size (choice n) e w = simp (size-append, size-next, size-none, bits-size, options-size) (omega arith)
   column-size (number n) e w = simp (size-append, size-next, size-none, bits-size, weights-size) (omega arith)
+  column-size (top n) e w = top-size (bitLength n) n e w ∙ omega arith
 
   from-size : (cs : List Column) (e w : ℕ) → size (circuitFrom σ e w cs) + suc (σ .width) ≡ circuitSize σ cs
-  unfolding circuitFrom circuitSize columnSize weighed entriesIn addsIn scalesIn gatesIn testsIn
+  unfolding circuitFrom circuitSize columnSize weighed entriesIn constantsIn addsIn scalesIn gatesIn testsIn
   from-size [] e w = rw size-none (omega arith)
   from-size (c ∷ cs) e w =
       let r = from-size cs (e + entriesOf c) (w + wiresOf c) in
@@ -86,53 +96,70 @@ module _ (σ : Setting) where
   unfolding circuitOf stepSize
   circuit-size-is cs = size-next (constant (σ .modulus - 1)) (circuitFrom σ 0 1 cs) ∙ omega (arith, from-size cs 0 1)
 
-  -- the two bounds, of which the second is for elements of 4 bytes
-  sheet-size : (cs : List Column) → All InLimits cs → (e w : ℕ)
-      → size (circuitFrom σ e w cs) + 15 * numbersIn cs ≤ entriesIn cs * (24 + σ .width)
-  unfolding circuitFrom columnSize weighed entriesIn entriesOf addsOf scalesOf gatesOf testsOf numbersIn
-  sheet-size [] all[] e w = rw size-none (omega arith)
-  sheet-size (yesNo ∷ cs) (all∷ h hs) e w =
-      let r = sheet-size cs hs (e + 1) (w + wiresOf yesNo) in
-      rw (size-append, column-size) (omega arith)
-  sheet-size (choice n ∷ cs) (all∷ h hs) e w =
-      let r = sheet-size cs hs (e + n) (w + wiresOf (choice n)) in
-      rw (size-append, column-size) (omega arith)
-  sheet-size (number n ∷ cs) (all∷ h hs) e w =
-      let r = sheet-size cs hs (e + suc n) (w + wiresOf (number n)) in
-      rw (size-append, column-size) (omega arith)
+  -- one bound for elements of any width, two for elements of 4 bytes
+  record Few (entries numbers bytes : ℕ) : Type 0 where
+    for-all : bytes ≤ entries * (24 + 2 * σ .width)
+    for-four : σ .width ≡ 4 → bytes + 2 * numbers ≤ 28 * entries
+    for-four' : σ .width ≡ 4 → 2 * bytes ≤ 45 * entries + 535 * numbers
 
-  sheet-size' : σ .width ≡ 4 → (cs : List Column) → All InLimits cs → (e w : ℕ)
-      → 2 * size (circuitFrom σ e w cs) ≤ 45 * entriesIn cs + 245 * numbersIn cs
-  unfolding circuitFrom columnSize weighed entriesIn entriesOf addsOf scalesOf gatesOf testsOf numbersIn
-  sheet-size' four [] all[] e w = rw size-none (omega arith)
-  sheet-size' four (yesNo ∷ cs) (all∷ h hs) e w =
-      let r = sheet-size' four cs hs (e + 1) (w + wiresOf yesNo) in
-      rw (size-append, column-size) (omega arith)
-  sheet-size' four (choice n ∷ cs) (all∷ h hs) e w =
-      let r = sheet-size' four cs hs (e + n) (w + wiresOf (choice n)) in
-      rw (size-append, column-size) (omega arith)
-  sheet-size' four (number n ∷ cs) (all∷ h hs) e w =
-      let r = sheet-size' four cs hs (e + suc n) (w + wiresOf (number n)) in
-      let f : (24 + σ .width) * n ≡ 28 * n = ap (λ k. (24 + k) * n) four in
-      rw (size-append, column-size) (omega arith)
+  column-few : (c : Column) → InLimits c → Few (entriesOf c) (numbersIn (c ∷ [])) (columnSize σ c)
+  unfolding columnSize weighed entriesOf constantsOf addsOf scalesOf gatesOf testsOf numbersIn
+  column-few yesNo h = search arith
+  column-few (choice n) h = search arith
+  column-few (number n) h = record {
+    for-all = omega arith;
+    for-four = λ four. let f : (24 + σ .width) * n ≡ 28 * n = ap (λ k. (24 + k) * n) four in omega arith;
+    for-four' = λ four. let f : (24 + σ .width) * n ≡ 28 * n = ap (λ k. (24 + k) * n) four in omega arith;
+  }
+  column-few (top n) h = record {
+    for-all = omega (arith, b .some-bits);
+    for-four = λ four. let f = at four in omega arith;
+    for-four' = λ four. let f = at four in omega (arith, b .bits-most);
+  }
+    where
+      b : BitLength n
+      b = bit-length n (h .0) (h .1)
+
+      at : σ .width ≡ 4 → (48 + 2 * σ .width) * bitLength n ≡ 56 * bitLength n
+      at four = ap (λ k. (48 + 2 * k) * bitLength n) four
+
+  numbers-next : (c : Column) (cs : List Column) → numbersIn (c ∷ cs) ≡ numbersIn (c ∷ []) + numbersIn cs
+  unfolding numbersIn
+  numbers-next yesNo cs = omega arith
+  numbers-next (choice n) cs = omega arith
+  numbers-next (number n) cs = omega arith
+  numbers-next (top n) cs = omega arith
+
+  sheet-few : (cs : List Column) → All InLimits cs → (e w : ℕ) → Few (entriesIn cs) (numbersIn cs) (size (circuitFrom σ e w cs))
+  unfolding circuitFrom entriesIn numbersIn
+  sheet-few [] all[] e w = rw size-none (search arith)
+  sheet-few (c ∷ cs) (all∷ h hs) e w =
+      rw (size-append, column-size, numbers-next)
+      (join (column-few c h) (sheet-few cs hs (e + entriesOf c) (w + wiresOf c)))
+    where
+      join : {a b d a' b' d' : ℕ} → Few a b d → Few a' b' d' → Few (a + a') (b + b') (d + d')
+      join f g = record {
+        for-all = omega (arith, f .for-all, g .for-all);
+        for-four = λ four. omega (arith, f .for-four four, g .for-four four);
+        for-four' = λ four. omega (arith, f .for-four' four, g .for-four' four);
+      }
 
   module _ (s : List ℕ) (cs : List Column) (is-read : readSheet s ≡ ok cs) where
-    pub circuit-size : length (circuitBytes σ (circuitOf σ cs)) ≤ 1 + σ .width + entriesIn cs * (24 + σ .width)
+    pub circuit-size : length (circuitBytes σ (circuitOf σ cs)) ≤ 1 + σ .width + entriesIn cs * (24 + 2 * σ .width)
     unfolding circuitOf stepSize
     circuit-size =
-        let r = sheet-size cs (limits s cs is-read .in-limits) 0 1 in
+        let r = sheet-few cs (limits s cs is-read .in-limits) 0 1 .for-all in
         rw size-next (omega arith)
 
     pub circuit-fits : Facts σ → length (circuitBytes σ (circuitOf σ cs)) ≤ σ .circuitLimit
     circuit-fits facts =
         let l = limits s cs is-read in
-        omega (arith, circuit-size, mul-le-mul-right (24 + σ .width) (l .entries-most))
+        omega (arith, circuit-size, mul-le-mul-right (24 + 2 * σ .width) (l .entries-most))
 
-    pub circuit-most : σ .width ≡ 4 → length (circuitBytes σ (circuitOf σ cs)) ≤ 7008
+    pub circuit-most : σ .width ≡ 4 → length (circuitBytes σ (circuitOf σ cs)) ≤ 7161
     unfolding circuitOf stepSize
     circuit-most four =
         let l = limits s cs is-read in
-        let r = sheet-size cs (l .in-limits) 0 1 in
-        let r' = sheet-size' four cs (l .in-limits) 0 1 in
-        let f : entriesIn cs * (24 + σ .width) ≡ entriesIn cs * 28 = ap (λ k. entriesIn cs * (24 + k)) four in
+        let r = sheet-few cs (l .in-limits) 0 1 .for-four four in
+        let r' = sheet-few cs (l .in-limits) 0 1 .for-four' four in
         rw size-next (omega arith)

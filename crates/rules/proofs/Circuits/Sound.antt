@@ -7,10 +7,11 @@ use native.Mathlib.Nat.{pow-le-pow-right}
 use native.Mathlib.Omega.{arith}
 use Rattle.algebra.specs.Lists.{All, all[], all∷}
 use Rattle.rules.specs.Settings.{Setting, Facts}
-use Rattle.rules.specs.Columns.{Column, yesNo, choice, number, entriesOf, entriesIn}
+use Rattle.rules.specs.Columns.{Column, yesNo, choice, number, top, bitLength, entriesOf, entriesIn}
 use Rattle.rules.specs.Circuit.{Step, constant, entry, add, scale, multiply, test, bitCheck, bitChecks, optionSum}
-use Rattle.rules.specs.Circuit.{optionAdds, bitAdds, columnSteps, wiresOf, circuitFrom, circuitOf, wiresIn}
+use Rattle.rules.specs.Circuit.{optionAdds, bitAdds, bitSum, topSums, topSteps, columnSteps, wiresOf, circuitFrom, circuitOf, wiresIn}
 use Rattle.rules.specs.CircuitReader.{stepWires}
+use Rattle.rules.proofs.Circuits.BitLength.{bit-length}
 use Rattle.rules.proofs.Circuits.Limits.{InLimits}
 
 -- a step without a fault, where there are l entries and w wires are made
@@ -81,6 +82,29 @@ module _ (σ : Setting) (l : ℕ) where
         (next (scale (w + 3 * n) (2 ^ n)) (omega arith, omega arith)
         (next (add (q + 2 * n) (suc (q + 2 * n))) (omega arith, omega arith) (steps-to (omega arith) steps[])))
 
+    sum-sound : (n w q : ℕ) → w + 3 * n ≤ q → n ≤ 24 → Steps σ l (suc q) (bitSum n w q) (suc q + 2 * n)
+    unfolding bitSum stepWires
+    sum-sound n w q h few =
+        steps++ (weights-sound n w q h few) (next (test (q + 2 * n)) (omega arith) (steps-to (omega arith) steps[]))
+
+    top-sound : (b n e w : ℕ) → b ≤ 24 → 1 ≤ n → 0 < w → e + suc (2 * b) ≤ l
+        → Steps σ l w (topSteps σ e w b n) (w + (10 * b + 4))
+    unfolding topSteps topSums stepWires
+    top-sound b n e w few some-top some fits =
+        next (entry e) (omega arith)
+        (steps-from (omega arith)
+        (steps++ (bits-sound (2 * b) (suc e) (suc w) (omega arith) (omega arith))
+        (next (scale w (σ .modulus - 1)) (omega arith, omega arith)
+        (steps-from (omega arith)
+        (steps++ (sum-sound b (suc w) q (omega arith) few)
+        (next (constant (σ .modulus - n)) (omega arith)
+        (next (add (suc (q + 2 * b)) w) (omega arith, omega arith)
+        (steps-from (omega arith)
+        (steps-to (omega arith) (sum-sound b (suc w + 3 * b) (suc (suc (q + 2 * b))) (omega arith) few))))))))))
+      where
+        q : ℕ
+        q = suc w + 3 * (2 * b)
+
     column-sound : (c : Column) → InLimits c → (e w : ℕ) → 0 < w → e + entriesOf c ≤ l
         → Steps σ l w (columnSteps σ e w c) (w + wiresOf c)
     unfolding columnSteps entriesOf wiresOf stepWires
@@ -97,6 +121,8 @@ module _ (σ : Setting) (l : ℕ) where
         (steps-from (omega arith)
         (steps++ (weights-sound n (suc w) (suc w + 3 * n) (omega arith) (h .1))
         (next (test (suc w + 3 * n + 2 * n)) (omega arith) (steps-to (omega arith) steps[])))))))
+    column-sound (top n) h e w some fits =
+        top-sound (bitLength n) n e w (bit-length n (h .0) (h .1) .bits-most) (h .0) some fits
 
     sheet-sound : (cs : List Column) → All InLimits cs → (e w : ℕ) → 0 < w → e + entriesIn cs ≤ l
         → Steps σ l w (circuitFrom σ e w cs) (w + wiresIn cs)

@@ -12,6 +12,7 @@ use Rattle.algebra.specs.Lists.{tabulate}
 use Rattle.algebra.proofs.Tables.{length-tabulate}
 use Rattle.rules.specs.Settings.{Setting}
 use Rattle.rules.specs.Circuit.{entry, add, scale, multiply, test, bitCheck, bitChecks, optionSum, optionAdds, bitAdds}
+use Rattle.rules.specs.Circuit.{bitSum}
 use Rattle.rules.specs.Run.{Meaning, Trace, makeWire, makeGate, makeTest, wireAt, stepRun, runFrom}
 use Rattle.rules.specs.Walk.{sumFrom, lessOne, bitOut}
 use Rattle.rules.proofs.Circuits.Growth.{run-append, last-wire, old-wire, more-wires, Grown, stay, one-wire, one-gate, one-test}
@@ -225,3 +226,23 @@ module _ {X : Type 0} (σ : Setting) (μ : Meaning X) where
               (scale-run μ s' (w + 3 * n) (r .sum-grown .kept (w + 3 * n) (omega arith) ∙ at n (omega arith)) (2 ^ n))
               ∙ add-run μ s1 (q + 2 * n) (old-wire μ s' y (q + 2 * n) (omega (arith, long)) ∙ r .sum-wire)
               (suc (q + 2 * n)) (last-wire μ s' y (suc (q + 2 * n)) long)
+
+  -- the sum of n bits by weight, tested
+  pub sum-run : (f : ℕ → X) (v : X) (n : ℕ) (s : Trace X) (w q : ℕ)
+      → wireAt μ s q ≡ v → length (s .wires) ≡ suc q → w + 3 * n ≤ q
+      → ((j : ℕ) → j < n → wireAt μ s (w + 3 * j) ≡ f j)
+      → Grown μ s (runFrom μ s (bitSum n w q)) (2 * n) [] [] (sumFrom σ μ v (λ i. μ .times (f i) (2 ^ i)) n ∷ [])
+  unfolding bitSum runFrom
+  sum-run f v n s w q z len fits at =
+      rw (run-append μ (bitAdds n w q) (test (q + 2 * n) ∷ []) s)
+      (grown-to μ (test-run μ s' (q + 2 * n) (sums .sum-wire))
+      (grown-is μ (then μ (sums .sum-grown) (one-test μ s' total)) (omega arith) refl refl refl))
+    where
+      s' : Trace X
+      s' = runFrom μ s (bitAdds n w q)
+
+      total : X
+      total = sumFrom σ μ v (λ i. μ .times (f i) (2 ^ i)) n
+
+      sums : Summed s s' (2 * n) (q + 2 * n) total
+      sums = weighted-run f v n s w q z len fits at

@@ -2,21 +2,23 @@
 -- leave wire 0 as it was. So the numbers of inputs, tests and wires are the sheet's counts. Assumes nothing.
 use mathlib.Core.Path.{_≡_, refl, sym, _∙_, ap, ap₂}
 use mathlib.Core.List.{List, [], _∷_, _++_, append-nil}
-use Prim.Native.Nat.{ℕ, suc, _+_, _-_, _*_, _^_}
+use Prim.Native.Nat.{ℕ, suc, _+_, _-_, _*_, _^_, _≤_, _<_}
 use native.Mathlib.Omega.{arith}
 use lib.ListN.{length, length-append}
 use Rattle.algebra.specs.Lists.{tabulate}
 use Rattle.algebra.proofs.Tables.{length-tabulate}
 use Rattle.rules.specs.Settings.{Setting}
-use Rattle.rules.specs.Columns.{Column, yesNo, choice, number, entriesOf}
-use Rattle.rules.specs.Circuit.{scale, test, bitChecks, optionSum, optionAdds, bitAdds, columnSteps}
+use Rattle.rules.specs.Columns.{Column, yesNo, choice, number, top, bitLength, entriesOf}
+use Rattle.rules.specs.Circuit.{Step, constant, add, scale, test, bitChecks, optionSum, optionAdds, bitAdds, bitSum}
+use Rattle.rules.specs.Circuit.{topSums, topSteps, columnSteps}
 use Rattle.rules.specs.Circuit.{wiresOf, gatesOf, testsOf, circuitFrom, circuitOf, wiresIn, gatesIn, testsIn}
 use Rattle.rules.specs.Run.{Meaning, Trace, nothing, makeWire, wireAt, stepRun, runFrom, run}
-use Rattle.rules.specs.Walk.{sumFrom, lessOne, bitOut, bitsAt, columnLefts, columnRights, bitTests, sumTests, columnTests}
+use Rattle.rules.specs.Walk.{sumFrom, lessOne, bitOut, bitsAt, columnLefts, columnRights, bitTests, weighted, numberTest}
+use Rattle.rules.specs.Walk.{restTest, columnTests}
 use Rattle.rules.specs.Walk.{walkLefts, walkRights, walkTests}
 use Rattle.rules.proofs.Circuits.Growth.{run-append, last-wire, old-wire, more-wires, Grown, stay, one-wire, one-test}
-use Rattle.rules.proofs.Circuits.Growth.{then, grown-is, grown-to, scale-run, test-run}
-use Rattle.rules.proofs.Circuits.Stretches.{Before, after, before-is, Bits, after-bits, bits-run, Summed, options-run, weighted-run}
+use Rattle.rules.proofs.Circuits.Growth.{then, grown-is, grown-to, scale-run, test-run, add-run}
+use Rattle.rules.proofs.Circuits.Stretches.{Before, after, before-is, Bits, after-bits, bits-run, Summed, options-run, sum-run}
 
 module _ {X : Type 0} (σ : Setting) (μ : Meaning X) where
   pub record Walked (cs : List Column) : Type 0 where
@@ -33,8 +35,8 @@ module _ {X : Type 0} (σ : Setting) (μ : Meaning X) where
       → Grown μ s (runFrom μ s (columnSteps σ e w (choice n))) (3 * n + n)
       (tabulate (λ i. μ .entryAt (e + i)) n)
       (tabulate (λ i. lessOne σ μ (e + i)) n)
-      (tabulate (λ i. bitOut σ μ (e + i) (t + i)) n ++ sumTests σ μ e (choice n))
-  unfolding columnSteps sumTests runFrom
+      (columnTests σ μ e t (choice n))
+  unfolding columnSteps columnTests bitTests runFrom
   choice-run n s e w t b =
       rw (run-append μ (bitChecks n e w) (optionAdds n w q ++ (test (optionSum q n) ∷ [])) s)
       (rw (run-append μ (optionAdds n w q) (test (optionSum q n) ∷ []) s1)
@@ -69,17 +71,14 @@ module _ {X : Type 0} (σ : Setting) (μ : Meaning X) where
       → Grown μ s (runFrom μ s (columnSteps σ e w (number n))) (suc (3 * n) + suc (2 * n))
       (tabulate (λ i. μ .entryAt (suc e + i)) n)
       (tabulate (λ i. lessOne σ μ (suc e + i)) n)
-      (tabulate (λ i. bitOut σ μ (suc e + i) (t + i)) n ++ sumTests σ μ e (number n))
-  unfolding columnSteps sumTests runFrom stepRun
+      (columnTests σ μ e t (number n))
+  unfolding columnSteps columnTests bitTests numberTest weighted bitSum runFrom stepRun
   number-run n s e w t b =
       grown-to μ
-      (run-append μ (bitChecks n (suc e) (suc w)) (scale w m ∷ (bitAdds n (suc w) q ++ (test (q + 2 * n) ∷ []))) s1
-      ∙ ap (λ z. runFrom μ z (bitAdds n (suc w) q ++ (test (q + 2 * n) ∷ []))) (scale-run μ s2 w v-wire m)
-      ∙ run-append μ (bitAdds n (suc w) q) (test (q + 2 * n) ∷ []) s3
-      ∙ test-run μ s4 (q + 2 * n) (sums .sum-wire))
+      (run-append μ (bitChecks n (suc e) (suc w)) (scale w m ∷ bitSum n (suc w) q) s1
+      ∙ ap (λ z. runFrom μ z (bitSum n (suc w) q)) (scale-run μ s2 w v-wire m))
       (grown-is μ
-      (then μ (one-wire μ s x)
-      (then μ (bits .bits-grown) (then μ (one-wire μ s2 y) (then μ (sums .sum-grown) (one-test μ s4 v)))))
+      (then μ (one-wire μ s x) (then μ (bits .bits-grown) (then μ (one-wire μ s2 y) sums)))
       (omega arith) (append-nil _) (append-nil _) refl)
     where
       m : ℕ
@@ -94,9 +93,6 @@ module _ {X : Type 0} (σ : Setting) (μ : Meaning X) where
       y : X
       y = μ .times x m
 
-      v : X
-      v = sumFrom σ μ y (λ i. μ .times (μ .entryAt (suc e + i)) (2 ^ i)) n
-
       s1 : Trace X
       s1 = makeWire x s
 
@@ -105,9 +101,6 @@ module _ {X : Type 0} (σ : Setting) (μ : Meaning X) where
 
       s3 : Trace X
       s3 = makeWire y s2
-
-      s4 : Trace X
-      s4 = runFrom μ s3 (bitAdds n (suc w) q)
 
       first : Before σ μ s1 (suc w) t
       first = before-is σ μ (after σ μ b (one-wire μ s x) 0 refl) (omega arith) (omega arith)
@@ -121,22 +114,137 @@ module _ {X : Type 0} (σ : Setting) (μ : Meaning X) where
       v-wire : wireAt μ s2 w ≡ x
       v-wire = bits .bits-grown .kept w (omega (arith, first .wires-are)) ∙ last-wire μ s x w (b .wires-are)
 
-      sums : Summed σ μ s3 s4 (2 * n) (q + 2 * n) v
+      sums : Grown μ s3 (runFrom μ s3 (bitSum n (suc w) q)) (2 * n) [] [] (numberTest σ μ e (suc e) n ∷ [])
       sums =
-          weighted-run σ μ (λ i. μ .entryAt (suc e + i)) y n s3 (suc w) q
+          sum-run σ μ (λ i. μ .entryAt (suc e + i)) y n s3 (suc w) q
           (last-wire μ s2 y q (now .wires-are))
           (more-wires μ s2 y ∙ omega (arith, now .wires-are))
           (omega arith)
           (λ j l. old-wire μ s2 y (suc w + 3 * j) (omega (arith, now .wires-are)) ∙ bits .bits-wires j l)
 
+  -- the two sums of a top: wire w holds v, and the wires from suc w its 2b bit entries
+  tops-run : (b n : ℕ) (s : Trace X) (e w q : ℕ) → length (s .wires) ≡ q → suc w + 3 * (2 * b) ≤ q
+      → wireAt μ s w ≡ μ .entryAt e → ((j : ℕ) → j < 2 * b → wireAt μ s (suc w + 3 * j) ≡ μ .entryAt (suc e + j))
+      → Grown μ s (runFrom μ s (topSums σ w q b n)) (suc (2 * b) + suc (suc (2 * b))) [] []
+      (numberTest σ μ e (suc e) b ∷ restTest σ μ n e (suc e + b) b ∷ [])
+  unfolding topSums numberTest restTest weighted runFrom stepRun
+  tops-run b n s e w q len fits v-wire at =
+      grown-to μ
+      (ap (λ z. runFrom μ z (bitSum b (suc w) q ++ rest)) (scale-run μ s w v-wire m)
+      ∙ run-append μ (bitSum b (suc w) q) rest s1
+      ∙ ap (λ z. runFrom μ z (bitSum b (suc w + 3 * b) (suc (suc q'))))
+      (add-run μ s3 (suc q') (last-wire μ s2 c (suc q') long2) w (kept3 w (omega arith) ∙ v-wire)))
+      (grown-is μ
+      (then μ (one-wire μ s y) (then μ first (then μ (one-wire μ s2 c) (then μ (one-wire μ s3 z) second))))
+      (omega arith) refl refl refl)
+    where
+      m : ℕ
+      m = σ .modulus - 1
+
+      q' : ℕ
+      q' = q + 2 * b
+
+      rest : List Step
+      rest = constant (σ .modulus - n) ∷ add (suc q') w ∷ bitSum b (suc w + 3 * b) (suc (suc q'))
+
+      y : X
+      y = μ .times (μ .entryAt e) m
+
+      c : X
+      c = μ .constantOf (σ .modulus - n)
+
+      z : X
+      z = μ .plus c (μ .entryAt e)
+
+      s1 : Trace X
+      s1 = makeWire y s
+
+      s2 : Trace X
+      s2 = runFrom μ s1 (bitSum b (suc w) q)
+
+      s3 : Trace X
+      s3 = makeWire c s2
+
+      s4 : Trace X
+      s4 = makeWire z s3
+
+      long1 : length (s1 .wires) ≡ suc q
+      long1 = more-wires μ s y ∙ omega arith
+
+      first : Grown μ s1 s2 (2 * b) [] [] (sumFrom σ μ y (λ i. μ .times (μ .entryAt (suc e + i)) (2 ^ i)) b ∷ [])
+      first =
+          sum-run σ μ (λ i. μ .entryAt (suc e + i)) y b s1 (suc w) q (last-wire μ s y q len) long1 (omega arith)
+          (λ j l. old-wire μ s y (suc w + 3 * j) (omega arith) ∙ at j (omega arith))
+
+      long2 : length (s2 .wires) ≡ suc q'
+      long2 = omega (arith, first .made, long1)
+
+      long3 : length (s3 .wires) ≡ suc (suc q')
+      long3 = more-wires μ s2 c ∙ omega (arith, long2)
+
+      kept3 : (k : ℕ) → k < q → wireAt μ s3 k ≡ wireAt μ s k
+      kept3 k l =
+          old-wire μ s2 c k (omega (arith, long2)) ∙ first .kept k (omega (arith, long1)) ∙ old-wire μ s y k (omega arith)
+
+      bit : (j : ℕ) → j < b → wireAt μ s4 (suc w + 3 * b + 3 * j) ≡ μ .entryAt (suc e + b + j)
+      bit j l =
+          let k : suc w + 3 * b + 3 * j ≡ suc w + 3 * (b + j) = omega arith in
+          let i : suc e + (b + j) ≡ suc e + b + j = omega arith in
+          ap (wireAt μ s4) k
+          ∙ old-wire μ s3 z (suc w + 3 * (b + j)) (omega (arith, long3))
+          ∙ kept3 (suc w + 3 * (b + j)) (omega arith)
+          ∙ at (b + j) (omega arith)
+          ∙ ap (μ .entryAt) i
+
+      second : Grown μ s4 (runFrom μ s4 (bitSum b (suc w + 3 * b) (suc (suc q')))) (2 * b) [] []
+          (sumFrom σ μ z (λ i. μ .times (μ .entryAt (suc e + b + i)) (2 ^ i)) b ∷ [])
+      second =
+          sum-run σ μ (λ i. μ .entryAt (suc e + b + i)) z b s4 (suc w + 3 * b) (suc (suc q'))
+          (last-wire μ s3 z (suc (suc q')) long3) (more-wires μ s3 z ∙ omega (arith, long3)) (omega arith) bit
+
+  top-run : (b n : ℕ) (s : Trace X) (e w t : ℕ) → Before σ μ s w t
+      → Grown μ s (runFrom μ s (topSteps σ e w b n)) (10 * b + 4)
+      (tabulate (λ i. μ .entryAt (suc e + i)) (2 * b))
+      (tabulate (λ i. lessOne σ μ (suc e + i)) (2 * b))
+      (bitTests σ μ (suc e) t (2 * b) ++ (numberTest σ μ e (suc e) b ∷ restTest σ μ n e (suc e + b) b ∷ []))
+  unfolding topSteps bitTests runFrom stepRun
+  top-run b n s e w t before =
+      grown-to μ (run-append μ (bitChecks (2 * b) (suc e) (suc w)) (topSums σ w q b n) s1)
+      (grown-is μ (then μ (one-wire μ s x) (then μ (bits .bits-grown) sums)) (omega arith) (append-nil _) (append-nil _) refl)
+    where
+      q : ℕ
+      q = suc w + 3 * (2 * b)
+
+      x : X
+      x = μ .entryAt e
+
+      s1 : Trace X
+      s1 = makeWire x s
+
+      s2 : Trace X
+      s2 = runFrom μ s1 (bitChecks (2 * b) (suc e) (suc w))
+
+      first : Before σ μ s1 (suc w) t
+      first = before-is σ μ (after σ μ before (one-wire μ s x) 0 refl) (omega arith) (omega arith)
+
+      bits : Bits σ μ s1 s2 (2 * b) (suc e) (suc w) t
+      bits = bits-run σ μ (2 * b) s1 (suc e) (suc w) t first
+
+      v-wire : wireAt μ s2 w ≡ x
+      v-wire = bits .bits-grown .kept w (omega (arith, first .wires-are)) ∙ last-wire μ s x w (before .wires-are)
+
+      sums : Grown μ s2 (runFrom μ s2 (topSums σ w q b n)) (suc (2 * b) + suc (suc (2 * b))) [] []
+          (numberTest σ μ e (suc e) b ∷ restTest σ μ n e (suc e + b) b ∷ [])
+      sums = tops-run b n s2 e w q (after-bits σ μ first bits .wires-are) (omega arith) v-wire (bits .bits-wires)
+
   column-run : (c : Column) (s : Trace X) (e w t : ℕ) → Before σ μ s w t
       → Grown μ s (runFrom μ s (columnSteps σ e w c)) (wiresOf c)
       (columnLefts σ μ e c) (columnRights σ μ e c) (columnTests σ μ e t c)
-  unfolding columnSteps wiresOf gatesOf bitsAt columnLefts columnRights bitTests sumTests columnTests
-  column-run yesNo s e w t b =
-      grown-is μ (bits-run σ μ 1 s e w t b .bits-grown) refl refl refl (sym (append-nil _))
+  unfolding columnSteps wiresOf gatesOf bitsAt columnLefts columnRights bitTests columnTests
+  column-run yesNo s e w t b = bits-run σ μ 1 s e w t b .bits-grown
   column-run (choice n) s e w t b = choice-run n s e w t b
   column-run (number n) s e w t b = number-run n s e w t b
+  column-run (top n) s e w t b = top-run (bitLength n) n s e w t b
 
   -- ---- a sheet
   column-lefts : (c : Column) (e : ℕ) → length (columnLefts σ μ e c) ≡ gatesOf c
@@ -172,15 +280,16 @@ module _ {X : Type 0} (σ : Setting) (μ : Meaning X) where
       length-append (columnRights σ μ e c) _
       ∙ ap₂ _+_ (length-tabulate _ (gatesOf c)) (length-rights cs (e + entriesOf c))
 
+  row-tests : (e t n : ℕ) (l : List X) → length (bitTests σ μ e t n ++ l) ≡ n + length l
+  unfolding bitTests
+  row-tests e t n l = length-append (bitTests σ μ e t n) l ∙ ap (_+ length l) (length-tabulate _ n)
+
   column-tests : (c : Column) (e t : ℕ) → length (columnTests σ μ e t c) ≡ testsOf c
-  unfolding columnTests bitTests gatesOf testsOf sumTests
-  column-tests c e t =
-      length-append (bitTests σ μ e t c) _ ∙ ap (_+ length (sumTests σ μ e c)) (length-tabulate _ (gatesOf c)) ∙ last c
-    where
-      last : (c : Column) → gatesOf c + length (sumTests σ μ e c) ≡ testsOf c
-      last yesNo = refl
-      last (choice n) = refl
-      last (number n) = refl
+  unfolding columnTests testsOf
+  column-tests yesNo e t = sym (ap length (append-nil (bitTests σ μ e t 1))) ∙ row-tests e t 1 []
+  column-tests (choice n) e t = row-tests e t n _
+  column-tests (number n) e t = row-tests (suc e) t n _
+  column-tests (top n) e t = row-tests (suc e) t (2 * bitLength n) _
 
   pub length-tests : (cs : List Column) (e t : ℕ) → length (walkTests σ μ e t cs) ≡ testsIn cs
   unfolding walkTests testsIn

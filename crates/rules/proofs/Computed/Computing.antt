@@ -7,17 +7,18 @@ use Rattle.algebra.specs.Lists.{tabulate, every, countFrom, sumOver}
 use Rattle.words.specs.Bytes.{valueOf, bytesOf, bytesOfAll, splice, elementsOf, allBelow, sameBytes}
 use Rattle.records.specs.Outcome.{orElse}
 use Rattle.records.specs.Records.{readFrom}
-use Rattle.rules.specs.Columns.{limitedColumn, columnBody, columnOf, entriesOf, publishedOf, valuesOf, largestOf, entriesIn}
+use Rattle.rules.specs.Columns.{lengthWithin, bitLength, limitedColumn, columnBody, columnOf, entriesOf, publishedOf, valuesOf, largestOf, entriesIn}
 use Rattle.rules.specs.Columns.{publishedIn, publishedFrom, sheetLimits, limitedSheet, readSheet, faultIn, listIn}
 use Rattle.rules.specs.Columns.{totalsFit}
-use Rattle.rules.specs.Circuit.{stepBytes, circuitBytes, bitCheck, bitChecks, optionSum, optionAdds, bitAdds}
+use Rattle.rules.specs.Circuit.{stepBytes, circuitBytes, bitCheck, bitChecks, optionSum, optionAdds, bitAdds, bitSum}
+use Rattle.rules.specs.Circuit.{topSums, topSteps}
 use Rattle.rules.specs.Circuit.{columnSteps, wiresOf, gatesOf, testsOf, circuitFrom, circuitOf, wiresIn, gatesIn}
 use Rattle.rules.specs.Circuit.{testsIn}
 use Rattle.rules.specs.CircuitReader.{stepBody, stepOf, stepWires, stepGates, stepTests, stepFault, judgedStep, judgeStep}
 use Rattle.rules.specs.CircuitReader.{circuitLimits, limitedCircuit, readCircuit, circuitFault, countIn, sheetCircuit}
 use Rattle.rules.specs.CircuitReader.{sheetCircuitRefusal}
 use Rattle.rules.specs.Run.{stepRun, runFrom, run}
-use Rattle.rules.specs.Values.{encoded, legalValues, encoding}
+use Rattle.rules.specs.Values.{twoNumbers, encoded, legalValues, encoding}
 use Rattle.rules.specs.EveryReturn.{afterEach, legalLists, listsIn, listsBytes, everyReturnBytes, everyReturnLength}
 use Rattle.rules.specs.EveryReturn.{everyReturnRefusal}
 use Rattle.rules.specs.Judging.{shareSize, firstOnly, zeroThen, folded, sigmaFrom, hOf, aOf, bOf, cOf, shareRun, fAt}
@@ -34,7 +35,7 @@ use Rattle.rules.specs.Table.{totalsPlace, idsPlace, waitPlace, sharePla
 use Rattle.rules.specs.Table.{headerSound, countsSound, waitingSound, tableSound, tableFault, openLength}
 use Rattle.rules.specs.Sizes.{greatestUpTo, sizesOf, weighed, columnSize, circuitSize}
 use Rattle.rules.specs.Columns.{largestIn}
-use Rattle.rules.specs.Circuit.{addsOf, scalesOf, addsIn, scalesIn}
+use Rattle.rules.specs.Circuit.{constantsOf, addsOf, scalesOf, constantsIn, addsIn, scalesIn}
 use Rattle.rules.specs.Table.{openRefusal, openBytes, shareRefused, shareTable, shareBytes, oneRefused, oneTable}
 use Rattle.rules.specs.Table.{oneBytes, decidedTable, addedTotals, twoRefused, twoVerdict, twoTable, dropRefused}
 use Rattle.rules.specs.Table.{dropTable, closeRefused, closeTable, closeBytes}
@@ -124,8 +125,8 @@ unfolding ledgerAnswers tableRefusal tableAfter tableAnswer runTable tableAnswer
 part18 = tt
 
 unfoldable pub part19 : Unit {0}
-unfolding closingsFrom firstsFrom secondsFrom largestIn addsOf scalesOf addsIn scalesIn greatestUpTo sizesOf weighed
-    columnSize circuitSize firstBytes shelved shelfRefusal
+unfolding closingsFrom firstsFrom secondsFrom largestIn constantsOf addsOf scalesOf constantsIn addsIn scalesIn greatestUpTo
+    sizesOf weighed columnSize circuitSize lengthWithin bitLength bitSum topSums topSteps twoNumbers firstBytes shelved shelfRefusal
 part19 = tt
 
 unfoldable pub part20 : Unit {0}

@@ -3,6 +3,7 @@ use mathlib.Core.Bool.{true}
 use mathlib.Core.Path.{_≡_, refl}
 use Rattle.algebra.specs.Lists.{every}
 use Rattle.rules.specs.Examples.{marked, unmarked, circuits, sizes, taus, shelves, smallSheets}
+use Rattle.rules.specs.TopExamples.{tops}
 use Rattle.rules.proofs.Computed.Computing.{everything}
 
 pub marked-hold : every (λ row. row .holds) marked ≡ true
@@ -32,3 +33,7 @@ shelves-hold = refl
 pub small-sheets-hold : every (λ row. row .holds) smallSheets ≡ true
 unfolding everything smallSheets
 small-sheets-hold = refl
+
+pub tops-hold : every (λ row. row .holds) tops ≡ true
+unfolding everything tops
+tops-hold = refl

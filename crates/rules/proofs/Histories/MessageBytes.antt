@@ -14,7 +14,7 @@ use Rattle.rules.specs.Settings.{Setting, Facts}
 use Rattle.rules.specs.Messages.{kindIn, idIn, serverIn, firstIn, secondIn, roundMessage, roundLength}
 
 -- ---- an element has a byte, and fits its bytes
-power-above : (w m : ℕ) → 16777216 < m → m ≤ 256 ^ w → 0 < w
+power-above : (w m : ℕ) → 33554432 < m → m ≤ 256 ^ w → 0 < w
 power-above zero m h k = absurd (omega arith)
 power-above (suc w) m h k = omega arith
 

@@ -2,16 +2,16 @@
 -- multiplications and the tests are the same. By the walk over the columns. Assumes nothing.
 use mathlib.Core.Path.{_≡_, refl, sym, _∙_, ap, ap₂}
 use mathlib.Core.List.{List, [], _∷_, _++_}
-use Prim.Native.Nat.{ℕ, zero, suc, _+_, _-_, _^_, _≤_, _<_}
+use Prim.Native.Nat.{ℕ, zero, suc, _+_, _-_, _*_, _^_, _≤_, _<_}
 use native.Mathlib.Omega.{arith}
 use Rattle.algebra.specs.Ops.{Ops}
 use Rattle.algebra.proofs.Tables.{tabulate-cong}
 use Rattle.rules.specs.Settings.{Setting}
-use Rattle.rules.specs.Columns.{Column, yesNo, choice, number, entriesOf, entriesIn}
+use Rattle.rules.specs.Columns.{Column, yesNo, choice, number, top, bitLength, entriesOf, entriesIn}
 use Rattle.rules.specs.Circuit.{gatesOf, circuitOf}
 use Rattle.rules.specs.Run.{Meaning, run, onList}
-use Rattle.rules.specs.Walk.{sumFrom, lessOne, bitOut, bitsAt, columnLefts, columnRights, bitTests, sumTests}
-use Rattle.rules.specs.Walk.{columnTests, walkLefts, walkRights, walkTests}
+use Rattle.rules.specs.Walk.{sumFrom, lessOne, bitOut, bitsAt, columnLefts, columnRights, bitTests, weighted}
+use Rattle.rules.specs.Walk.{numberTest, restTest, columnTests, walkLefts, walkRights, walkTests}
 use Rattle.rules.proofs.Circuits.Walk.{walk-is-run}
 
 -- f and g are the same from the number low to below high
@@ -26,6 +26,7 @@ module _ {X : Type 0} (σ : Setting) (μ ν : Meaning X) where
   bits-same yesNo e f g h i l = h (e + i) (omega arith) (omega arith)
   bits-same (choice n) e f g h i l = h (e + i) (omega arith) (omega arith)
   bits-same (number n) e f g h i l = h (suc e + i) (omega arith) (omega arith)
+  bits-same (top n) e f g h i l = h (suc e + i) (omega arith) (omega arith)
 
   lefts-same : (cs : List Column) (e : ℕ) → SameFrom e (e + entriesIn cs) (μ .entryAt) (ν .entryAt)
       → walkLefts σ μ e cs ≡ walkLefts σ ν e cs
@@ -76,31 +77,52 @@ module _ (O : Ops) (σ : Setting) (x y : ℕ → O .F) where
   sum-same a b f g zero q h = q
   sum-same a b f g (suc n) q h = ap₂ (O ._⊕_) (sum-same a b f g n q (λ i l. h i (omega arith))) (h n (omega arith))
 
-  sum-tests-same : (c : Column) (e : ℕ) → SameFrom e (e + entriesOf c) x y → sumTests σ μ e c ≡ sumTests σ ν e c
-  unfolding sumTests entriesOf
-  sum-tests-same yesNo e h = refl
-  sum-tests-same (choice n) e h =
-      ap (_∷ []) (sum-same _ _ (λ i. x (e + i)) (λ i. y (e + i)) n refl (λ i l. h (e + i) (omega arith) (omega arith)))
-  sum-tests-same (number n) e h =
-      ap (_∷ [])
-      (sum-same _ _ (λ i. O ._⊗_ (x (suc e + i)) (O .ι (2 ^ i))) (λ i. O ._⊗_ (y (suc e + i)) (O .ι (2 ^ i))) n
-      (ap (λ v. O ._⊗_ v (O .ι (σ .modulus - 1))) (h e (omega arith) (omega arith)))
-      (λ i l. ap (λ v. O ._⊗_ v (O .ι (2 ^ i))) (h (suc e + i) (omega arith) (omega arith))))
+  bit-tests-same : (e t n : ℕ) → ((i : ℕ) → i < n → x (e + i) ≡ y (e + i)) → bitTests σ μ e t n ≡ bitTests σ ν e t n
+  unfolding bitTests
+  bit-tests-same e t n h = tabulate-cong _ _ n (λ i l. output-same (e + i) (t + i) (h i l))
 
-  bit-tests-same : (c : Column) (e t : ℕ) → SameFrom e (e + entriesOf c) x y → bitTests σ μ e t c ≡ bitTests σ ν e t c
-  unfolding bitTests bitsAt gatesOf entriesOf
-  bit-tests-same yesNo e t h = tabulate-cong _ _ 1 (λ i l. output-same (e + i) (t + i) (h (e + i) (omega arith) (omega arith)))
-  bit-tests-same (choice n) e t h =
-      tabulate-cong _ _ n (λ i l. output-same (e + i) (t + i) (h (e + i) (omega arith) (omega arith)))
-  bit-tests-same (number n) e t h =
-      tabulate-cong _ _ n (λ i l. output-same (suc e + i) (t + i) (h (suc e + i) (omega arith) (omega arith)))
+  weighted-same : (a b : O .F) (e n : ℕ) → a ≡ b → ((i : ℕ) → i < n → x (e + i) ≡ y (e + i))
+      → weighted σ μ a e n ≡ weighted σ ν b e n
+  unfolding weighted
+  weighted-same a b e n q h =
+      sum-same a b (λ i. O ._⊗_ (x (e + i)) (O .ι (2 ^ i))) (λ i. O ._⊗_ (y (e + i)) (O .ι (2 ^ i))) n q
+      (λ i l. ap (λ v. O ._⊗_ v (O .ι (2 ^ i))) (h i l))
+
+  number-test-same : (a e n : ℕ) → x a ≡ y a → ((i : ℕ) → i < n → x (e + i) ≡ y (e + i))
+      → numberTest σ μ a e n ≡ numberTest σ ν a e n
+  unfolding numberTest
+  number-test-same a e n q h = weighted-same _ _ e n (ap (λ v. O ._⊗_ v (O .ι (σ .modulus - 1))) q) h
+
+  column-tests-same : (c : Column) (e t : ℕ) → SameFrom e (e + entriesOf c) x y
+      → columnTests σ μ e t c ≡ columnTests σ ν e t c
+  unfolding columnTests restTest entriesOf
+  column-tests-same yesNo e t h = bit-tests-same e t 1 (λ i l. h (e + i) (omega arith) (omega arith))
+  column-tests-same (choice n) e t h =
+      ap₂ (λ a b. a ++ (b ∷ []))
+      (bit-tests-same e t n (λ i l. h (e + i) (omega arith) (omega arith)))
+      (sum-same _ _ (λ i. x (e + i)) (λ i. y (e + i)) n refl (λ i l. h (e + i) (omega arith) (omega arith)))
+  column-tests-same (number n) e t h =
+      ap₂ (λ a b. a ++ (b ∷ []))
+      (bit-tests-same (suc e) t n (λ i l. h (suc e + i) (omega arith) (omega arith)))
+      (number-test-same e (suc e) n (h e (omega arith) (omega arith))
+      (λ i l. h (suc e + i) (omega arith) (omega arith)))
+  column-tests-same (top n) e t h =
+      ap₂ _++_
+      (bit-tests-same (suc e) t (2 * b) (λ i l. h (suc e + i) (omega arith) (omega arith)))
+      (ap₂ (λ u v. u ∷ v ∷ [])
+      (number-test-same e (suc e) b (h e (omega arith) (omega arith)) (λ i l. h (suc e + i) (omega arith) (omega arith)))
+      (weighted-same _ _ (suc e + b) b
+      (ap (O ._⊕_ (O .ι (σ .modulus - n))) (h e (omega arith) (omega arith)))
+      (λ i l. h (suc e + b + i) (omega arith) (omega arith))))
+    where
+      b : ℕ
+      b = bitLength n
 
   tests-same : (cs : List Column) (e t : ℕ) → SameFrom e (e + entriesIn cs) x y → walkTests σ μ e t cs ≡ walkTests σ ν e t cs
-  unfolding walkTests columnTests entriesIn
+  unfolding walkTests entriesIn
   tests-same [] e t h = refl
   tests-same (c ∷ cs) e t h =
-      ap₂ _++_
-      (ap₂ _++_ (bit-tests-same c e t (λ k l u. h k l (omega arith))) (sum-tests-same c e (λ k l u. h k l (omega arith))))
+      ap₂ _++_ (column-tests-same c e t (λ k l u. h k l (omega arith)))
       (tests-same cs (e + entriesOf c) (t + gatesOf c) (λ k l u. h k (omega arith) (omega arith)))
 
   pub list-tests : (cs : List Column) → SameFrom 0 (entriesIn cs) x y

@@ -9,9 +9,10 @@ use borrow.Author.Tests.{le-leb}
 use Rattle.algebra.specs.Lists.{sumOver}
 use Rattle.records.specs.Outcome.{ok, orElse}
 use Rattle.rules.specs.Settings.{Setting, Facts}
-use Rattle.rules.specs.Columns.{Column, yesNo, choice, number, entriesOf, entriesIn, faultIn, listIn, readSheet, sheetFault}
+use Rattle.rules.specs.Columns.{Column, yesNo, choice, number, top, entriesOf, entriesIn, faultIn, listIn, readSheet, sheetFault}
 use Rattle.rules.specs.Columns.{columnsOf, serversFault, ownFault, mostReturns, within, totalsFit}
-use Rattle.rules.specs.Circuit.{Step, wiresOf, addsOf, scalesOf, gatesOf, wiresIn, addsIn, scalesIn, gatesIn, circuitOf}
+use Rattle.rules.specs.Circuit.{Step, wiresOf, constantsOf, addsOf, scalesOf, gatesOf, wiresIn, circuitOf}
+use Rattle.rules.specs.Circuit.{constantsIn, addsIn, scalesIn, gatesIn}
 use Rattle.rules.specs.CircuitReader.{stepWires, stepGates, stepTests, circuitFault, countIn, sheetCircuit}
 use Rattle.rules.specs.Making.{shareLength}
 use Rattle.rules.specs.Server.{openFault}
@@ -26,15 +27,16 @@ use Rattle.rules.proofs.Histories.ShareBytes.{length-share}
 use Rattle.rules.proofs.Tables.Opens.{opening}
 use Rattle.rules.proofs.Tables.Greatest.{fits-largest, largest-fits, greatest-most, greatest-reached, fewer-fit}
 
--- kinds 2 to 5 make a wire each
-pub column-wires : (c : Column) → wiresOf c ≡ entriesOf c + addsOf c + scalesOf c + gatesOf c
-unfolding wiresOf entriesOf addsOf scalesOf gatesOf
+-- kinds 1 to 5 make a wire each
+pub column-wires : (c : Column) → wiresOf c ≡ constantsOf c + (entriesOf c + addsOf c + scalesOf c + gatesOf c)
+unfolding wiresOf entriesOf constantsOf addsOf scalesOf gatesOf
 column-wires yesNo = refl
 column-wires (choice n) = omega arith
 column-wires (number n) = omega arith
+column-wires (top n) = omega arith
 
-wires-by-kind : (cs : List Column) → wiresIn cs ≡ entriesIn cs + addsIn cs + scalesIn cs + gatesIn cs
-unfolding wiresIn entriesIn addsIn scalesIn gatesIn
+wires-by-kind : (cs : List Column) → wiresIn cs ≡ constantsIn cs + (entriesIn cs + addsIn cs + scalesIn cs + gatesIn cs)
+unfolding wiresIn entriesIn constantsIn addsIn scalesIn gatesIn
 wires-by-kind [] = refl
 wires-by-kind (c ∷ cs) = omega (arith, column-wires c, wires-by-kind cs)
 

@@ -8,8 +8,8 @@ use native.Mathlib.Numerals.{add-one}
 use native.Mathlib.Omega.{arith}
 use lib.ListN.{length, getD, take, drop, take-append-drop}
 use lib.Seq.{take-suc}
-use Rattle.rules.specs.Columns.{Column, yesNo, choice, number, entriesOf, publishedOf, largestOf, entriesIn, publishedIn, largestIn}
-use Rattle.rules.specs.Circuit.{addsOf, scalesOf, gatesOf, testsOf, addsIn, scalesIn, gatesIn, testsIn}
+use Rattle.rules.specs.Columns.{Column, yesNo, entriesOf, publishedOf, largestOf, entriesIn, publishedIn, largestIn}
+use Rattle.rules.specs.Circuit.{constantsOf, addsOf, scalesOf, gatesOf, testsOf, constantsIn, addsIn, scalesIn, gatesIn, testsIn}
 
 -- `In` adds up `of` over the columns
 pub record Total (of : Column → ℕ) (In : List Column → ℕ) : Type 0 where
@@ -23,6 +23,10 @@ entries = record { nothing = refl; next = λ c cs. refl }
 pub published : Total publishedOf publishedIn
 unfolding publishedIn
 published = record { nothing = refl; next = λ c cs. refl }
+
+pub constants : Total constantsOf constantsIn
+unfolding constantsIn
+constants = record { nothing = refl; next = λ c cs. refl }
 
 pub adds : Total addsOf addsIn
 unfolding addsIn

@@ -9,11 +9,12 @@ use native.Mathlib.Omega.{arith}
 use lib.Dec.{eqb}
 use lib.ListN.{getD}
 use Rattle.records.specs.Outcome.{Outcome, ok, refused}
-use Rattle.rules.specs.Columns.{Column, yesNo, choice, number, within, limitedColumn, columnOf}
+use Rattle.rules.specs.Columns.{Column, yesNo, choice, number, top, columnOf}
 use Rattle.algebra.specs.Lists.{All, all[], all∷}
 use Rattle.rules.specs.Columns.{entriesOf, publishedOf, largestOf, entriesIn, publishedIn, largestIn}
-use Rattle.rules.specs.Circuit.{gatesOf, testsOf, gatesIn, testsIn}
-use Rattle.rules.proofs.Circuits.Limits.{InLimits, within-both}
+use Rattle.rules.specs.Circuit.{constantsOf, addsOf, scalesOf, gatesOf, testsOf, constantsIn, addsIn, scalesIn, gatesIn, testsIn}
+use Rattle.rules.proofs.Circuits.Limits.{InLimits, column-limited, column-refused}
+use Rattle.rules.proofs.Circuits.BitLength.{bit-length}
 use Rattle.columns.specs.declared.Column as code
 use Rattle.columns.specs.declared.Column.the-variants as kind
 use Rattle.columns.specs.declared.Judged.the-variants as answer
@@ -21,7 +22,7 @@ use Rattle.columns.specs.declared.Counts.{Counts}
 use Rattle.columns.specs.Counting.{countsOf, Small}
 use Rattle.columns.specs.Kinds.{toCode, fromCode, judgedOf, columnIn}
 use Rattle.columns.proofs.ColumnBytes.{from-to-code}
-use Rattle.columns.proofs.Sums.{entries, published, gates, tests, total-one, largest-one}
+use Rattle.columns.proofs.Sums.{entries, published, constants, adds, scales, gates, tests, total-one, largest-one}
 
 -- ---- what one column comes to
 pub counts-one : (c : Column)
@@ -30,6 +31,9 @@ pub counts-one : (c : Column)
       columns = 1;
       entries = entriesOf c;
       published = publishedOf c;
+      constants = constantsOf c;
+      adds = addsOf c;
+      scales = scalesOf c;
       gates = gatesOf c;
       tests = testsOf c;
       largest = largestOf c;
@@ -38,6 +42,9 @@ counts-one c =
     rw (
       total-one entries c,
       total-one published c,
+      total-one constants c,
+      total-one adds c,
+      total-one scales c,
       total-one gates c,
       total-one tests c,
       largest-one c,
@@ -47,17 +54,20 @@ pub largest-most : (a : Column) → InLimits a → largestOf a ≤ 16777215
 unfolding largestOf
 largest-most yesNo h = omega arith
 largest-most (choice n) h = omega arith
+largest-most (top n) h = h .1
 largest-most (number n) h = let p : 2 ^ n ≤ 2 ^ 24 = pow-le-pow-right (omega arith) (h .1) in omega arith
 
 pub column-small : (a : Column) → InLimits a → Small 64 (countsOf (a ∷ []))
-unfolding entriesOf publishedOf gatesOf testsOf
+unfolding entriesOf publishedOf constantsOf addsOf scalesOf gatesOf testsOf
 column-small yesNo h = rw (counts-one yesNo) (let l = largest-most yesNo h in search arith)
 column-small (choice n) h = rw (counts-one (choice n)) (let l = largest-most (choice n) h in search arith)
 column-small (number n) h = rw (counts-one (number n)) (let l = largest-most (number n) h in search arith)
+column-small (top n) h =
+    rw (counts-one (top n)) (let l = largest-most (top n) h in let b = bit-length n (h .0) (h .1) in search arith)
 
 -- and what columns come to
 columns-bounded : (cs : List Column) → All InLimits cs → Small (entriesIn cs) (countsOf cs)
-unfolding entriesIn publishedIn gatesIn testsIn largestIn
+unfolding entriesIn publishedIn constantsIn addsIn scalesIn gatesIn testsIn largestIn
 columns-bounded [] all[] = search arith
 columns-bounded (c ∷ cs) (all∷ h hs) =
     let one = rw (counts-one c) at (column-small c h) in
@@ -66,6 +76,9 @@ columns-bounded (c ∷ cs) (all∷ h hs) =
       entries-most = omega arith;
       columns-most = omega (arith, one .columns-most, rest .columns-most);
       published-most = omega (arith, one .published-most, rest .published-most);
+      constants-most = omega (arith, one .constants-most, rest .constants-most);
+      adds-most = omega (arith, one .adds-most, rest .adds-most);
+      scales-most = omega (arith, one .scales-most, rest .scales-most);
       gates-most = omega (arith, one .gates-most, rest .gates-most);
       tests-many = omega (arith, one .tests-many, rest .tests-many);
       tests-most = omega (arith, one .tests-most, rest .tests-most);
@@ -77,6 +90,9 @@ small-more l h = record {
   entries-most = omega (arith, h .entries-most);
   columns-most = h .columns-most;
   published-most = h .published-most;
+  constants-most = h .constants-most;
+  adds-most = h .adds-most;
+  scales-most = h .scales-most;
   gates-most = h .gates-most;
   tests-many = h .tests-many;
   tests-most = h .tests-most;
@@ -85,38 +101,6 @@ small-more l h = record {
 
 pub columns-small : (e : ℕ) (cs : List Column) → All InLimits cs → entriesIn cs ≤ e → Small e (countsOf cs)
 columns-small e cs h l = small-more l (columns-bounded cs h)
-
--- ---- what a record says
--- a column within its limits, or refusal 2
-data Said : Outcome Column → Type 0 where
-  column : (a : Column) → InLimits a → Said (ok a)
-  two : Said (refused 2)
-
-limited-said : (fits : Bool) (a : Column) → (fits ≡ true → InLimits a) → Said (limitedColumn fits a)
-unfolding limitedColumn
-limited-said true a h = column a (h refl)
-limited-said false a h = two
-
-said : (k : ℕ) (body : List ℕ) → Said (columnOf k body)
-unfolding columnOf
-said k body = by-kind (eqb k 17) (eqb k 18)
-  where
-    x : ℕ
-    x = getD body 0 0
-
-    by-kind : (a b : Bool)
-        → Said (cond a (ok yesNo) (cond b (limitedColumn (within 2 64 x) (choice x)) (limitedColumn (within 1 24 x) (number x))))
-    by-kind true b = column yesNo tt
-    by-kind false true = limited-said (within 2 64 x) (choice x) (within-both 2 64 x)
-    by-kind false false = limited-said (within 1 24 x) (number x) (within-both 1 24 x)
-
-said-limits : (r : Outcome Column) (a : Column) → Said r → r ≡ ok a → InLimits a
-said-limits r a (column b h) e = let q : b ≡ a = cc in subst InLimits q h
-said-limits r a two e = let z : _≡_ {A = ℕ} 0 1 = cc in absurd (omega arith)
-
-said-two : (r : Outcome Column) (n : ℕ) → Said r → r ≡ refused n → n ≡ 2
-said-two r n (column b h) e = let z : _≡_ {A = ℕ} 0 1 = cc in absurd (omega arith)
-said-two r n two e = cc
 
 -- ---- what the answer of code tells
 is-taken : (r : Outcome Column) (c : code.Column) → judgedOf r ≡ answer.Taken c → r ≡ ok (fromCode c)
@@ -148,10 +132,10 @@ module _ (k : ℕ) (body : List ℕ) where
   pub taken : (c : code.Column) → judgedOf (columnOf k body) ≡ answer.Taken c → Taken c
   taken c h =
       let e = is-taken (columnOf k body) c h in
-      let l = said-limits (columnOf k body) (fromCode c) (said k body) e in
+      let l = column-limited k body (fromCode c) e in
       record { is-ok = e; in-limits = l; small = column-small (fromCode c) l }
 
   pub outside : (n : ℕ) → judgedOf (columnOf k body) ≡ answer.Refused n → (columnOf k body ≡ refused n) × (n ≡ 2)
   outside n h =
       let e = is-refused (columnOf k body) n h in
-      (e, said-two (columnOf k body) n (said k body) e)
+      (e, column-refused k body n e)

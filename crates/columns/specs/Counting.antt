@@ -4,7 +4,7 @@ use mathlib.Core.List.{List}
 use Prim.Native.Nat.{ℕ, _*_, _≤_}
 use lib.ListN.{length}
 use Rattle.rules.specs.Columns.{Column, entriesIn, publishedIn, largestIn}
-use Rattle.rules.specs.Circuit.{gatesIn, testsIn}
+use Rattle.rules.specs.Circuit.{constantsIn, addsIn, scalesIn, gatesIn, testsIn}
 use Rattle.columns.specs.declared.Counts.{Counts}
 
 abbrev pub countsOf : List Column → Counts
@@ -13,6 +13,9 @@ countsOf cs =
       columns = length cs;
       entries = entriesIn cs;
       published = publishedIn cs;
+      constants = constantsIn cs;
+      adds = addsIn cs;
+      scales = scalesIn cs;
       gates = gatesIn cs;
       tests = testsIn cs;
       largest = largestIn cs;
@@ -23,6 +26,9 @@ pub record Small (e : ℕ) (c : Counts) : Type 0 where
   pub entries-most : c .entries ≤ e
   pub columns-most : c .columns ≤ c .entries
   pub published-most : c .published ≤ c .entries
+  pub constants-most : c .constants ≤ c .entries
+  pub adds-most : c .adds ≤ 2 * c .entries
+  pub scales-most : c .scales ≤ c .entries
   pub gates-most : c .gates ≤ c .entries
   pub tests-many : c .columns ≤ c .tests
   pub tests-most : c .tests ≤ 2 * c .entries

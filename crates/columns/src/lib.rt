@@ -4,26 +4,31 @@ ghost use mathlib.Core.Path.{_≡_};
 ghost use mathlib.Core.List.{[], _∷_};
 ghost use Prim.Native.Nat.{_+_, _^_, _≤_};
 ghost use lib.ListN.{length};
-ghost use Rattle.rules.specs.Columns.{choice, number, within, limitedColumn, columnOf, largestOf};
+ghost use Rattle.rules.specs.Columns.{choice, number, top, bitLength, within, limitedColumn, columnOf, largestOf};
 ghost use Rattle.rules.proofs.Circuits.Limits.{InLimits};
 ghost use Rattle.columns.specs.Counting.{countsOf};
 ghost use Rattle.columns.specs.Kinds.{bytesOfKind, judgedOf, fromCode};
 
-// What columns come to: entries, published entries, multiplications and tests, and their largest value.
+// What columns come to: entries, published entries, the steps of their circuit by kind (there is one entry step for each
+// entry, and wire 0 is not of a column), and their largest value.
 pub struct Counts {
     pub columns: usize,
     pub entries: usize,
     pub published: usize,
+    pub constants: usize,
+    pub adds: usize,
+    pub scales: usize,
     pub gates: usize,
     pub tests: usize,
     pub largest: u32,
 }
 
-// A column: yes/no, a choice of so many options, a number of so many bits.
+// A column: yes/no, a choice of so many options, a number of so many bits, a number up to a top.
 pub enum Column {
     YesNo,
     Choice(usize),
     Number(usize),
+    Top(u32),
 }
 
 // What a record says: a column, or the number of its refusal.
@@ -40,6 +45,9 @@ pub fn none() -> Counts
         columns: 0,
         entries: 0,
         published: 0,
+        constants: 0,
+        adds: 0,
+        scales: 0,
         gates: 0,
         tests: 0,
         largest: 0,
@@ -58,6 +66,9 @@ pub fn bytes_of(kind: u8) -> usize
     }
     if kind == 19 {
         return 2;
+    }
+    if kind == 20 {
+        return 5;
     }
     0
 }
@@ -88,6 +99,19 @@ fn number_of(n: usize) -> Judged
     Judged::Taken(Column::Number(n))
 }
 
+// A number up to n.
+fn top_of(n: u32) -> Judged
+    ensures { λ r. ⌜ r ≡ judgedOf (limitedColumn (within 1 16777215 n) (top n)) ⌝ }
+{
+    if n < 1 {
+        return Judged::Refused(2);
+    }
+    if 16777215 < n {
+        return Judged::Refused(2);
+    }
+    Judged::Taken(Column::Top(n))
+}
+
 fn wide(n: u8) -> usize
     ensures { λ r. ⌜ r ≡ n ⌝ }
 {
@@ -105,7 +129,10 @@ pub fn column_of(kind: u8, body: &[u8]) -> Judged
     if kind == 18 {
         return choice_of(wide(body[0]));
     }
-    number_of(wide(body[0]))
+    if kind == 19 {
+        return number_of(wide(body[0]));
+    }
+    top_of(words::read_u32(body, 0))
 }
 
 // 2 to the n.
@@ -125,6 +152,69 @@ pub fn largest_of(column: Column) -> u32
         Column::YesNo => 1,
         Column::Choice(_) => 1,
         Column::Number(n) => power(n) - 1,
+        Column::Top(n) => n,
+    }
+}
+
+// The bit length of a top.
+pub fn bit_length(n: u32) -> usize
+    requires { ⌜ (1 ≤ n) × (n ≤ 16777215) ⌝ }
+    ensures { λ r. ⌜ r ≡ bitLength n ⌝ }
+{
+    (32 - u32::leading_zeros(n)) as usize
+}
+
+// What a choice of n options comes to.
+fn choice_counts(n: usize, largest: u32) -> Counts
+    requires { ⌜ (n ≤ 64) × (largest ≡ largestOf (choice n)) ⌝ }
+    ensures { λ r. ⌜ r ≡ countsOf (choice n ∷ []) ⌝ }
+{
+    Counts {
+        columns: 1,
+        entries: n,
+        published: n,
+        constants: 0,
+        adds: n + n,
+        scales: 0,
+        gates: n,
+        tests: n + 1,
+        largest,
+    }
+}
+
+// What a number of n bits comes to.
+fn number_counts(n: usize, largest: u32) -> Counts
+    requires { ⌜ (n ≤ 24) × (largest ≡ largestOf (number n)) ⌝ }
+    ensures { λ r. ⌜ r ≡ countsOf (number n ∷ []) ⌝ }
+{
+    Counts {
+        columns: 1,
+        entries: n + 1,
+        published: 1,
+        constants: 0,
+        adds: n + n,
+        scales: n + 1,
+        gates: n,
+        tests: n + 1,
+        largest,
+    }
+}
+
+// What a number up to n comes to, where n has b bits.
+fn top_counts(b: usize, n: u32) -> Counts
+    requires { ⌜ (b ≤ 24) × (b ≡ bitLength n) ⌝ }
+    ensures { λ r. ⌜ r ≡ countsOf (top n ∷ []) ⌝ }
+{
+    Counts {
+        columns: 1,
+        entries: 2 * b + 1,
+        published: 1,
+        constants: 1,
+        adds: 4 * b + 1,
+        scales: 2 * b + 1,
+        gates: 2 * b,
+        tests: 2 * b + 2,
+        largest: n,
     }
 }
 
@@ -139,25 +229,15 @@ pub fn counts_of(column: Column) -> Counts
             columns: 1,
             entries: 1,
             published: 1,
+            constants: 0,
+            adds: 1,
+            scales: 0,
             gates: 1,
             tests: 1,
             largest,
         },
-        Column::Choice(n) => Counts {
-            columns: 1,
-            entries: n,
-            published: n,
-            gates: n,
-            tests: n + 1,
-            largest,
-        },
-        Column::Number(n) => Counts {
-            columns: 1,
-            entries: n + 1,
-            published: 1,
-            gates: n,
-            tests: n + 1,
-            largest,
-        },
+        Column::Choice(n) => choice_counts(n, largest),
+        Column::Number(n) => number_counts(n, largest),
+        Column::Top(n) => top_counts(bit_length(n), n),
     }
 }

@@ -1,12 +1,14 @@
 -- `columns::column_of` meets its contract: each kind is one case of the definition, and its body has the bytes that are
 -- read. Assumes nothing.
-use mathlib.Core.Path.{refl}
+use mathlib.Core.Path.{_≡_, refl}
 use native.Mathlib.Omega.{arith}
 use borrow.Author.Needs.{needs}
 use borrow.Author.Tests.{eq-eqb, ne-eqb}
+use lib.ListN.{length}
+use lib.Seq.{take-all}
 use Rattle.rules.specs.Columns.{columnOf}
 use Rattle.columns.specs.Kinds.{judgedOf}
-use Rattle.columns.proofs.ColumnBytes.{body-some}
+use Rattle.columns.proofs.ColumnBytes.{body-some, body-four}
 use Rattle.columns.proofs.column_of.Statement.{statement}
 use Rattle.columns.proofs.column_of.Tie as tie
 
@@ -33,7 +35,7 @@ returns-2 c =
 
 shared-slice-read-wide-2 : tie.Need-shared-slice-read-wide-2
 shared-slice-read-wide-2 c =
-    let i = c .before .before in
+    let i = c .before .before .before in
     omega (arith, body-some _ _ (i .if1 .left) (i .before .before .pre))
 
 wide-requires-2 : tie.Need-wide-requires-2
@@ -46,7 +48,39 @@ returns-3 : tie.Need-returns-3
 unfolding columnOf
 returns-3 c =
     let i = c .before .before .before in
-    rw (c .number-of .ensures, c .before .wide2 .ensures, ne-eqb _ 17 (i .before .if1 .left), ne-eqb _ 18 (i .if2 .left))
+    rw (
+      c .number-of .ensures,
+      c .before .wide2 .ensures,
+      ne-eqb _ 17 (i .before .before .if1 .left),
+      ne-eqb _ 18 (i .before .if2 .left),
+      eq-eqb _ 19 (i .if3 .taken),
+    )
+
+-- the body of a top has four bytes
+four : (c : tie.Else3) → length (c .before .before .before .before .args .body .now) ≡ 4
+four c =
+    let i = c .before .before in
+    body-four _ _ (i .if1 .left) (i .before .before .pre) (c .before .if2 .left) (c .if3 .left)
+
+read-u32-requires : tie.Need-read-u32-requires
+read-u32-requires c κs = omega (arith, four c)
+
+top-of-requires : tie.Need-top-of-requires
+top-of-requires c κs = search needs
+
+returns-4 : tie.Need-returns-4
+unfolding columnOf
+returns-4 c =
+    let o = c .before .before in
+    let i = o .before .before in
+    rw (
+      c .top-of .ensures,
+      c .before .read-u32 .ensures,
+      take-all 4 (i .before .before .args .body .now) (omega (arith, four o)),
+      ne-eqb _ 17 (i .if1 .left),
+      ne-eqb _ 18 (o .before .if2 .left),
+      ne-eqb _ 19 (o .if3 .left),
+    )
 
 pub column-of-spec : {M : Type 1} → statement M
 column-of-spec =
@@ -60,4 +94,7 @@ column-of-spec =
     shared-slice-read-wide-2
     wide-requires-2
     number-of-requires
-    returns-3)
+    returns-3
+    read-u32-requires
+    top-of-requires
+    returns-4)

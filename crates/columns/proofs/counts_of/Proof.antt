@@ -1,10 +1,11 @@
 -- `columns::counts_of` meets its contract: each arm is one case of the counts. Assumes nothing.
-use mathlib.Core.Path.{refl}
-use native.Mathlib.Numerals.{add-one}
+use mathlib.Core.Path.{refl, ap, _∙_}
 use native.Mathlib.Omega.{arith}
 use borrow.Author.Needs.{needs}
-use Rattle.rules.specs.Columns.{entriesOf, publishedOf}
-use Rattle.rules.specs.Circuit.{gatesOf, testsOf}
+use Rattle.rules.specs.Columns.{entriesOf, publishedOf, largestOf}
+use Rattle.rules.specs.Circuit.{constantsOf, addsOf, scalesOf, gatesOf, testsOf}
+use Rattle.rules.proofs.Circuits.BitLength.{bit-length}
+use Rattle.columns.specs.Kinds.{fromCode}
 use Rattle.columns.proofs.Taken.{counts-one}
 use Rattle.columns.proofs.counts_of.Statement.{statement}
 use Rattle.columns.proofs.counts_of.Tie as tie
@@ -18,35 +19,49 @@ enum-told c = search needs
 enum-known-column : tie.Need-enum-known-column
 enum-known-column c = search needs
 
-add-t6 : tie.Need-add-t6
-add-t6 c = let l = rw (c .before .column .given .1) at (c .before .before .before .before .pre) in omega arith
-
-add-t7 : tie.Need-add-t7
-add-t7 c = let l = rw (c .before .column2 .given .1) at (c .before .before .before .before .pre) in omega arith
+choice-counts-requires : tie.Need-choice-counts-requires
+choice-counts-requires c κs =
+    let o = c .before in
+    let l = rw (o .column .given .1) at (o .before .before .before .pre) in
+    (l .1, rw (o .column .given .1) at (o .before .before .largest-of .ensures))
 
 enum-known-column-2 : tie.Need-enum-known-column-2
 enum-known-column-2 c = search needs
 
-add-t8 : tie.Need-add-t8
-add-t8 c = let l = rw (c .before .column2 .given .1) at (c .before .before .before .before .pre) in omega arith
+number-counts-requires : tie.Need-number-counts-requires
+number-counts-requires c κs =
+    let o = c .before in
+    let l = rw (o .column2 .given .1) at (o .before .before .before .pre) in
+    (l .1, rw (o .column2 .given .1) at (o .before .before .largest-of .ensures))
+
+enum-known-column-3 : tie.Need-enum-known-column-3
+enum-known-column-3 c = search needs
+
+bit-length-requires : tie.Need-bit-length-requires
+bit-length-requires c κs = let o = c .before in rw (o .column3 .given .1) at (o .before .before .before .pre)
+
+top-counts-requires : tie.Need-top-counts-requires
+top-counts-requires c κs =
+    let o = c .before .before in
+    let l = rw (o .column3 .given .1) at (o .before .before .before .pre) in
+    let b = bit-length _ (l .0) (l .1) in
+    let e = c .bit-length .ensures in
+    (omega (arith, e, b .bits-most), e)
 
 returns : tie.Need-returns
-unfolding entriesOf publishedOf gatesOf testsOf
+unfolding entriesOf publishedOf constantsOf addsOf scalesOf gatesOf testsOf
 returns c =
     let l = c .before .before .largest-of .ensures in
     rw (counts-one _, l, c .enum-told .given .1) refl
 
 returns-2 : tie.Need-returns-2
-unfolding entriesOf publishedOf gatesOf testsOf
-returns-2 c =
-    let l = c .before .before .before .largest-of .ensures in
-    rw (counts-one _, l, c .before .column .given .1) refl
+returns-2 c = rw (c .before .before .column .given .1) (c .choice-counts .ensures)
 
 returns-3 : tie.Need-returns-3
-unfolding entriesOf publishedOf gatesOf testsOf
-returns-3 c =
-    let l = c .before .before .before .largest-of .ensures in
-    rw (counts-one _, l, c .before .column2 .given .1, add-one) refl
+returns-3 c = rw (c .before .before .column2 .given .1) (c .number-counts .ensures)
+
+returns-4 : tie.Need-returns-4
+returns-4 c = rw (c .before .before .before .column3 .given .1) (c .top-counts .ensures)
 
 pub counts-of-spec : {M : Type 1} → statement M
 counts-of-spec =
@@ -55,10 +70,13 @@ counts-of-spec =
     largest-of-requires
     enum-told
     enum-known-column
-    add-t6
+    choice-counts-requires
     enum-known-column-2
-    add-t7
-    add-t8
+    number-counts-requires
+    enum-known-column-3
+    bit-length-requires
+    top-counts-requires
     returns
     returns-2
-    returns-3)
+    returns-3
+    returns-4)

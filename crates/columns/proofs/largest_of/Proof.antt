@@ -23,6 +23,9 @@ power-requires c κs = (rw (c .before .column .given .1) at (c .before .before .
 sub-result : tie.Need-sub-result
 sub-result c = omega (arith, c .power .ensures, pow-pos (c .before .before .column .given .0 .0))
 
+enum-known-column-2 : tie.Need-enum-known-column-2
+enum-known-column-2 c = search needs
+
 returns : tie.Need-returns
 unfolding largestOf
 returns c = rw (c .enum-told .given .1) refl
@@ -35,7 +38,21 @@ returns-3 : tie.Need-returns-3
 unfolding largestOf
 returns-3 c = rw (c .before .before .column .given .1) (ap (λ (x : ℕ). x - 1) (c .power .ensures))
 
+returns-4 : tie.Need-returns-4
+unfolding largestOf
+returns-4 c = rw (c .before .column2 .given .1) refl
+
 pub largest-of-spec : {M : Type 1} → statement M
 largest-of-spec =
     tie.close
-    (tie.spec enum-told enum-told-2 enum-known-column power-requires sub-result returns returns-2 returns-3)
+    (tie.spec
+    enum-told
+    enum-told-2
+    enum-known-column
+    power-requires
+    sub-result
+    enum-known-column-2
+    returns
+    returns-2
+    returns-3
+    returns-4)

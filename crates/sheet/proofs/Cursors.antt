@@ -1,13 +1,12 @@
 -- Laws of the cursor over the columns of a sheet that is read: where it starts, goes on and ends, the bytes that stand under
 -- it, and that no count passes the sheet's. A loop keeps `c ≡ cursorAt s (c .index)` by them.
 -- Assumes that the sheet is read, where it is said.
-use mathlib.Core.Path.{_≡_, sym, ap, _∙_, subst}
-use mathlib.Core.List.{List, _∷_, _++_}
-use Prim.Native.Nat.{ℕ, suc, _+_, _-_, _≤_, _<_}
-use native.Mathlib.Numerals.{add-one}
+use mathlib.Core.Path.{_≡_, sym, subst}
+use mathlib.Core.List.{List}
+use Prim.Native.Nat.{ℕ, _+_, _-_, _≤_, _<_}
 use native.Mathlib.Omega.{arith}
-use lib.ListN.{length, getD, take, drop}
-use lib.Seq.{drop-cons, take-all}
+use lib.ListN.{length, getD}
+use lib.Seq.{take-all}
 use Rattle.algebra.proofs.Members.{all-getD}
 use Rattle.words.specs.Bytes.{part}
 use Rattle.records.specs.Outcome.{ok}
@@ -15,12 +14,11 @@ use Rattle.rules.specs.Columns.{Column, yesNo, columnOf, entriesOf, publishedOf
 use Rattle.rules.specs.Columns.{readSheet, columnsOf}
 use Rattle.rules.specs.Circuit.{gatesOf, gatesIn}
 use Rattle.rules.proofs.Circuits.Limits.{InLimits, limits}
-use Rattle.columns.specs.Kinds.{bytesOfKind, columnBytes}
+use Rattle.columns.specs.Kinds.{bytesOfKind}
 use Rattle.columns.proofs.Sums.{entries, published, gates, total-next, total-most}
-use Rattle.columns.proofs.ColumnBytes.{bytes-some, told}
 use Rattle.sheet.specs.declared.cursor.Cursor.{Cursor}
-use Rattle.sheet.specs.Cursor.{sheetBytes, cursorAt, Stands}
-use Rattle.sheet.proofs.SheetBytes.{sheet-bytes, bytes, bytes-from}
+use Rattle.sheet.specs.Cursor.{cursorAt, Stands}
+use Rattle.sheet.proofs.SheetBytes.{placed, bytes}
 
 -- ---- what stands under a cursor
 pub record Place (s : List ℕ) (c : Cursor) : Type 0 where
@@ -53,19 +51,11 @@ module _ (s : List ℕ) (is-read : readSheet s ≡ ok (columnsOf s)) where
   unfolding cs
   place-at k h =
       let m = limits s cs is-read in
-      let a = getD cs k yesNo in
-      let at = length (sheetBytes (take k cs)) in
-      let w : InLimits a = all-getD yesNo (m .in-limits) k h in
-      let b = sheet-bytes s cs is-read in
-      let long : length s ≡ length (sheetBytes cs) = ap length b in
-      let within : at < length s = omega (arith, bytes-some a, total-most bytes cs k h) in
-      let u : drop at s ≡ columnBytes a ++ sheetBytes (drop (suc k) cs) = ap (drop at) b ∙ bytes-from cs k h in
-      let v : drop at s ≡ getD s at 0 ∷ drop (at + 1) s = rw add-one (drop-cons s at 0 within) in
-      let t = told a w (getD s at 0) (drop (at + 1) s) (sheetBytes (drop (suc k) cs)) (sym v ∙ u) in
+      let t = placed s cs is-read .told k h in
       record {
-        in-limits = w;
-        size-some = omega (arith, t .size-is, bytes-some a);
-        size-fits = omega (arith, t .size-is, total-most bytes cs k h);
+        in-limits = all-getD yesNo (m .in-limits) k h;
+        size-some = t .size-some;
+        size-fits = t .size-fits;
         index-fits = omega (arith, m .columns-most, m .entries-most);
         entries-fit = total-most entries cs k h;
         published-fit = total-most published cs k h;
@@ -94,7 +84,7 @@ module _ (s : List ℕ) (is-read : readSheet s ≡ ok (columnsOf s)) where
         published = publishedIn (columnsOf s);
         gates = gatesIn (columnsOf s);
       }
-  cursor-end k h = rw (take-all k (columnsOf s) h, ← sheet-bytes s (columnsOf s) is-read)
+  cursor-end k h = rw (take-all k (columnsOf s) h, placed s (columnsOf s) is-read .long)
 
 pub place : {s : List ℕ} {c : Cursor} → Stands s c → Place s c
 place {s} {c} t = subst (Place s) (sym (t .here)) (place-at s (t .is-read) (c .index) (t .within))

@@ -1,27 +1,28 @@
 -- A cursor over the columns of a sheet: where column k stands in the sheet's bytes, and what the columns before it come to.
 -- Assumes nothing.
 use mathlib.Core.Path.{_≡_}
-use mathlib.Core.List.{List, [], _∷_, _++_}
+use mathlib.Core.List.{List, [], _∷_}
 use Prim.Native.Nat.{ℕ, _+_, _<_}
 use lib.ListN.{length, getD, take}
 use Rattle.records.specs.Outcome.{ok}
 use Rattle.rules.specs.Columns.{Column, yesNo, entriesIn, publishedIn, readSheet, columnsOf}
 use Rattle.rules.specs.Circuit.{gatesIn}
-use Rattle.columns.specs.Kinds.{columnBytes, toCode}
+use Rattle.rules.proofs.Circuits.Limits.{recordSize}
+use Rattle.columns.specs.Kinds.{toCode}
 use Rattle.sheet.specs.declared.cursor.Cursor.{Cursor}
 use Rattle.sheet.specs.declared.cursor.Step.{Step}
 
--- the bytes of columns
-unfoldable pub sheetBytes : List Column → List ℕ
-sheetBytes [] = []
-sheetBytes (c ∷ cs) = columnBytes c ++ sheetBytes cs
+-- the number of bytes of columns
+unfoldable pub bytesIn : List Column → ℕ
+bytesIn [] = 0
+bytesIn (c ∷ cs) = recordSize c + bytesIn cs
 
 -- ---- the cursor before column k
 abbrev pub cursorOf : List Column → ℕ → Cursor
 cursorOf cs k =
     record {
       index = k;
-      at = length (sheetBytes (take k cs));
+      at = bytesIn (take k cs);
       entry = entriesIn (take k cs);
       published = publishedIn (take k cs);
       gates = gatesIn (take k cs);

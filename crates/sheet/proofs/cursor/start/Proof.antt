@@ -2,12 +2,12 @@
 use mathlib.Core.Path.{refl}
 use Rattle.rules.specs.Columns.{entriesIn, publishedIn}
 use Rattle.rules.specs.Circuit.{gatesIn}
-use Rattle.sheet.specs.Cursor.{sheetBytes}
+use Rattle.sheet.specs.Cursor.{bytesIn}
 use Rattle.sheet.proofs.cursor.start.Statement.{statement}
 use Rattle.sheet.proofs.cursor.start.Tie as tie
 
 returns : tie.Need-returns
-unfolding sheetBytes entriesIn publishedIn gatesIn
+unfolding bytesIn entriesIn publishedIn gatesIn
 returns c = refl
 
 pub start-spec : {M : Type 1} → statement M

@@ -3,22 +3,22 @@
 use mathlib.Core.Path.{_≡_, refl, sym, ap, ap₂, _∙_}
 use mathlib.Core.Bool.{true, _&&_}
 use mathlib.Core.List.{List, [], _∷_, _++_, append-assoc, append-nil}
-use Prim.Native.Nat.{ℕ, zero, suc, _+_, _*_, _/_, _≤_, _<_}
+use Prim.Native.Nat.{ℕ, zero, suc, _+_, _-_, _*_, _/_, _%_, _^_, _≤_, _<_}
 use native.Mathlib.Nat.{mul-div-right}
 use native.Mathlib.Numerals.{add-one}
 use native.Mathlib.Omega.{arith}
-use borrow.Author.Tests.{eq-eqb, ne-eqb}
+use borrow.Author.Tests.{eq-eqb, ne-eqb, lt-ltb, le-ltb}
 use lib.Dec.{ltb, lit<}
 use lib.ListN.{length, getD, take, drop, set, length-append, drop-of-length-le}
 use lib.Seq.{drop-cons}
 use Rattle.algebra.specs.Lists.{tabulate}
-use Rattle.algebra.proofs.Tables.{tabulate-none, tabulate-next, length-tabulate}
+use Rattle.algebra.proofs.Tables.{tabulate-none, tabulate-next, tabulate-front, tabulate-append, tabulate-cong, length-tabulate}
 use Rattle.words.specs.Bytes.{splice, elementsOf}
 use Rattle.words.proofs.Elements.{length-elements}
 use Rattle.words.proofs.Splice.{splice-none, length-splice}
 use Rattle.words.proofs.Loops.{sets-splice, grow}
-use Rattle.rules.specs.Columns.{Column, yesNo, entriesOf, valuesOf, entriesIn, check}
-use Rattle.rules.specs.Values.{encoded, legalValues, encoding}
+use Rattle.rules.specs.Columns.{Column, yesNo, number, top, bitLength, entriesOf, valuesOf, entriesIn, check}
+use Rattle.rules.specs.Values.{twoNumbers, encoded, legalValues, encoding}
 use Rattle.rules.specs.Making.{valuesFault}
 
 -- ---- a table put into the buffer d from place a
@@ -38,6 +38,33 @@ module _ (f : ℕ → ℕ) (d : List ℕ) (a : ℕ) where
 
   pub put-all : (l : List ℕ) (i n : ℕ) → n ≤ i → i ≤ n → l ≡ splice d a (tabulate f i) → l ≡ splice d a (tabulate f n)
   put-all l i n h k e = let q : i ≡ n = omega arith in e ∙ ap (λ (j : ℕ). splice d a (tabulate f j)) q
+
+-- ---- one column
+-- a number and its bits
+pub number-entries : (n v : ℕ) → tabulate (encoded (number n) v) (suc n) ≡ v ∷ tabulate (λ j. v / 2 ^ j % 2) n
+unfolding encoded
+number-entries n v = tabulate-front (encoded (number n) v) n
+
+-- a number, its bits, and those of what the top n, of b bits, has past it
+module _ (n v b : ℕ) (long : b ≡ bitLength n) where
+  first-bits : (i : ℕ) → i < suc b → encoded (top n) v i ≡ encoded (number b) v i
+  unfolding encoded twoNumbers
+  first-bits zero h = refl
+  first-bits (suc j) h = rw (← long, lt-ltb j b (omega arith)) refl
+
+  second-bits : (i : ℕ) → i < b → encoded (top n) v (suc b + i) ≡ (n - v) / 2 ^ i % 2
+  unfolding encoded twoNumbers
+  second-bits i h =
+      let place : suc b + i ≡ suc (b + i) = omega arith in
+      let back : b + i - b ≡ i = omega arith in
+      rw (place, ← long, le-ltb (b + i) b (omega arith), back) refl
+
+  pub top-entries : tabulate (encoded (top n) v) (suc (2 * b))
+      ≡ tabulate (encoded (number b) v) (suc b) ++ tabulate (λ j. (n - v) / 2 ^ j % 2) b
+  top-entries =
+      let size : suc (2 * b) ≡ suc b + b = omega arith in
+      ap (tabulate (encoded (top n) v)) size ∙ tabulate-append (encoded (top n) v) (suc b) b
+      ∙ ap₂ _++_ (tabulate-cong _ _ (suc b) first-bits) (tabulate-cong _ _ b second-bits)
 
 -- ---- column by column
 pub encoding-next : (cs : List Column) (vs : List ℕ) (k : ℕ) → k < length cs → k < length vs

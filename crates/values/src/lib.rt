@@ -1,18 +1,19 @@
 // The values of a return: whether there is one for each column, within it, and their encoding as the sheet's entries.
 ghost use mathlib.Core.Path.{_≡_};
 ghost use mathlib.Core.Bool.{cond};
-ghost use Prim.Native.Nat.{_+_, _/_, _%_, _^_, _≤_};
+ghost use Prim.Native.Nat.{_+_, _-_, _/_, _%_, _^_, _≤_};
 ghost use lib.Dec.{eqb};
 ghost use lib.ListN.{length};
 ghost use Rattle.algebra.specs.Lists.{tabulate};
 ghost use Rattle.words.specs.Bytes.{splice};
-ghost use Rattle.rules.specs.Columns.{choice, entriesOf, valuesOf, columnsOf};
+ghost use Rattle.rules.specs.Columns.{choice, number, top, entriesOf, valuesOf, columnsOf};
 ghost use Rattle.rules.specs.Values.{encoded};
 ghost use Rattle.rules.specs.Making.{valuesFault};
 ghost use Rattle.rules.proofs.Circuits.Limits.{InLimits};
 ghost use Rattle.columns.specs.Kinds.{fromCode};
 ghost use Rattle.values.specs.Encode.{encodeRefusal, encodedInto, Encoded, HasColumns, Encodable};
 use columns::Column;
+use columns::bit_length;
 use columns::power;
 use sheet::Reading;
 use sheet::cursor::next;
@@ -28,6 +29,7 @@ pub fn values_of(column: Column) -> u32
         Column::YesNo => 2,
         Column::Choice(n) => n as u32,
         Column::Number(n) => power(n),
+        Column::Top(n) => n + 1,
     }
 }
 
@@ -86,9 +88,38 @@ fn write_bits(out: &mut [u32], at: usize, n: usize, v: u32)
     }
 }
 
+// v from `at`, and its n lowest bits behind it.
+fn write_number(out: &mut [u32], at: usize, n: usize, v: u32)
+    requires { ⌜ at + entriesOf (number n) ≤ length (now out) ⌝ }
+    ensures { λ _. ⌜ now (out .exit) ≡ splice (now (out .entry)) at (tabulate (encoded (number n) v) (entriesOf (number n))) ⌝ }
+{
+    out[at] = v;
+    write_bits(out, at + 1, n, v);
+}
+
+// What n has past v; 0 where v is past n.
+fn rest(n: u32, v: u32) -> u32
+    ensures { λ r. ⌜ r ≡ n - v ⌝ }
+{
+    if v < n {
+        return n - v;
+    }
+    0
+}
+
+// v from `at`, its bits and those of n - v behind it, as many of each as n has.
+fn write_top(out: &mut [u32], at: usize, n: u32, v: u32)
+    requires { ⌜ (at + entriesOf (top n) ≤ length (now out)) × InLimits (top n) ⌝ }
+    ensures { λ _. ⌜ now (out .exit) ≡ splice (now (out .entry)) at (tabulate (encoded (top n) v) (entriesOf (top n))) ⌝ }
+{
+    let b = bit_length(n);
+    write_number(out, at, b, v);
+    write_bits(out, at + 1 + b, b, rest(n, v));
+}
+
 // The entries of one column from `at`.
 fn encode_column(column: Column, v: u32, out: &mut [u32], at: usize)
-    requires { ⌜ at + entriesOf (fromCode column) ≤ length (now out) ⌝ }
+    requires { ⌜ (at + entriesOf (fromCode column) ≤ length (now out)) × InLimits (fromCode column) ⌝ }
     ensures { λ _. ⌜ now (out .exit) ≡ splice (now (out .entry)) at (tabulate (encoded (fromCode column) v) (entriesOf (fromCode column))) ⌝ }
 {
     match column {
@@ -99,8 +130,10 @@ fn encode_column(column: Column, v: u32, out: &mut [u32], at: usize)
             write_choice(out, at, n, v);
         }
         Column::Number(n) => {
-            out[at] = v;
-            write_bits(out, at + 1, n, v);
+            write_number(out, at, n, v);
+        }
+        Column::Top(n) => {
+            write_top(out, at, n, v);
         }
     }
 }

@@ -21,7 +21,7 @@ use Rattle.sheet.specs.declared.cursor.Step.{Step}
 use Rattle.sheet.specs.Cursor.{Stands, stepAt}
 use Rattle.values.specs.Encode.{Encodable}
 use Rattle.sheet.proofs.Cursors.{place}
-use Rattle.sheet.proofs.Walks.{Walks, walk-start, stands-by-place, walk-end, walk-next, next-index, column-seen}
+use Rattle.sheet.proofs.Walks.{Walks, walk-start, stands-by-place, walk-end, walk-next, next-index, column-seen, column-limited}
 use Rattle.values.proofs.Encodings.{count-values, encoding-next, encoding-long}
 use Rattle.values.proofs.encode_columns.Statement.{statement}
 use Rattle.values.proofs.encode_columns.Tie as tie
@@ -100,8 +100,9 @@ encode-column-requires c κs =
     let l = c .before .before .before .before .before in
     let z = l .before .before .before .before .before in
     let h = stands l (c .before .before .before .if1 .taken) in
-    let w = within _ _ (z .pre) h _ (c .before .before .next .ensures) in
-    omega (arith, w, l .loop .inv .2)
+    let e = c .before .before .next .ensures in
+    let w = within _ _ (z .pre) h _ e in
+    (omega (arith, w, l .loop .inv .2), column-limited h _ e)
 
 loop-less : tie.Need-loop-less Inv-loop μ-loop
 loop-less c =

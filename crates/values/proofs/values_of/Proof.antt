@@ -1,4 +1,5 @@
 -- `values::values_of` meets its contract: each arm is one case of the definition. Assumes nothing.
+use native.Mathlib.Numerals.{add-one}
 use native.Mathlib.Omega.{arith}
 use borrow.Author.Needs.{needs}
 use Rattle.rules.specs.Columns.{valuesOf}
@@ -22,6 +23,14 @@ enum-known-column-2 c = search needs
 power-requires : tie.Need-power-requires
 power-requires c κs = (rw (c .before .column2 .given .1) at (c .before .before .before .pre)) .1
 
+enum-known-column-3 : tie.Need-enum-known-column-3
+enum-known-column-3 c = search needs
+
+add-result : tie.Need-add-result
+add-result c =
+    let few = rw (c .before .column3 .given .1) at (c .before .before .before .pre) in
+    omega arith
+
 returns : tie.Need-returns
 unfolding valuesOf
 returns c = rw (c .enum-told .given .1)
@@ -34,7 +43,22 @@ returns-3 : tie.Need-returns-3
 unfolding valuesOf
 returns-3 c = rw (c .before .before .column2 .given .1) (c .power .ensures)
 
+returns-4 : tie.Need-returns-4
+unfolding valuesOf
+returns-4 c = rw (c .before .column3 .given .1) (add-one _)
+
 pub values-of-spec : {M : Type 1} → statement M
 values-of-spec =
     tie.close
-    (tie.spec enum-told enum-known-column cast-result enum-known-column-2 power-requires returns returns-2 returns-3)
+    (tie.spec
+    enum-told
+    enum-known-column
+    cast-result
+    enum-known-column-2
+    power-requires
+    enum-known-column-3
+    add-result
+    returns
+    returns-2
+    returns-3
+    returns-4)

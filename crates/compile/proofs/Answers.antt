@@ -66,6 +66,6 @@ module _ (s : List ℕ) where
       let l = limits s (columnsOf s) is-read in
       rw e (columns-small 256 (columnsOf s) (l .in-limits) (l .entries-most))
 
-  pub size-is : (c : Counts) → c ≡ countsOf (columnsOf s) → stepsSize 1 c ≡ length (sheetCircuit document01 s)
+  pub size-is : (c : Counts) → c ≡ countsOf (columnsOf s) → stepsSize c ≡ length (sheetCircuit document01 s)
   unfolding stepsSize circuitSize sheetCircuit
   size-is c e = rw (e, adds-made (columnsOf s), scales-made (columnsOf s)) (sym (circuit-size-is document01 (columnsOf s)))

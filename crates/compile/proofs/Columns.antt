@@ -1,8 +1,8 @@
 -- The bytes of a column's steps, run by run as they are written, and of a sheet's circuit, column by column; and how many
 -- there are. Assumes that the sheet is read, where it is said.
-use mathlib.Core.Path.{_≡_, refl, ap, ap₂, _∙_}
+use mathlib.Core.Path.{_≡_, refl, sym, ap, ap₂, _∙_}
 use mathlib.Core.List.{List, [], _∷_, _++_, append-assoc, append-nil}
-use Prim.Native.Nat.{ℕ, suc, _+_, _*_, _<_}
+use Prim.Native.Nat.{ℕ, suc, _+_, _-_, _*_, _<_}
 use native.Mathlib.Nat.{add-assoc, add-zero, zero-add}
 use native.Mathlib.Numerals.{add-one}
 use native.Mathlib.Omega.{arith}
@@ -11,15 +11,16 @@ use lib.Seq.{take-suc}
 use Rattle.words.specs.Bytes.{bytesOf}
 use Rattle.words.proofs.Numbers.{length-bytes}
 use Rattle.rules.specs.Settings.{document01}
-use Rattle.rules.specs.Columns.{Column, yesNo, choice, number, entriesOf, entriesIn, columnsOf}
-use Rattle.rules.specs.Circuit.{Step, entry, scale, test, stepBytes, circuitBytes, bitChecks, optionAdds, optionSum, bitAdds}
-use Rattle.rules.specs.Circuit.{columnSteps, wiresOf, circuitFrom, circuitOf, wiresIn}
-use Rattle.rules.specs.Circuit.{addsOf, scalesOf, gatesOf, testsOf}
+use Rattle.rules.specs.Columns.{Column, yesNo, choice, number, top, bitLength, entriesOf, entriesIn, columnsOf}
+use Rattle.rules.specs.Circuit.{Step, constant, entry, add, scale, test, stepBytes, circuitBytes, bitChecks, optionAdds, optionSum}
+use Rattle.rules.specs.Circuit.{bitAdds, bitSum, topSums, topSteps, columnSteps, wiresOf, circuitFrom, circuitOf, wiresIn}
+use Rattle.rules.specs.Circuit.{constantsOf, addsOf, scalesOf, gatesOf, testsOf}
 use Rattle.rules.specs.CircuitReader.{sheetCircuit}
 use Rattle.rules.specs.Sizes.{weighed, columnSize}
 use Rattle.rules.proofs.Circuits.Size.{column-size}
 use Rattle.columns.proofs.Sums.{Total}
-use Rattle.compile.proofs.Runs.{bytes, bytes-none, bytes-append, bytes-one}
+use Rattle.compile.specs.Writing.{restSteps}
+use Rattle.compile.proofs.Runs.{bytes, bytes-none, bytes-next, bytes-append, bytes-one}
 
 -- ---- a column
 pub choice-is : (n e w : ℕ)
@@ -36,17 +37,40 @@ unfolding columnSteps
 number-is n e w =
     simp (add-one, bytes-append, bytes-one, append-assoc)
 
+-- the second sum of a top, and the whole column; b is the bit length, q the wire of v times p - 1, r that of the constant
+pub rest-is : (n b w q : ℕ)
+    → bytes (restSteps n b w q)
+    ≡ stepBytes document01 (constant (2147483647 - n)) ++ stepBytes document01 (add q w)
+    ++ bytes (bitAdds b (w + 1 + 3 * b) (q + 1) ++ (test (q + 1 + 2 * b) ∷ []))
+unfolding circuitBytes bitSum
+rest-is n b w q = sym (append-assoc (stepBytes document01 (constant (2147483647 - n))) (stepBytes document01 (add q w)) _)
+
+pub top-is : (n e w b q r : ℕ) → b ≡ bitLength n → q ≡ w + 1 + 6 * b → r ≡ q + 2 * b + 1
+    → bytes (columnSteps document01 e w (top n))
+    ≡ stepBytes document01 (entry e) ++ bytes (bitChecks (2 * b) (e + 1) (w + 1)) ++ stepBytes document01 (scale w 2147483646)
+    ++ bytes (bitAdds b (w + 1) q ++ (test (q + 2 * b) ∷ [])) ++ bytes (restSteps n b w r)
+unfolding columnSteps topSteps topSums bitSum
+top-is n e w b q r long first second =
+    let three : suc w + 3 * (2 * b) ≡ q = omega arith in
+    let last : suc (q + 2 * b) ≡ r = omega arith in
+    rw (← long, three, last)
+    (simp (add-one, bytes-next, bytes-append, bytes-none, append-assoc, append-nil))
+
 -- how many bytes a column's steps have, by the table of body lengths
 pub choice-size : (n : ℕ) → columnSize document01 (choice n) ≡ 21 * n + 3
-unfolding columnSize weighed entriesOf addsOf scalesOf gatesOf testsOf
+unfolding columnSize weighed entriesOf constantsOf addsOf scalesOf gatesOf testsOf
 choice-size n = omega arith
 
 pub number-size : (n : ℕ) → columnSize document01 (number n) ≡ 28 * n + 13
-unfolding columnSize weighed entriesOf addsOf scalesOf gatesOf testsOf
+unfolding columnSize weighed entriesOf constantsOf addsOf scalesOf gatesOf testsOf
 number-size n = omega arith
 
+pub top-size : (n b : ℕ) → b ≡ bitLength n → columnSize document01 (top n) ≡ 56 * b + 26
+unfolding columnSize weighed entriesOf constantsOf addsOf scalesOf gatesOf testsOf
+top-size n b e = omega arith
+
 pub yes-no-size : columnSize document01 yesNo ≡ 16
-unfolding columnSize weighed entriesOf addsOf scalesOf gatesOf testsOf
+unfolding columnSize weighed entriesOf constantsOf addsOf scalesOf gatesOf testsOf
 yes-no-size = refl
 
 -- ---- sums over columns

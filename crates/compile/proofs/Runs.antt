@@ -18,6 +18,10 @@ pub bytes-none : bytes [] ≡ []
 unfolding circuitBytes
 bytes-none = refl
 
+pub bytes-next : (k : Step) (ks : List Step) → bytes (k ∷ ks) ≡ stepBytes document01 k ++ bytes ks
+unfolding circuitBytes
+bytes-next k ks = refl
+
 pub bytes-append : (a b : List Step) → bytes (a ++ b) ≡ bytes a ++ bytes b
 unfolding circuitBytes
 bytes-append [] b = refl

@@ -53,7 +53,7 @@ module _ {s : List ℕ} {c : Cursor} (h : Stands s c) (r : Step) (e : r ≡ step
   pub record Room (now : List ℕ) (wire at : ℕ) : Type 0 where
     pub room : at + columnSize document01 (fromCode (r .column)) ≤ length now
     pub entry-most : c .entry ≤ 256
-    pub wire-most : wire + wiresOf (fromCode (r .column)) ≤ 1248
+    pub wire-most : wire + wiresOf (fromCode (r .column)) ≤ 1275
 
   pub wrote-room : {out now : List ℕ} {from wire at : ℕ} → from + length (sheetCircuit document01 s) ≤ length out + 5
       → Wrote s out from (c .index) wire now at → Room now wire at

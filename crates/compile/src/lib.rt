@@ -8,7 +8,7 @@ ghost use lib.ListN.{length};
 ghost use Rattle.words.specs.Bytes.{bytesOf};
 ghost use Rattle.records.specs.Outcome.{ok};
 ghost use Rattle.rules.specs.Settings.{document01};
-ghost use Rattle.rules.specs.Columns.{choice, number, readSheet, columnsOf};
+ghost use Rattle.rules.specs.Columns.{choice, number, top, bitLength, readSheet, columnsOf};
 ghost use Rattle.rules.specs.Circuit.{circuitBytes, bitCheck, bitChecks, optionAdds, optionSum, bitAdds, test};
 ghost use Rattle.rules.specs.Circuit.{columnSteps, wiresOf};
 ghost use Rattle.rules.specs.CircuitReader.{sheetCircuit};
@@ -16,9 +16,10 @@ ghost use Rattle.rules.proofs.Circuits.Limits.{InLimits};
 ghost use Rattle.rules.specs.Sizes.{columnSize};
 ghost use Rattle.columns.specs.Counting.{countsOf};
 ghost use Rattle.columns.specs.Kinds.{fromCode};
-ghost use Rattle.compile.specs.Writing.{Put, writtenOf, circuitIn};
+ghost use Rattle.compile.specs.Writing.{Put, restSteps, writtenOf, circuitIn};
 use columns::Column;
 use columns::Counts;
+use columns::bit_length;
 use columns::counts_of;
 use records::Written;
 use sheet::Reading;
@@ -145,6 +146,31 @@ fn put_number(out: &mut [u8], at: usize, n: u32, e: u32, w: u32) -> usize
     bit_sum(out, sum, n, w + 1, w + 1 + 3 * n)
 }
 
+// The second sum of a top `n` of `b` bits: the constant p - n, which is wire `q`, it and the entry wire `w`, the second bits.
+fn put_rest(out: &mut [u8], at: usize, n: u32, b: u32, w: u32, q: u32) -> usize
+    requires { ⌜ (at + (12 * b + 13) ≤ length (now out)) × (n ≤ 16777215) × (b ≤ 24) × (w < 16384) × (q < 32767) ⌝ }
+    ensures { λ r. ⌜ Put (now (out .entry)) at (12 * b + 13) (circuitBytes document01 (restSteps n b w q)) (now (out .exit)) r ⌝ }
+{
+    let sum = put_constant(out, at, field::P - n);
+    let bits = put_pair(out, sum, 3, q, w);
+    bit_sum(out, bits, b, w + 1 + 3 * b, q + 1)
+}
+
+// A number up to `n`, which has `b` bits; its first entry is `e`.
+fn put_top(out: &mut [u8], at: usize, n: u32, b: u32, e: u32, w: u32) -> usize
+    requires { ⌜ (at + columnSize document01 (top n) ≤ length (now out)) × (n ≤ 16777215) × (b ≡ bitLength n) × (b ≤ 24)
+        × (e < 16384) × (w < 16384) ⌝ }
+    ensures { λ r. ⌜ Put (now (out .entry)) at (columnSize document01 (top n))
+        (circuitBytes document01 (columnSteps document01 e w (top n))) (now (out .exit)) r ⌝ }
+{
+    let q = w + 1 + 6 * b;
+    let bits = put_one(out, at, 2, e);
+    let minus = bit_checks(out, bits, 2 * b, e + 1, w + 1);
+    let sum = put_scale(out, minus, w, field::P - 1);
+    let rest = bit_sum(out, sum, b, w + 1, q);
+    put_rest(out, rest, n, b, w, q + 2 * b + 1)
+}
+
 // The steps of a column, whose first entry is `e`.
 fn put_column(out: &mut [u8], at: usize, column: Column, e: u32, w: u32) -> usize
     requires { ⌜ (at + columnSize document01 (fromCode column) ≤ length (now out)) × InLimits (fromCode column) × (e < 16384) × (w < 16384) ⌝ }
@@ -155,6 +181,7 @@ fn put_column(out: &mut [u8], at: usize, column: Column, e: u32, w: u32) -> usiz
         Column::YesNo => bit_checks(out, at, 1, e, w),
         Column::Choice(n) => put_choice(out, at, n as u32, e, w),
         Column::Number(n) => put_number(out, at, n as u32, e, w),
+        Column::Top(n) => put_top(out, at, n, bit_length(n) as u32, e, w),
     }
 }
 

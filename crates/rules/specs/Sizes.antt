@@ -76,8 +76,8 @@ pub record ToldFromSheet (σ : Setting) (sheet : List ℕ) : Type 0 where
   -- its circuit is read, over its entries, with its numbers of multiplications and tests; kinds 1 to 5 make a wire each
   pub circuit-is-read : circuitFault σ (entriesIn (columnsOf sheet)) (sheetCircuit σ sheet) ≡ 0
   pub wires-are : sizesOf σ sheet .wires
-      ≡ suc (constantsIn (columnsOf sheet))
-      + (entriesIn (columnsOf sheet) + addsIn (columnsOf sheet) + scalesIn (columnsOf sheet) + gatesIn (columnsOf sheet))
+      ≡ 1 + (constantsIn (columnsOf sheet) + entriesIn (columnsOf sheet) + addsIn (columnsOf sheet) + scalesIn (columnsOf sheet)
+      + gatesIn (columnsOf sheet))
   pub multiplications-are : sizesOf σ sheet .multiplications ≡ gatesIn (columnsOf sheet)
   pub tests-are : sizesOf σ sheet .tests ≡ testsIn (columnsOf sheet)
   -- its bytes, counted by the table of body lengths

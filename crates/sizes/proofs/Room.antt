@@ -12,8 +12,7 @@ use Rattle.algebra.specs.Lists.{All, all[], all∷}
 use Rattle.rules.specs.Settings.{document01}
 use Rattle.rules.specs.Circuit.{addsIn, scalesIn, gatesIn, testsIn}
 use Rattle.rules.specs.CircuitReader.{bodyLengths}
-use Rattle.rules.specs.Columns.{Column, yesNo, choice, number, largestOf, entriesIn, publishedIn, largestIn, columnsOf}
-use Rattle.rules.specs.Columns.{mostReturns}
+use Rattle.rules.specs.Columns.{Column, yesNo, choice, number, top, largestOf, entriesIn, largestIn, columnsOf, mostReturns}
 use Rattle.rules.specs.Judging.{shareSize}
 use Rattle.rules.specs.Making.{shareLength}
 use Rattle.rules.specs.Sizes.{weighed, sizesOf, circuitSize}
@@ -50,15 +49,14 @@ pub length-is : {t : List ℕ} → BodyTable t → (k : ℕ) → k < 6 → getD 
 length-is h k l = simp unary-clauses at (h .rule (suc k) (omega arith) (omega arith))
 
 -- the steps of each kind, added up
-pub steps-are : (n : ℕ) (c : Counts)
-    → n * suc (lengthAt 0) + c .entries * suc (lengthAt 1) + addsMade c * suc (lengthAt 2) + scalesMade c * suc (lengthAt 3)
-    + c .gates * suc (lengthAt 4) + c .tests * suc (lengthAt 5) ≡ stepsSize n c
+pub steps-are : (c : Counts)
+    → (c .constants + 1) * suc (lengthAt 0) + c .entries * suc (lengthAt 1) + c .adds * suc (lengthAt 2) + c .scales * suc (lengthAt 3)
+    + c .gates * suc (lengthAt 4) + c .tests * suc (lengthAt 5) ≡ stepsSize c
 unfolding stepsSize weighed
-steps-are n c = omega arith
+steps-are c = omega arith
 
-pub adds-most : (c : Counts) → Small 256 c → addsMade c ≤ 768
-unfolding addsMade
-adds-most c h = omega arith
+pub steps-most : (c : Counts) → Small 256 c → stepsSize c ≤ 10000
+steps-most c h = omega (arith, steps-are c)
 
 pub scales-most : (c : Counts) → Small 256 c → scalesMade c ≤ 512
 unfolding scalesMade
@@ -87,6 +85,7 @@ column-value : (c : Column) → InLimits c → 1 ≤ largestOf c
 unfolding largestOf
 column-value yesNo h = omega arith
 column-value (choice n) h = omega arith
+column-value (top n) h = h .0
 column-value (number n) h = let p : 2 ^ 1 ≤ 2 ^ n = pow-le-pow-right (omega arith) (h .0) in omega arith
 
 some-value : (cs : List Column) → All InLimits cs → 1 ≤ entriesIn cs → 0 < largestIn cs

@@ -2,7 +2,7 @@
 -- Assumes nothing.
 use mathlib.Core.Bool.{cond}
 use mathlib.Core.List.{List, [], _∷_}
-use Prim.Native.Nat.{ℕ, _+_, _-_, _*_, _/_, min}
+use Prim.Native.Nat.{ℕ, suc, _+_, _-_, _*_, _/_, min}
 use lib.Dec.{eqb}
 use Rattle.rules.specs.Settings.{document01}
 use Rattle.rules.specs.Columns.{sheetFault, mostReturns}
@@ -14,22 +14,15 @@ use Rattle.sizes.specs.declared.Sizes.{Sizes}
 use Rattle.sizes.specs.declared.Told.{Told}
 use Rattle.sizes.specs.declared.Told.the-variants as answer
 
--- the additions and the products with a constant among the steps of columns with these counts
-unfoldable pub addsMade : Counts → ℕ
-addsMade c = c .gates + c .tests - c .columns
-
-unfoldable pub scalesMade : Counts → ℕ
-scalesMade c = 2 * c .entries - c .published - c .gates
-
--- the bytes of so many constants and the other steps of some columns
-unfoldable pub stepsSize : ℕ → Counts → ℕ
-stepsSize constants c =
+-- the bytes of the steps of some columns, and of a constant in front
+unfoldable pub stepsSize : Counts → ℕ
+stepsSize c =
     rules.weighed (bodyLengths document01)
-    (constants ∷ c .entries ∷ addsMade c ∷ scalesMade c ∷ c .gates ∷ c .tests ∷ [])
+    (suc (c .constants) ∷ c .entries ∷ c .adds ∷ c .scales ∷ c .gates ∷ c .tests ∷ [])
 
--- the wires that the steps of columns make: kinds 2 to 5 make one each
+-- the wires that the steps of columns make: kinds 1 to 5 make one each
 unfoldable pub wiresMade : Counts → ℕ
-wiresMade c = c .entries + addsMade c + scalesMade c + c .gates
+wiresMade c = c .constants + c .entries + c .adds + c .scales + c .gates
 
 -- the greatest N that opens, by the largest value of all columns
 unfoldable pub greatestOf : ℕ → ℕ
@@ -44,7 +37,7 @@ sizesFrom c = record {
   wires = 1 + wiresMade c;
   multiplications = c .gates;
   tests = c .tests;
-  circuit = stepsSize 1 c;
+  circuit = stepsSize c;
   share = 6 + 4 * sizeOf (c .entries) (c .gates);
   greatest = greatestOf (c .largest);
 }

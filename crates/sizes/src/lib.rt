@@ -41,30 +41,12 @@ fn kind_size(lengths: &[usize; 6], kind: usize, n: usize) -> usize
     n * (1 + lengths[kind])
 }
 
-// The additions among the steps of columns with these counts: one before each multiplication, which checks a bit, and one
-// for each term of a sum; the sums of a column have as many terms as the column has tests, less one.
-fn adds(c: Counts) -> usize
-    requires { ⌜ Small 256 c ⌝ }
-    ensures { λ r. ⌜ (r ≡ addsMade c) × (r ≤ 768) ⌝ }
+// The bytes of the steps of some columns, and of a constant in front.
+fn steps_size(lengths: &[usize; 6], c: Counts) -> usize
+    requires { ⌜ BodyTable (now lengths) × Small 256 c ⌝ }
+    ensures { λ r. ⌜ r ≡ stepsSize c ⌝ }
 {
-    c.gates + c.tests - c.columns
-}
-
-// The products with a constant: each entry that is not published is a bit and has one with its weight, each that no
-// multiplication checks is a number and has one with p - 1.
-fn scales(c: Counts) -> usize
-    requires { ⌜ Small 256 c ⌝ }
-    ensures { λ r. ⌜ (r ≡ scalesMade c) × (r ≤ 512) ⌝ }
-{
-    2 * c.entries - c.published - c.gates
-}
-
-// The bytes of so many constants and the other steps of some columns.
-fn steps_size(lengths: &[usize; 6], constants: usize, c: Counts) -> usize
-    requires { ⌜ BodyTable (now lengths) × (constants ≤ 256) × Small 256 c ⌝ }
-    ensures { λ r. ⌜ r ≡ stepsSize constants c ⌝ }
-{
-    kind_size(lengths, 0, constants)
+    kind_size(lengths, 0, c.constants + 1)
         + kind_size(lengths, 1, c.entries)
         + kind_size(lengths, 2, adds(c))
         + kind_size(lengths, 3, scales(c))
@@ -75,17 +57,17 @@ fn steps_size(lengths: &[usize; 6], constants: usize, c: Counts) -> usize
 // The bytes of the circuit of a sheet with these counts, which starts with a constant.
 pub fn circuit_size(c: Counts) -> usize
     requires { ⌜ Small 256 c ⌝ }
-    ensures { λ r. ⌜ r ≡ stepsSize 1 c ⌝ }
+    ensures { λ r. ⌜ r ≡ stepsSize c ⌝ }
 {
-    steps_size(&BODY_LENGTHS, 1, c)
+    steps_size(&BODY_LENGTHS, c)
 }
 
-// The wires that the steps of columns with these counts make: kinds 2 to 5 make one each.
+// The wires that the steps of columns with these counts make: kinds 1 to 5 make one each.
 pub fn columns_wires(c: Counts) -> u32
     requires { ⌜ Small 256 c ⌝ }
     ensures { λ r. ⌜ r ≡ wiresMade c ⌝ }
 {
-    (c.entries + adds(c) + scales(c) + c.gates) as u32
+    (c.constants + c.entries + c.adds + c.scales + c.gates) as u32
 }
 
 // The greatest N that opens, where the largest value of all columns is this.

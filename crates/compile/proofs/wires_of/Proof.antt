@@ -1,4 +1,4 @@
--- `compile::wires_of` meets its contract: a column's wires are those of its steps of kinds 2 to 5. Assumes nothing.
+-- `compile::wires_of` meets its contract: a column's wires are those of its steps of kinds 1 to 5. Assumes nothing.
 use mathlib.Core.Path.{_≡_, ap, _∙_}
 use mathlib.Core.List.{[], _∷_}
 use native.Mathlib.Omega.{arith}
@@ -8,7 +8,7 @@ use Rattle.rules.specs.Circuit.{wiresOf}
 use Rattle.rules.proofs.Tables.RoomTold.{column-wires}
 use Rattle.columns.specs.Counting.{countsOf}
 use Rattle.columns.specs.Kinds.{fromCode}
-use Rattle.columns.proofs.Sums.{entries, adds, scales, gates, total-one}
+use Rattle.columns.proofs.Sums.{constants, entries, adds, scales, gates, total-one}
 use Rattle.columns.proofs.Taken.{column-small, small-more}
 use Rattle.sizes.specs.Room.{wiresMade}
 use Rattle.sizes.proofs.Room.{adds-made, scales-made}
@@ -20,8 +20,7 @@ unfolding wiresMade
 wires-one k =
     omega (
       arith,
-      adds-made (k ∷ []),
-      scales-made (k ∷ []),
+      total-one constants k,
       total-one entries k,
       total-one adds k,
       total-one scales k,

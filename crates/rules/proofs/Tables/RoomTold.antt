@@ -28,14 +28,14 @@ use Rattle.rules.proofs.Tables.Opens.{opening}
 use Rattle.rules.proofs.Tables.Greatest.{fits-largest, largest-fits, greatest-most, greatest-reached, fewer-fit}
 
 -- kinds 1 to 5 make a wire each
-pub column-wires : (c : Column) → wiresOf c ≡ constantsOf c + (entriesOf c + addsOf c + scalesOf c + gatesOf c)
+pub column-wires : (c : Column) → wiresOf c ≡ constantsOf c + entriesOf c + addsOf c + scalesOf c + gatesOf c
 unfolding wiresOf entriesOf constantsOf addsOf scalesOf gatesOf
 column-wires yesNo = refl
 column-wires (choice n) = omega arith
 column-wires (number n) = omega arith
 column-wires (top n) = omega arith
 
-wires-by-kind : (cs : List Column) → wiresIn cs ≡ constantsIn cs + (entriesIn cs + addsIn cs + scalesIn cs + gatesIn cs)
+wires-by-kind : (cs : List Column) → wiresIn cs ≡ constantsIn cs + entriesIn cs + addsIn cs + scalesIn cs + gatesIn cs
 unfolding wiresIn entriesIn constantsIn addsIn scalesIn gatesIn
 wires-by-kind [] = refl
 wires-by-kind (c ∷ cs) = omega (arith, column-wires c, wires-by-kind cs)

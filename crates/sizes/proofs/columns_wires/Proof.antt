@@ -20,6 +20,9 @@ add-result-2 c = search needs
 add-result-3 : tie.Need-add-result-3
 add-result-3 c = search needs
 
+add-result-4 : tie.Need-add-result-4
+add-result-4 c = search needs
+
 cast-result : tie.Need-cast-result
 cast-result c = search needs
 
@@ -28,13 +31,4 @@ unfolding wiresMade
 returns c = rw (c .before .scales .ensures .0, c .before .before .before .adds .ensures .0) refl
 
 pub columns-wires-spec : {M : Type 1} → statement M
-columns-wires-spec =
-    tie.close
-    (tie.spec
-    adds-requires
-    add-result
-    scales-requires
-    add-result-2
-    add-result-3
-    cast-result
-    returns)
+columns-wires-spec = tie.close (tie.spec add-result add-result-2 add-result-3 add-result-4 cast-result returns)

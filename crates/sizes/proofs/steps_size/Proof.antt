@@ -5,6 +5,9 @@ use Rattle.sizes.proofs.Room.{steps-are}
 use Rattle.sizes.proofs.steps_size.Statement.{statement}
 use Rattle.sizes.proofs.steps_size.Tie as tie
 
+add-kind-size : tie.Need-add-kind-size
+add-kind-size c = search needs
+
 kind-size-requires : tie.Need-kind-size-requires
 kind-size-requires c κs = search needs
 
@@ -68,12 +71,14 @@ returns c =
       c .before .before .before .scales .ensures .0,
       c .before .kind-size5 .ensures .0,
       c .kind-size6 .ensures .0,
-    ) (steps-are (a .args .constants) (a .args .c))
+      steps-are (f .before .before .args .c),
+    )
 
 pub steps-size-spec : {M : Type 1} → statement M
 steps-size-spec =
     tie.close
     (tie.spec
+    add-kind-size
     kind-size-requires
     kind-size-requires-2
     add-result

@@ -9,6 +9,13 @@ use Rattle.rules.specs.Columns.{Column, yesNo, choice, number, top, bitL
 use Rattle.rules.specs.Circuit.{gatesOf}
 use Rattle.rules.specs.Run.{Meaning}
 
+-- the first bit entry of a column whose first entry is e
+unfoldable pub bitsAt : ℕ → Column → ℕ
+bitsAt e yesNo = e
+bitsAt e (choice n) = e
+bitsAt e (number n) = suc e
+bitsAt e (top n) = suc e
+
 module _ {X : Type 0} (σ : Setting) (μ : Meaning X) where
   -- a + f 0 + .. + f (n - 1)
   unfoldable pub sumFrom : X → (ℕ → X) → ℕ → X
@@ -21,13 +28,6 @@ module _ {X : Type 0} (σ : Setting) (μ : Meaning X) where
 
   unfoldable pub bitOut : ℕ → ℕ → X
   bitOut e t = μ .gate (suc t) (μ .entryAt e) (lessOne e)
-
-  -- the first bit entry of a column whose first entry is e
-  unfoldable pub bitsAt : ℕ → Column → ℕ
-  bitsAt e yesNo = e
-  bitsAt e (choice n) = e
-  bitsAt e (number n) = suc e
-  bitsAt e (top n) = suc e
 
   -- a column whose first entry is e, where t multiplications stand before it
   unfoldable pub columnLefts : ℕ → Column → List X

@@ -12,8 +12,9 @@ use Rattle.algebra.specs.Lists.{tabulate}
 use Rattle.algebra.proofs.Tables.{fill-none, fill-next, fill-all}
 use Rattle.field.specs.Residues.{prime, residues}
 use Rattle.rules.specs.Settings.{document01}
+use Rattle.rules.specs.Run.{atServer}
 use Rattle.rules.specs.Walk.{sumFrom}
-use Rattle.walk.specs.Walks.{held, plain}
+use Rattle.walk.specs.Walks.{plain}
 
 module _ (f : ℕ → ℕ) where
   pub record Filling (before now : List ℕ) (i : ℕ) : Type 0 where
@@ -67,8 +68,8 @@ pub swapped : (a b : ℕ) → residues ._⊕_ a b ≡ residues ._⊕_ b a
 swapped a b = ap (λ t. t % prime) (add-comm a b)
 
 -- only the addition of a meaning counts for a sum
-pub sum-same : (m m' : ℕ) (x x' h h' : ℕ → ℕ) (a : ℕ) (f : ℕ → ℕ) (n : ℕ)
-    → sumFrom document01 (held m x h) a f n ≡ sumFrom document01 (held m' x' h') a f n
+pub sum-same : (k : ℕ) (x y h : ℕ → ℕ) (a : ℕ) (f : ℕ → ℕ) (n : ℕ)
+    → sumFrom document01 (plain 0 x) a f n ≡ sumFrom document01 (atServer residues k y h) a f n
 unfolding sumFrom
-sum-same m m' x x' h h' a f zero = refl
-sum-same m m' x x' h h' a f (suc n) = ap (λ t. residues ._⊕_ t (f n)) (sum-same m m' x x' h h' a f n)
+sum-same k x y h a f zero = refl
+sum-same k x y h a f (suc n) = ap (λ t. residues ._⊕_ t (f n)) (sum-same k x y h a f n)

@@ -16,7 +16,6 @@ use Rattle.rules.specs.Walk.{lessOne, bitsAt, columnLefts, columnRights, walkLe
 use Rattle.rules.proofs.Histories.ClosingBytes.{getD-map}
 use Rattle.rules.proofs.Circuits.Walk.{length-lefts}
 use Rattle.walk.specs.Walks.{plain, members}
-use Rattle.walk.proofs.Meanings.{bits-same}
 
 module _ (c : ℕ) (x : ℕ → ℕ) where
   abbrev plus : ℕ → ℕ
@@ -25,9 +24,7 @@ module _ (c : ℕ) (x : ℕ → ℕ) where
   column-shifted : (col : Column) (e : ℕ)
       → columnRights document01 (plain c x) e col ≡ map plus (columnLefts document01 (plain 0 x) e col)
   unfolding columnLefts columnRights lessOne
-  column-shifted col e =
-      ap (λ b. tabulate (λ i. plus (x (b + i))) (gatesOf col)) (bits-same (plain c x) (plain 0 x) e col)
-      ∙ sym (map-tabulate plus (λ i. x (bitsAt document01 (plain 0 x) e col + i)) (gatesOf col))
+  column-shifted col e = sym (map-tabulate plus (λ i. x (bitsAt e col + i)) (gatesOf col))
 
   pub rights-shifted : (cs : List Column) (e : ℕ)
       → walkRights document01 (plain c x) e cs ≡ map plus (walkLefts document01 (plain 0 x) e cs)

@@ -1,5 +1,5 @@
 // The left inputs of the multiplications and the tests of a sheet's circuit, column by column, from the entries of a list
-// or of a share. `constant` is what the constant p - 1 comes to: p - 1 for a list and at server 0, 0 at the other servers.
+// or of a share. `factor` is the one on constants: 1 at server 0, 0 at the other servers.
 ghost use mathlib.Core.Path.{_≡_};
 ghost use mathlib.Core.List.{[], _∷_, _++_};
 ghost use Prim.Native.Nat.{suc, _+_, _^_, _<_, _≤_};
@@ -7,12 +7,14 @@ ghost use lib.ListN.{length};
 ghost use Rattle.algebra.specs.Lists.{tabulate};
 ghost use Rattle.field.specs.Residues.{prime, residues, Elements};
 ghost use Rattle.rules.specs.Settings.{document01};
-ghost use Rattle.rules.specs.Columns.{columnsOf, entriesOf};
+ghost use Rattle.rules.specs.Columns.{top, columnsOf, entriesOf};
 ghost use Rattle.rules.specs.Circuit.{gatesOf, testsOf, gatesIn, testsIn};
 ghost use Rattle.rules.specs.Walk.{sumFrom, columnLefts, columnTests, walkLefts, walkTests};
+ghost use Rattle.rules.proofs.Circuits.Limits.{InLimits};
 ghost use Rattle.columns.specs.Kinds.{fromCode};
-ghost use Rattle.walk.specs.Walks.{held, plain, members, outputs, Entries, Outputs, Asked};
+ghost use Rattle.walk.specs.Walks.{plain, shared, members, topTests, Entries, Outputs, Asked};
 use columns::Column;
+use columns::bit_length;
 use columns::counts_of;
 use sheet::cursor;
 
@@ -35,6 +37,16 @@ fn copy_then(x: &[u32], first: usize, n: usize, last: u32, out: &mut [u32])
 {
     copy(x, first, &mut out[..n]);
     out[n] = last;
+}
+
+// out[i] = x[first + i] for the first n, then a and b
+fn copy_two(x: &[u32], first: usize, n: usize, a: u32, b: u32, out: &mut [u32])
+    requires { ⌜ (first + n ≤ length (now x)) × (length (now out) ≡ suc (suc n)) ⌝ }
+    ensures { λ _. ⌜ now (out .exit) ≡ tabulate (λ i. members (now (x .entry)) (first + i)) n ++ (a ∷ b ∷ []) ⌝ }
+{
+    let end = n + 1;
+    copy_then(x, first, n, a, &mut out[..end]);
+    out[end] = b;
 }
 
 // start + x[first] + .. + x[first + n - 1]
@@ -78,6 +90,7 @@ fn column_lefts(x: &[u32], e: usize, column: Column, out: &mut [u32])
         Column::YesNo => out[0] = x[e],
         Column::Choice(_) => copy(x, e, out),
         Column::Number(_) => copy(x, e + 1, out),
+        Column::Top(_) => copy(x, e + 1, out),
     }
 }
 
@@ -99,41 +112,58 @@ pub fn fill_lefts(s: &[u8], x: &[u32], out: &mut [u32])
     }
 }
 
+// The tests of a number up to n, whose first entry is e and whose outputs stand from `first`: these, then its two sums.
+fn top_tests(x: &[u32], first: usize, e: usize, factor: u32, n: u32, out: &mut [u32])
+    requires { ⌜ Elements (now x) × (factor < prime) × InLimits (top n) ⌝ }
+    requires { ⌜ (e + entriesOf (top n) ≤ length (now x)) × (first + gatesOf (top n) ≤ length (now x))
+        × (length (now out) ≡ testsOf (top n)) ⌝ }
+    ensures { λ _. ⌜ now (out .exit) ≡ topTests (now (x .entry)) first e factor n ⌝ }
+{
+    let b = bit_length(n);
+    let v = x[e];
+    let sum = weighted_from(x, e + 1, b, field::mul(v, field::P - 1));
+    let rest = weighted_from(x, e + 1 + b, b, field::mul_add(factor, field::P - n, v));
+    copy_two(x, first, 2 * b, sum, rest, out);
+}
+
 // The tests of one column, whose first entry is e, with t multiplications before it: the outputs of its multiplications,
-// then the test of its sum if it has one. l is the number of all entries.
+// then the tests of its sums if it has any. l is the number of all entries.
 fn column_tests(
     x: &[u32],
     l: usize,
     e: usize,
     t: usize,
-    constant: u32,
+    factor: u32,
     column: Column,
     out: &mut [u32],
 )
-    requires { ⌜ Asked (now x) l e t constant (fromCode column) × (length (now out) ≡ testsOf (fromCode column)) ⌝ }
+    requires { ⌜ Asked (now x) l e t factor (fromCode column) × (length (now out) ≡ testsOf (fromCode column)) ⌝ }
     ensures { λ _. ⌜ now (out .exit)
-        ≡ columnTests document01 (held constant (members (now (x .entry))) (outputs l (now (x .entry)))) e t (fromCode column) ⌝ }
+        ≡ columnTests document01 (shared factor l (now (x .entry))) e t (fromCode column) ⌝ }
 {
     let first = l + 3 + t;
     match column {
         Column::YesNo => out[0] = x[first],
         Column::Choice(n) => {
-            let sum = sum_from(x, e, n, constant);
+            let sum = sum_from(x, e, n, field::mul(factor, field::P - 1));
             copy_then(x, first, n, sum, out);
         }
         Column::Number(n) => {
             let sum = weighted_from(x, e + 1, n, field::mul(x[e], field::P - 1));
             copy_then(x, first, n, sum, out);
         }
+        Column::Top(n) => {
+            top_tests(x, first, e, factor, n, out);
+        }
     }
 }
 
 // The tests, from a share with l entries.
-pub fn fill_tests(s: &[u8], x: &[u32], l: usize, constant: u32, out: &mut [u32])
+pub fn fill_tests(s: &[u8], x: &[u32], l: usize, factor: u32, out: &mut [u32])
     requires { ⌜ Entries (now s) (now x) × Outputs (now s) (now x) l ⌝ }
-    requires { ⌜ (length (now out) ≡ testsIn (columnsOf (now s))) × (constant < prime) ⌝ }
-    ensures { λ _. ⌜ now (out .exit) ≡ walkTests document01
-        (held constant (members (now (x .entry))) (outputs l (now (x .entry)))) 0 0 (columnsOf (now (s .entry))) ⌝ }
+    requires { ⌜ (length (now out) ≡ testsIn (columnsOf (now s))) × (factor < prime) ⌝ }
+    ensures { λ _. ⌜ now (out .exit)
+        ≡ walkTests document01 (shared factor l (now (x .entry))) 0 0 (columnsOf (now (s .entry))) ⌝ }
 {
     let mut c = cursor::start();
     let mut done = 0;
@@ -142,7 +172,7 @@ pub fn fill_tests(s: &[u8], x: &[u32], l: usize, constant: u32, out: &mut [u32])
         let column = step.column;
         let counts = counts_of(column);
         let to = done + counts.tests;
-        column_tests(x, l, c.entry, c.gates, constant, column, &mut out[done..to]);
+        column_tests(x, l, c.entry, c.gates, factor, column, &mut out[done..to]);
         done = to;
         let after = step.next;
         c = after;

@@ -284,7 +284,7 @@ module _ {X : Type 0} (σ : Setting) (μ : Meaning X) where
   unfolding bitTests
   row-tests e t n l = length-append (bitTests σ μ e t n) l ∙ ap (_+ length l) (length-tabulate _ n)
 
-  column-tests : (c : Column) (e t : ℕ) → length (columnTests σ μ e t c) ≡ testsOf c
+  pub column-tests : (c : Column) (e t : ℕ) → length (columnTests σ μ e t c) ≡ testsOf c
   unfolding columnTests testsOf
   column-tests yesNo e t = sym (ap length (append-nil (bitTests σ μ e t 1))) ∙ row-tests e t 1 []
   column-tests (choice n) e t = row-tests e t n _

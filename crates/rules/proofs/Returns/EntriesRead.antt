@@ -21,7 +21,7 @@ SameFrom low high f g = (k : ℕ) → low ≤ k → k < high → f k ≡ g k
 module _ {X : Type 0} (σ : Setting) (μ ν : Meaning X) where
   -- at the bit entries of a column
   bits-same : {Y : Type 0} (c : Column) (e : ℕ) (f g : ℕ → Y) → SameFrom e (e + entriesOf c) f g → (i : ℕ) → i < gatesOf c
-      → f (bitsAt σ μ e c + i) ≡ g (bitsAt σ ν e c + i)
+      → f (bitsAt e c + i) ≡ g (bitsAt e c + i)
   unfolding bitsAt entriesOf gatesOf
   bits-same yesNo e f g h i l = h (e + i) (omega arith) (omega arith)
   bits-same (choice n) e f g h i l = h (e + i) (omega arith) (omega arith)

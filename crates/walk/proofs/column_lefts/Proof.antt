@@ -21,9 +21,9 @@ use Rattle.walk.proofs.column_lefts.Statement.{statement}
 use Rattle.walk.proofs.column_lefts.Tie as tie
 
 -- the first bit, the multiplications and the entries of a column that is told
-bits : {a b : code.Column} (xs : List ℕ) (e : ℕ) → a ≡ b
-    → bitsAt document01 (plain 0 (members xs)) e (fromCode a) ≡ bitsAt document01 (plain 0 (members xs)) e (fromCode b)
-bits xs e q = ap (λ (k : code.Column). bitsAt document01 (plain 0 (members xs)) e (fromCode k)) q
+bits : {a b : code.Column} (e : ℕ) → a ≡ b
+    → bitsAt e (fromCode a) ≡ bitsAt e (fromCode b)
+bits e q = ap (λ (k : code.Column). bitsAt e (fromCode k)) q
 
 gates : {a b : code.Column} → a ≡ b → gatesOf (fromCode a) ≡ gatesOf (fromCode b)
 gates q = ap (λ (k : code.Column). gatesOf (fromCode k)) q
@@ -32,7 +32,7 @@ entries : {a b : code.Column} → a ≡ b → entriesOf (fromCode a) ≡ entries
 entries q = ap (λ (k : code.Column). entriesOf (fromCode k)) q
 
 -- n members from b on, once b is the first bit
-from-bits : (a : code.Column) (xs : List ℕ) (e b n : ℕ) → bitsAt document01 (plain 0 (members xs)) e (fromCode a) ≡ b
+from-bits : (a : code.Column) (xs : List ℕ) (e b n : ℕ) → bitsAt e (fromCode a) ≡ b
     → n ≡ gatesOf (fromCode a)
     → tabulate (λ i. members xs (b + i)) n ≡ columnLefts document01 (plain 0 (members xs)) e (fromCode a)
 unfolding columnLefts
@@ -61,8 +61,8 @@ copy-requires : tie.Need-copy-requires
 unfolding bitsAt
 copy-requires c κs =
     let z = c .before .before .before .before .before in
-    let first = bits (z .args .x .now) (z .args .e) (c .before .enum-told2 .given .1) in
-    let last = bits-fit (plain 0 (members (z .args .x .now))) (z .args .e) (fromCode (z .args .column)) in
+    let first = bits (z .args .e) (c .before .enum-told2 .given .1) in
+    let last = bits-fit (z .args .e) (fromCode (z .args .column)) in
     omega (arith, z .pre .0, z .pre .1, first, last)
 
 enum-told-3 : tie.Need-enum-told-3
@@ -75,8 +75,22 @@ copy-requires-2 : tie.Need-copy-requires-2
 unfolding bitsAt
 copy-requires-2 c κs =
     let z = c .before .before .before .before .before in
-    let first = bits (z .args .x .now) (z .args .e) (c .before .enum-told3 .given .1) in
-    let last = bits-fit (plain 0 (members (z .args .x .now))) (z .args .e) (fromCode (z .args .column)) in
+    let first = bits (z .args .e) (c .before .enum-told3 .given .1) in
+    let last = bits-fit (z .args .e) (fromCode (z .args .column)) in
+    omega (arith, z .pre .0, z .pre .1, first, last)
+
+enum-told-4 : tie.Need-enum-told-4
+enum-told-4 c = search needs
+
+add-copy-2 : tie.Need-add-copy-2
+add-copy-2 c = search needs
+
+copy-requires-3 : tie.Need-copy-requires-3
+unfolding bitsAt
+copy-requires-3 c κs =
+    let z = c .before .before .before .before .before in
+    let first = bits (z .args .e) (c .before .enum-told4 .given .1) in
+    let last = bits-fit (z .args .e) (fromCode (z .args .column)) in
     omega (arith, z .pre .0, z .pre .1, first, last)
 
 same-length : tie.Need-same-length
@@ -90,7 +104,7 @@ returns c =
     let told = c .before .enum-told .given .1 in
     one-place (λ i. members (a .x .now) (a .e + i)) (a .out .now) (members (a .x .now) (a .e)) (z .pre .1 ∙ gates told)
     (ap (members (a .x .now)) (sym (add-zero (a .e))))
-    ∙ from-bits (a .column) (a .x .now) (a .e) (a .e) _ (bits (a .x .now) (a .e) told) (z .pre .1)
+    ∙ from-bits (a .column) (a .x .now) (a .e) (a .e) _ (bits (a .e) told) (z .pre .1)
 
 same-length-2 : tie.Need-same-length-2
 same-length-2 c = search needs
@@ -101,7 +115,7 @@ returns-2 c =
     let z = c .before .before .before .before .before .before .before .before in
     let a = z .args in
     let told = c .before .before .before .before .enum-told2 .given .1 in
-    let first = bits (a .x .now) (a .e) told in
+    let first = bits (a .e) told in
     c .before .before .copy .ensures ∙ from-bits (a .column) (a .x .now) (a .e) (a .e) _ first (z .pre .1)
 
 same-length-3 : tie.Need-same-length-3
@@ -113,8 +127,20 @@ returns-3 c =
     let z = c .before .before .before .before .before .before .before .before in
     let a = z .args in
     let told = c .before .before .before .before .enum-told3 .given .1 in
-    let first = bits (a .x .now) (a .e) told ∙ sym (add-one (a .e)) in
+    let first = bits (a .e) told ∙ sym (add-one (a .e)) in
     c .before .before .copy2 .ensures ∙ from-bits (a .column) (a .x .now) (a .e) (a .e + 1) _ first (z .pre .1)
+
+same-length-4 : tie.Need-same-length-4
+same-length-4 c = search needs
+
+returns-4 : tie.Need-returns-4
+unfolding bitsAt
+returns-4 c =
+    let z = c .before .before .before .before .before .before .before .before in
+    let a = z .args in
+    let told = c .before .before .before .before .enum-told4 .given .1 in
+    let first = bits (a .e) told ∙ sym (add-one (a .e)) in
+    c .before .before .copy3 .ensures ∙ from-bits (a .column) (a .x .now) (a .e) (a .e + 1) _ first (z .pre .1)
 
 pub column-lefts-spec : {M : Type 1} → statement M
 column-lefts-spec =
@@ -129,9 +155,14 @@ column-lefts-spec =
     enum-told-3
     add-copy
     copy-requires-2
+    enum-told-4
+    add-copy-2
+    copy-requires-3
     same-length
     returns
     same-length-2
     returns-2
     same-length-3
-    returns-3)
+    returns-3
+    same-length-4
+    returns-4)

@@ -1,4 +1,4 @@
--- `walk::column_tests` meets its contract: by the kinds of columns, the outputs and then the test of the sum.
+-- `walk::column_tests` meets its contract: by the kinds of columns, the outputs and then the tests of the sums.
 -- Assumes nothing.
 use borrow.Author.Needs.{needs}
 use mathlib.Core.Path.{_≡_, sym, ap, _∙_}
@@ -15,8 +15,8 @@ use Rattle.rules.specs.Run.{Meaning}
 use Rattle.rules.specs.Walk.{columnTests}
 use Rattle.columns.specs.declared.Column as code
 use Rattle.columns.specs.Kinds.{fromCode}
-use Rattle.walk.specs.Walks.{held, members, outputs}
-use Rattle.walk.proofs.ColumnTests.{yes-no-tests, choice-tests, number-tests}
+use Rattle.walk.specs.Walks.{shared}
+use Rattle.walk.proofs.ColumnTests.{yes-no-tests, choice-tests, number-tests, top-tests}
 use Rattle.walk.proofs.column_tests.Statement.{statement}
 use Rattle.walk.proofs.column_tests.Tie as tie
 
@@ -32,7 +32,7 @@ module _ (z : tie.Start) {k : code.Column} (told : z .args .column ≡ k) where
   outputs-fit = omega (arith, z .pre .0 .outputs-fit, ap (λ (k : code.Column). gatesOf (fromCode k)) told)
 
   abbrev meaning : Meaning ℕ
-  meaning = held (z .args .constant) (members (z .args .x .now)) (outputs (z .args .l) (z .args .x .now))
+  meaning = shared (z .args .factor) (z .args .l) (z .args .x .now)
 
   its-tests : columnTests document01 meaning (z .args .e) (z .args .t) (fromCode k)
       ≡ columnTests document01 meaning (z .args .e) (z .args .t) (fromCode (z .args .column))
@@ -63,17 +63,23 @@ slice-write-out c = omega (arith, room (c .before .before .before .before .befor
 enum-known-column : tie.Need-enum-known-column
 enum-known-column c = search needs
 
+sub-mul : tie.Need-sub-mul
+sub-mul c = search needs
+
+mul-requires : tie.Need-mul-requires
+mul-requires c κs = search needs
+
 sum-from-requires : tie.Need-sum-from-requires
 unfolding entriesOf
 sum-from-requires c κs =
-    let z = c .before .before .before .before .before in
-    (entries-fit z (c .before .column .given .1), z .pre .0 .elements, z .pre .0 .constant)
+    let z = c .before .before .before .before .before .before in
+    (entries-fit z (c .before .before .column .given .1), z .pre .0 .elements, rw (c .mul .ensures) (mod-lt _ (lit< tt)))
 
 copy-then-requires : tie.Need-copy-then-requires
 unfolding gatesOf testsOf
 copy-then-requires c κs =
-    let z = c .before .before .before .before .before .before .before in
-    let told = c .before .before .before .column .given .1 in
+    let z = c .before .before .before .before .before .before .before .before in
+    let told = c .before .before .before .before .column .given .1 in
     (outputs-fit z told, omega (arith, room z told))
 
 enum-known-column-2 : tie.Need-enum-known-column-2
@@ -91,11 +97,11 @@ shared-slice-read-mul c =
     let z = c .before .before .before .before .before .before in
     omega (arith, entries-fit z (c .before .before .column2 .given .1))
 
-sub-mul : tie.Need-sub-mul
-sub-mul c = search needs
+sub-mul-2 : tie.Need-sub-mul-2
+sub-mul-2 c = search needs
 
-mul-requires : tie.Need-mul-requires
-mul-requires c κs =
+mul-requires-2 : tie.Need-mul-requires-2
+mul-requires-2 c κs =
     (member-below _ _ (c .before .before .before .before .before .before .pre .0 .elements), lit< tt)
 
 weighted-from-requires : tie.Need-weighted-from-requires
@@ -103,7 +109,7 @@ unfolding entriesOf
 weighted-from-requires c κs =
     let z = c .before .before .before .before .before .before .before in
     let told = c .before .before .before .column2 .given .1 in
-    (omega (arith, entries-fit z told), z .pre .0 .elements, rw (c .mul .ensures) (mod-lt _ (lit< tt)))
+    (omega (arith, entries-fit z told), z .pre .0 .elements, rw (c .mul2 .ensures) (mod-lt _ (lit< tt)))
 
 copy-then-requires-2 : tie.Need-copy-then-requires-2
 unfolding gatesOf testsOf
@@ -111,6 +117,17 @@ copy-then-requires-2 c κs =
     let z = c .before .before .before .before .before .before .before .before .before in
     let told = c .before .before .before .before .before .column2 .given .1 in
     (outputs-fit z told, omega (arith, room z told))
+
+enum-known-column-3 : tie.Need-enum-known-column-3
+enum-known-column-3 c = search needs
+
+top-tests-requires : tie.Need-top-tests-requires
+top-tests-requires c κs =
+    let z = c .before .before .before .before .before .before in
+    let told = c .before .before .column3 .given .1 in (
+      (z .pre .0 .elements, z .pre .0 .factor, rw told at (z .pre .0 .in-limits)),
+      (entries-fit z told, outputs-fit z told, room z told),
+    )
 
 same-length : tie.Need-same-length
 same-length c = search needs
@@ -121,7 +138,7 @@ returns c =
     let z = c .before .before .before .before .before in
     let a = z .args in
     let told = c .before .enum-told .given .1 in
-    yes-no-tests (a .x .now) (a .l) (a .e) (a .t) (a .constant) (a .out .now) (room z told) ∙ its-tests z told
+    yes-no-tests (a .x .now) (a .l) (a .e) (a .factor) (a .t) (a .out .now) (room z told) ∙ its-tests z told
 
 same-length-2 : tie.Need-same-length-2
 same-length-2 c = search needs
@@ -129,12 +146,12 @@ same-length-2 c = search needs
 returns-2 : tie.Need-returns-2
 returns-2 c =
     let s = c .before .before .before .before in
-    let z = s .before .before .before .before .before .before in
+    let z = s .before .before .before .before .before .before .before in
     let a = z .args in
-    let column = s .before .before .column .given in
+    let column = s .before .before .before .column .given in
     c .before .before .copy-then .ensures
-    ∙ choice-tests (a .x .now) (a .l) (a .e) (a .t) (a .constant) (column .0 .0) (s .sum-from .result)
-    (s .sum-from .ensures)
+    ∙ choice-tests (a .x .now) (a .l) (a .e) (a .factor) (a .t) (column .0 .0) (s .sum-from .result)
+    (s .before .mul .result) (s .before .mul .ensures) (s .sum-from .ensures)
     ∙ its-tests z (column .1)
 
 same-length-3 : tie.Need-same-length-3
@@ -147,8 +164,21 @@ returns-3 c =
     let a = z .args in
     let column = s .before .before .before .before .column2 .given in
     c .before .before .copy-then2 .ensures
-    ∙ number-tests (a .x .now) (a .l) (a .e) (a .t) (a .constant) (column .0 .0) (s .weighted-from .result)
-    (s .before .mul .result) (s .before .mul .ensures) (s .weighted-from .ensures)
+    ∙ number-tests (a .x .now) (a .l) (a .e) (a .factor) (a .t) (column .0 .0) (s .weighted-from .result)
+    (s .before .mul2 .result) (s .before .mul2 .ensures) (s .weighted-from .ensures)
+    ∙ its-tests z (column .1)
+
+same-length-4 : tie.Need-same-length-4
+same-length-4 c = search needs
+
+returns-4 : tie.Need-returns-4
+returns-4 c =
+    let k = c .before .before .before .before .before in
+    let z = k .before .before .before .before in
+    let a = z .args in
+    let column = k .column3 .given in
+    c .before .before .top-tests .ensures
+    ∙ top-tests (a .x .now) (a .l) (a .e) (a .factor) (a .t) (column .0 .0)
     ∙ its-tests z (column .1)
 
 pub column-tests-spec : {M : Type 1} → statement M
@@ -162,19 +192,25 @@ column-tests-spec =
     shared-slice-read-out
     slice-write-out
     enum-known-column
+    sub-mul
+    mul-requires
     sum-from-requires
     copy-then-requires
     enum-known-column-2
     add-weighted-from
     mul-mul
     shared-slice-read-mul
-    sub-mul
-    mul-requires
+    sub-mul-2
+    mul-requires-2
     weighted-from-requires
     copy-then-requires-2
+    enum-known-column-3
+    top-tests-requires
     same-length
     returns
     same-length-2
     returns-2
     same-length-3
-    returns-3)
+    returns-3
+    same-length-4
+    returns-4)

@@ -11,24 +11,24 @@ use Rattle.rules.specs.Run.{Meaning}
 use Rattle.columns.specs.declared.Counts.{Counts}
 use Rattle.columns.specs.Kinds.{fromCode}
 use Rattle.columns.proofs.Sums.{tests as test-count, total-one, total-most}
-use Rattle.walk.specs.Walks.{held, members, outputs}
+use Rattle.walk.specs.Walks.{shared}
 use Rattle.walk.proofs.Walking.{Walking, Turned, turned, walk-start, stands, walk-put, walk-finish}
 use Rattle.walk.proofs.Meanings.{testPart, tests, tests-walked}
 use Rattle.walk.proofs.fill_tests.Statement.{statement}
 use Rattle.walk.proofs.fill_tests.Tie as tie
 
 abbrev Inv-loop : tie.InvT-loop
-Inv-loop s x l constant out₀ c₀ done₀ out c done =
-    Walking (testPart (held constant (members x) (outputs l x))) testsIn s out₀ out c done
+Inv-loop s x l factor out₀ c₀ done₀ out c done =
+    Walking (testPart (shared factor l x)) testsIn s out₀ out c done
 
 abbrev μ-loop : tie.MeasureT-loop
-μ-loop s x l constant out₀ c₀ done₀ out c done = length s - c .at
+μ-loop s x l factor out₀ c₀ done₀ out c done = length s - c .at
 
 abbrev given : tie.At-loop Inv-loop μ-loop → tie.Start Inv-loop μ-loop
 given l = l .before .before .before .before .before
 
 abbrev meaning : tie.Start Inv-loop μ-loop → Meaning ℕ
-meaning z = held (z .args .constant) (members (z .args .x .now)) (outputs (z .args .l) (z .args .x .now))
+meaning z = shared (z .args .factor) (z .args .l) (z .args .x .now)
 
 -- ---- a turn, once its column is read
 abbrev round : tie.After-next Inv-loop μ-loop → tie.At-loop Inv-loop μ-loop
@@ -98,7 +98,8 @@ column-tests-requires c κs =
     let fit : to ≤ length (l .out) = omega (arith, counted m, fits n, l .inv .same) in (
       record {
         elements = pre .0 .0 .elements;
-        constant = pre .1 .1;
+        factor = pre .1 .1;
+        in-limits = t .in-limits;
         entries = omega (arith, t .entries-fit, pre .0 .0 .enough);
         outputs-fit = omega (arith, t .gates-next, t .gates-fit, pre .0 .1 .room);
       },

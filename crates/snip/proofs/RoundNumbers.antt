@@ -17,8 +17,8 @@ use Rattle.rules.specs.Run.{atServer}
 use Rattle.rules.specs.Judging.{zeroThen, folded, hOf, aOf, bOf, shareRun, fAt, gAt, hAt, dOf, eOf, tauOf}
 use Rattle.rules.specs.Walk.{walkLefts, walkRights, walkTests}
 use Rattle.rules.proofs.Circuits.Walk.{walk-is-run}
-use Rattle.walk.specs.Walks.{held, plain, members, outputs}
-use Rattle.walk.proofs.Meanings.{server-lefts, server-rights, server-tests}
+use Rattle.walk.specs.Walks.{plain, shared, members}
+use Rattle.walk.proofs.Meanings.{server-lefts, server-rights}
 
 module _ (cs : List Column) (k : ℕ) (xs : List ℕ) where
   abbrev x : ℕ → ℕ
@@ -49,14 +49,12 @@ module _ (cs : List Column) (k : ℕ) (xs : List ℕ) where
       ∙ server-rights k x (hOf residues document01 cs x) cs))
 
   pub tau-is : (s : ℕ)
-      → folded residues (walkTests document01 (held constant x (outputs (entriesIn cs) xs)) 0 0 cs) s
+      → folded residues (walkTests document01 (shared k (entriesIn cs) xs) 0 0 cs) s
       ≡ tauOf residues document01 cs k x s
   unfolding tauOf shareRun hOf
   tau-is s =
       ap (λ (l : List ℕ). folded residues l s)
-      (sym
-      (walk-is-run document01 (atServer residues k x (hOf residues document01 cs x)) cs .tests-are
-      ∙ server-tests k x (hOf residues document01 cs x) cs 0 0))
+      (sym (walk-is-run document01 (atServer residues k x (hOf residues document01 cs x)) cs .tests-are))
 
   -- h at r, from the members behind the entries and two more
   pub h-is : (ys : List ℕ) (r : ℕ) → ys ≡ take (suc (gatesIn cs + gatesIn cs)) (drop (entriesIn cs + 2) xs)
@@ -112,9 +110,9 @@ module _ (cs : List Column) (k : ℕ) (xs : List ℕ) where
         ∙ ap (residues ._⊗_ r)
         (q ∙ h-is ys r (p ∙ ap₂ (λ i j. take i (drop (j + 2) xs)) w el) (n ∙ ap (λ j. suc (j + j)) em))
 
-    pub tau-from : (s v : ℕ) → v ≡ folded residues (walkTests document01 (held c x (outputs l xs)) 0 0 cs) s
+    pub tau-from : (s v j : ℕ) → j ≡ k → v ≡ folded residues (walkTests document01 (shared j l xs) 0 0 cs) s
         → v ≡ tauOf residues document01 cs k x s
-    tau-from s v p =
+    tau-from s v j q p =
         p
-        ∙ ap₂ (λ n i. folded residues (walkTests document01 (held n x (outputs i xs)) 0 0 cs) s) ec el
+        ∙ ap₂ (λ n i. folded residues (walkTests document01 (shared n i xs) 0 0 cs) s) q el
         ∙ tau-is s

@@ -12,7 +12,7 @@ ghost use Rattle.rules.specs.Circuit.{gatesIn, testsIn};
 ghost use Rattle.rules.specs.Judging.{folded};
 ghost use Rattle.rules.specs.Walk.{walkLefts, walkTests};
 ghost use Rattle.snip.specs.Judged.{judgedOf, inputsOf, inputsFrom, Share};
-ghost use Rattle.walk.specs.Walks.{held, plain, members, outputs, Entries, Outputs};
+ghost use Rattle.walk.specs.Walks.{plain, shared, members, Entries, Outputs};
 use interpolation::Fraction;
 
 // f and g at r.
@@ -84,16 +84,16 @@ fn interpolated(y: &[u32], weights: &[u32], r: u32) -> u32
     interpolation::sum(y, weights, 0, r).over
 }
 
-// The sum of s^k times test k, of which there are `tests`.
-fn tau_of(sheet: &[u8], x: &[u32], l: usize, constant: u32, tests: usize, s: u32) -> u32
+// The sum of s^k times test k, of which there are `tests`; `factor` is the one on constants.
+fn tau_of(sheet: &[u8], x: &[u32], l: usize, factor: u32, tests: usize, s: u32) -> u32
     requires { ⌜ Entries (now sheet) (now x) × Outputs (now sheet) (now x) l ⌝ }
-    requires { ⌜ (tests ≡ testsIn (columnsOf (now sheet))) × (tests ≤ 384) × (constant < prime) × (s < prime) ⌝ }
-    ensures { λ r. ⌜ r ≡ folded residues (walkTests document01
-        (held constant (members (now (x .entry))) (outputs l (now (x .entry)))) 0 0 (columnsOf (now (sheet .entry)))) s ⌝ }
+    requires { ⌜ (tests ≡ testsIn (columnsOf (now sheet))) × (tests ≤ 384) × (factor < prime) × (s < prime) ⌝ }
+    ensures { λ r. ⌜ r ≡ folded residues
+        (walkTests document01 (shared factor l (now (x .entry))) 0 0 (columnsOf (now (sheet .entry)))) s ⌝ }
 {
     let mut values = [0u32; 384];
     let mut powers = [0u32; 384];
-    walk::fill_tests(sheet, x, l, constant, &mut values[..tests]);
+    walk::fill_tests(sheet, x, l, factor, &mut values[..tests]);
     loops::powers(s, &mut powers[..tests]);
     dot::inner(&powers[..tests], &values[..tests])
 }
@@ -116,12 +116,13 @@ fn judge_with(
 {
     let l = shape.entries;
     let m = shape.gates;
-    let constant = field::mul(crate::first_only(own), field::P - 1);
+    let factor = crate::first_only(own);
+    let constant = field::mul(factor, field::P - 1);
     let at = inputs_with(sheet, x, l, single, constant, r);
     let first = l + 2;
     let last = l + 3 + (m + m);
     let h = interpolated(&x[first..last], double, r);
-    let tau = tau_of(sheet, x, l, constant, shape.tests, s);
+    let tau = tau_of(sheet, x, l, factor, shape.tests, s);
     Judged {
         d: field::sub(at.f, x[last]),
         e: field::sub(field::mul(r, at.g), x[last + 1]),

@@ -120,7 +120,7 @@ tau-of-requires c κs =
     let s = c .before .before .before .before .before .before .before .before .before in
     let m = room (s .pre .0) in (
       (m .entries, m .outputs),
-      (m .tests-are, m .tests-few, rw (c .before .before .before .mul .ensures) (mod-lt _ (lit< tt)), s .pre .0 .s-below),
+      (m .tests-are, m .tests-few, rw (c .before .before .before .before .first-only .ensures) (first-below (s .args .own)), s .pre .0 .s-below),
     )
 
 mul-sub : tie.Need-mul-sub
@@ -202,7 +202,7 @@ returns c =
     (e-from cs k xs _ _ _ (m .entries-are) (m .gates-are) ec (a .r) _ _ _ (ap (λ (u : Inputs). u .g) i)
     (c .before .before .before .mul2 .ensures) (c .before .sub2 .ensures))
     (h-from cs k xs _ _ _ (m .entries-are) (m .gates-are) ec (a .r) _ _ _ refl n h (c .mul3 .ensures))
-    (tau-from cs k xs _ _ _ (m .entries-are) (m .gates-are) ec (a .s) _ tau)
+    (tau-from cs k xs _ _ _ (m .entries-are) (m .gates-are) ec (a .s) _ _ one tau)
 
 pub judge-with-spec : {M : Type 1} → statement M
 judge-with-spec =

@@ -35,7 +35,7 @@ pub record Limited (k : Table) : Type 0 where
   pub own-one : k .own < k .servers
   pub returns-some : 1 ≤ k .returns
   pub returns-most : k .returns ≤ 1024
-  pub sheet-most : k .sheet ≤ 256
+  pub sheet-most : k .sheet ≤ 426
   pub entries-most : k .entries ≤ 256
   pub published-most : k .published ≤ 256
   pub gates-most : k .gates ≤ 256

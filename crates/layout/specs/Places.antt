@@ -14,6 +14,6 @@ waitAt n published returns = 12 + n + 4 * published + 4 * returns
 
 -- the numbers of a sheet that is read, and of N
 pub record Small (n published returns : ℕ) : Type 0 where
-  pub sheet-most : n ≤ 256
+  pub sheet-most : n ≤ 426
   pub published-most : published ≤ 256
   pub returns-most : returns ≤ 1024

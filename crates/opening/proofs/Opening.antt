@@ -38,7 +38,7 @@ use Rattle.opening.proofs.FreshTable.{open-bytes}
 pub record Counted (s : List ℕ) (k : Counts) : Type 0 where
   pub no-fault : sheetFault s ≡ 0
   pub says : k ≡ countsOf (columnsOf s)
-  pub sheet-most : length s ≤ 256
+  pub sheet-most : length s ≤ 426
   pub entries-most : k .entries ≤ 256
   pub published-most : k .published ≤ 256
   pub gates-most : k .gates ≤ 256

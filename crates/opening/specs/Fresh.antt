@@ -12,6 +12,6 @@ freshBytes servers own sheet returns size =
 
 -- a table of so many bytes holds header and sheet, and lies within its buffer
 pub record Roomy (sheet : List ℕ) (size : ℕ) (T : List ℕ) : Type 0 where
-  pub sheet-most : length sheet ≤ 256
+  pub sheet-most : length sheet ≤ 426
   pub sheet-fits : 12 + length sheet ≤ size
   pub within : size ≤ length T

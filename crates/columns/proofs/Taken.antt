@@ -12,7 +12,7 @@ use Rattle.records.specs.Outcome.{Outcome, ok, refused}
 use Rattle.rules.specs.Columns.{Column, yesNo, choice, number, top, columnOf}
 use Rattle.algebra.specs.Lists.{All, all[], all∷}
 use Rattle.rules.specs.Columns.{entriesOf, publishedOf, largestOf, entriesIn, publishedIn, largestIn}
-use Rattle.rules.specs.Circuit.{constantsOf, addsOf, scalesOf, gatesOf, testsOf, constantsIn, addsIn, scalesIn, gatesIn, testsIn}
+use Rattle.rules.specs.Circuit.{constantsOf, gatesOf, testsOf, constantsIn, gatesIn, testsIn}
 use Rattle.rules.proofs.Circuits.Limits.{InLimits, column-limited, column-refused}
 use Rattle.rules.proofs.Circuits.BitLength.{bit-length}
 use Rattle.columns.specs.declared.Column as code
@@ -22,7 +22,7 @@ use Rattle.columns.specs.declared.Counts.{Counts}
 use Rattle.columns.specs.Counting.{countsOf, Small}
 use Rattle.columns.specs.Kinds.{toCode, fromCode, judgedOf, columnIn}
 use Rattle.columns.proofs.ColumnBytes.{from-to-code}
-use Rattle.columns.proofs.Sums.{entries, published, constants, adds, scales, gates, tests, total-one, largest-one}
+use Rattle.columns.proofs.Sums.{entries, published, constants, gates, tests, total-one, largest-one}
 
 -- ---- what one column comes to
 pub counts-one : (c : Column)
@@ -32,8 +32,6 @@ pub counts-one : (c : Column)
       entries = entriesOf c;
       published = publishedOf c;
       constants = constantsOf c;
-      adds = addsOf c;
-      scales = scalesOf c;
       gates = gatesOf c;
       tests = testsOf c;
       largest = largestOf c;
@@ -43,8 +41,6 @@ counts-one c =
       total-one entries c,
       total-one published c,
       total-one constants c,
-      total-one adds c,
-      total-one scales c,
       total-one gates c,
       total-one tests c,
       largest-one c,
@@ -58,7 +54,7 @@ largest-most (top n) h = h .1
 largest-most (number n) h = let p : 2 ^ n ≤ 2 ^ 24 = pow-le-pow-right (omega arith) (h .1) in omega arith
 
 pub column-small : (a : Column) → InLimits a → Small 64 (countsOf (a ∷ []))
-unfolding entriesOf publishedOf constantsOf addsOf scalesOf gatesOf testsOf
+unfolding entriesOf publishedOf constantsOf gatesOf testsOf
 column-small yesNo h = rw (counts-one yesNo) (let l = largest-most yesNo h in search arith)
 column-small (choice n) h = rw (counts-one (choice n)) (let l = largest-most (choice n) h in search arith)
 column-small (number n) h = rw (counts-one (number n)) (let l = largest-most (number n) h in search arith)
@@ -67,7 +63,7 @@ column-small (top n) h =
 
 -- and what columns come to
 columns-bounded : (cs : List Column) → All InLimits cs → Small (entriesIn cs) (countsOf cs)
-unfolding entriesIn publishedIn constantsIn addsIn scalesIn gatesIn testsIn largestIn
+unfolding entriesIn publishedIn constantsIn gatesIn testsIn largestIn
 columns-bounded [] all[] = search arith
 columns-bounded (c ∷ cs) (all∷ h hs) =
     let one = rw (counts-one c) at (column-small c h) in
@@ -77,8 +73,6 @@ columns-bounded (c ∷ cs) (all∷ h hs) =
       columns-most = omega (arith, one .columns-most, rest .columns-most);
       published-most = omega (arith, one .published-most, rest .published-most);
       constants-most = omega (arith, one .constants-most, rest .constants-most);
-      adds-most = omega (arith, one .adds-most, rest .adds-most);
-      scales-most = omega (arith, one .scales-most, rest .scales-most);
       gates-most = omega (arith, one .gates-most, rest .gates-most);
       tests-many = omega (arith, one .tests-many, rest .tests-many);
       tests-most = omega (arith, one .tests-most, rest .tests-most);
@@ -91,8 +85,6 @@ small-more l h = record {
   columns-most = h .columns-most;
   published-most = h .published-most;
   constants-most = h .constants-most;
-  adds-most = h .adds-most;
-  scales-most = h .scales-most;
   gates-most = h .gates-most;
   tests-many = h .tests-many;
   tests-most = h .tests-most;

@@ -4,7 +4,7 @@ use mathlib.Core.List.{List}
 use Prim.Native.Nat.{ℕ, _*_, _≤_}
 use lib.ListN.{length}
 use Rattle.rules.specs.Columns.{Column, entriesIn, publishedIn, largestIn}
-use Rattle.rules.specs.Circuit.{constantsIn, addsIn, scalesIn, gatesIn, testsIn}
+use Rattle.rules.specs.Circuit.{constantsIn, gatesIn, testsIn}
 use Rattle.columns.specs.declared.Counts.{Counts}
 
 abbrev pub countsOf : List Column → Counts
@@ -14,8 +14,6 @@ countsOf cs =
       entries = entriesIn cs;
       published = publishedIn cs;
       constants = constantsIn cs;
-      adds = addsIn cs;
-      scales = scalesIn cs;
       gates = gatesIn cs;
       tests = testsIn cs;
       largest = largestIn cs;
@@ -27,8 +25,6 @@ pub record Small (e : ℕ) (c : Counts) : Type 0 where
   pub columns-most : c .columns ≤ c .entries
   pub published-most : c .published ≤ c .entries
   pub constants-most : c .constants ≤ c .entries
-  pub adds-most : c .adds ≤ 2 * c .entries
-  pub scales-most : c .scales ≤ c .entries
   pub gates-most : c .gates ≤ c .entries
   pub tests-many : c .columns ≤ c .tests
   pub tests-most : c .tests ≤ 2 * c .entries

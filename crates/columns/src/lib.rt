@@ -9,15 +9,13 @@ ghost use Rattle.rules.proofs.Circuits.Limits.{InLimits};
 ghost use Rattle.columns.specs.Counting.{countsOf};
 ghost use Rattle.columns.specs.Kinds.{bytesOfKind, judgedOf, fromCode};
 
-// What columns come to: entries, published entries, the steps of their circuit by kind (there is one entry step for each
-// entry, and wire 0 is not of a column), and their largest value.
+// What columns come to: entries, published entries, the constants, multiplications and tests of their steps (wire 0 is not of
+// a column), and their largest value.
 pub struct Counts {
     pub columns: usize,
     pub entries: usize,
     pub published: usize,
     pub constants: usize,
-    pub adds: usize,
-    pub scales: usize,
     pub gates: usize,
     pub tests: usize,
     pub largest: u32,
@@ -46,8 +44,6 @@ pub fn none() -> Counts
         entries: 0,
         published: 0,
         constants: 0,
-        adds: 0,
-        scales: 0,
         gates: 0,
         tests: 0,
         largest: 0,
@@ -174,8 +170,6 @@ fn choice_counts(n: usize, largest: u32) -> Counts
         entries: n,
         published: n,
         constants: 0,
-        adds: n + n,
-        scales: 0,
         gates: n,
         tests: n + 1,
         largest,
@@ -192,8 +186,6 @@ fn number_counts(n: usize, largest: u32) -> Counts
         entries: n + 1,
         published: 1,
         constants: 0,
-        adds: n + n,
-        scales: n + 1,
         gates: n,
         tests: n + 1,
         largest,
@@ -210,8 +202,6 @@ fn top_counts(b: usize, n: u32) -> Counts
         entries: 2 * b + 1,
         published: 1,
         constants: 1,
-        adds: 4 * b + 1,
-        scales: 2 * b + 1,
         gates: 2 * b,
         tests: 2 * b + 2,
         largest: n,
@@ -230,8 +220,6 @@ pub fn counts_of(column: Column) -> Counts
             entries: 1,
             published: 1,
             constants: 0,
-            adds: 1,
-            scales: 0,
             gates: 1,
             tests: 1,
             largest,

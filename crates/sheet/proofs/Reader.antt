@@ -13,16 +13,16 @@ use Rattle.records.specs.Outcome.{ok, refused}
 use Rattle.records.specs.Records.{read}
 use Rattle.rules.specs.Columns.{Column, within, columnFormat}
 use Rattle.rules.specs.Columns.{entriesIn, publishedIn, largestIn, sheetLimits, limitedSheet, readSheet}
-use Rattle.rules.specs.Circuit.{constantsIn, addsIn, scalesIn, gatesIn, testsIn}
+use Rattle.rules.specs.Circuit.{constantsIn, gatesIn, testsIn}
 use Rattle.columns.specs.declared.Counts.{Counts}
 use Rattle.columns.specs.Counting.{countsOf, Small}
-use Rattle.columns.proofs.Sums.{entries, published, constants, adds, scales, gates, tests, total-append, largest-append}
+use Rattle.columns.proofs.Sums.{entries, published, constants, gates, tests, total-append, largest-append}
 use Rattle.sheet.specs.declared.Reading.the-variants as answer
 use Rattle.sheet.specs.Reading.{reading, readingOf, plus, more, limited}
 
 -- ---- the counts: those of the columns, or both past the limit
 pub none-small : Small 320 (countsOf [])
-unfolding entriesIn publishedIn constantsIn addsIn scalesIn gatesIn testsIn largestIn
+unfolding entriesIn publishedIn constantsIn gatesIn testsIn largestIn
 none-small = search arith
 
 abbrev pub Tracks : Counts → List Column → Type 0
@@ -37,8 +37,6 @@ counts-next done c =
       total-append entries done (c ∷ []),
       total-append published done (c ∷ []),
       total-append constants done (c ∷ []),
-      total-append adds done (c ∷ []),
-      total-append scales done (c ∷ []),
       total-append gates done (c ∷ []),
       total-append tests done (c ∷ []),
       largest-append done (c ∷ []),

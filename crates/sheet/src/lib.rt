@@ -42,8 +42,6 @@ fn with(c: Counts, d: Counts) -> Counts
         entries: c.entries + d.entries,
         published: c.published + d.published,
         constants: c.constants + d.constants,
-        adds: c.adds + d.adds,
-        scales: c.scales + d.scales,
         gates: c.gates + d.gates,
         tests: c.tests + d.tests,
         largest: larger(c.largest, d.largest),

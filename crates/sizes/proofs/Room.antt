@@ -12,7 +12,8 @@ use Rattle.algebra.specs.Lists.{All, all[], all∷}
 use Rattle.rules.specs.Settings.{document01}
 use Rattle.rules.specs.Circuit.{addsIn, scalesIn, gatesIn, testsIn}
 use Rattle.rules.specs.CircuitReader.{bodyLengths}
-use Rattle.rules.specs.Columns.{Column, yesNo, choice, number, top, largestOf, entriesIn, largestIn, columnsOf, mostReturns}
+use Rattle.rules.specs.Columns.{Column, yesNo, choice, number, top, largestOf, entriesIn, publishedIn, largestIn, columnsOf}
+use Rattle.rules.specs.Columns.{mostReturns}
 use Rattle.rules.specs.Judging.{shareSize}
 use Rattle.rules.specs.Making.{shareLength}
 use Rattle.rules.specs.Sizes.{weighed, sizesOf, circuitSize}
@@ -50,22 +51,24 @@ length-is h k l = simp unary-clauses at (h .rule (suc k) (omega arith) (omega ar
 
 -- the steps of each kind, added up
 pub steps-are : (c : Counts)
-    → (c .constants + 1) * suc (lengthAt 0) + c .entries * suc (lengthAt 1) + c .adds * suc (lengthAt 2) + c .scales * suc (lengthAt 3)
-    + c .gates * suc (lengthAt 4) + c .tests * suc (lengthAt 5) ≡ stepsSize c
+    → (c .constants + 1) * suc (lengthAt 0) + c .entries * suc (lengthAt 1) + addsMade c * suc (lengthAt 2)
+    + scalesMade c * suc (lengthAt 3) + c .gates * suc (lengthAt 4) + c .tests * suc (lengthAt 5)
+    ≡ stepsSize c
 unfolding stepsSize weighed
 steps-are c = omega arith
 
-pub steps-most : (c : Counts) → Small 256 c → stepsSize c ≤ 10000
-steps-most c h = omega (arith, steps-are c)
+pub adds-most : (c : Counts) → Small 256 c → addsMade c ≤ 768
+unfolding addsMade
+adds-most c h = omega arith
 
 pub scales-most : (c : Counts) → Small 256 c → scalesMade c ≤ 512
 unfolding scalesMade
 scales-most c h = omega arith
 
-pub steps-most : (c : Counts) → Small 256 c → stepsSize 1 c ≤ 12000
-steps-most c h = omega (arith, steps-are 1 c, adds-most c h, scales-most c h)
+pub steps-most : (c : Counts) → Small 256 c → stepsSize c ≤ 14000
+steps-most c h = omega (arith, steps-are c, adds-most c h, scales-most c h)
 
-pub wires-most : (c : Counts) → Small 256 c → wiresMade c ≤ 2000
+pub wires-most : (c : Counts) → Small 256 c → wiresMade c ≤ 2500
 unfolding wiresMade
 wires-most c h = omega (arith, adds-most c h, scales-most c h)
 

@@ -14,15 +14,22 @@ use Rattle.sizes.specs.declared.Sizes.{Sizes}
 use Rattle.sizes.specs.declared.Told.{Told}
 use Rattle.sizes.specs.declared.Told.the-variants as answer
 
+-- the additions and the products with a constant among the steps of columns with these counts
+unfoldable pub addsMade : Counts → ℕ
+addsMade c = c .gates + c .tests - c .columns
+
+unfoldable pub scalesMade : Counts → ℕ
+scalesMade c = 2 * c .entries - c .published - c .gates
+
 -- the bytes of the steps of some columns, and of a constant in front
 unfoldable pub stepsSize : Counts → ℕ
 stepsSize c =
     rules.weighed (bodyLengths document01)
-    (suc (c .constants) ∷ c .entries ∷ c .adds ∷ c .scales ∷ c .gates ∷ c .tests ∷ [])
+    (suc (c .constants) ∷ c .entries ∷ addsMade c ∷ scalesMade c ∷ c .gates ∷ c .tests ∷ [])
 
 -- the wires that the steps of columns make: kinds 1 to 5 make one each
 unfoldable pub wiresMade : Counts → ℕ
-wiresMade c = c .constants + c .entries + c .adds + c .scales + c .gates
+wiresMade c = c .constants + c .entries + addsMade c + scalesMade c + c .gates
 
 -- the greatest N that opens, by the largest value of all columns
 unfoldable pub greatestOf : ℕ → ℕ

@@ -41,6 +41,24 @@ fn kind_size(lengths: &[usize; 6], kind: usize, n: usize) -> usize
     n * (1 + lengths[kind])
 }
 
+// The additions among the steps of columns with these counts: one before each multiplication, which checks a bit, and one
+// for each term of a sum; the sums of a column have as many terms as the column has tests, less one.
+fn adds(c: Counts) -> usize
+    requires { ⌜ Small 256 c ⌝ }
+    ensures { λ r. ⌜ (r ≡ addsMade c) × (r ≤ 768) ⌝ }
+{
+    c.gates + c.tests - c.columns
+}
+
+// The products with a constant: each entry that is not published is a bit and has one with its weight, each that no
+// multiplication checks is a number and has one with p - 1.
+fn scales(c: Counts) -> usize
+    requires { ⌜ Small 256 c ⌝ }
+    ensures { λ r. ⌜ (r ≡ scalesMade c) × (r ≤ 512) ⌝ }
+{
+    2 * c.entries - c.published - c.gates
+}
+
 // The bytes of the steps of some columns, and of a constant in front.
 fn steps_size(lengths: &[usize; 6], c: Counts) -> usize
     requires { ⌜ BodyTable (now lengths) × Small 256 c ⌝ }
@@ -67,7 +85,7 @@ pub fn columns_wires(c: Counts) -> u32
     requires { ⌜ Small 256 c ⌝ }
     ensures { λ r. ⌜ r ≡ wiresMade c ⌝ }
 {
-    (c.constants + c.entries + c.adds + c.scales + c.gates) as u32
+    (c.constants + c.entries + adds(c) + scales(c) + c.gates) as u32
 }
 
 // The greatest N that opens, where the largest value of all columns is this.

@@ -3,7 +3,7 @@ use mathlib.Core.Path.{refl, ap, _∙_}
 use native.Mathlib.Omega.{arith}
 use borrow.Author.Needs.{needs}
 use Rattle.rules.specs.Columns.{entriesOf, publishedOf, largestOf}
-use Rattle.rules.specs.Circuit.{constantsOf, addsOf, scalesOf, gatesOf, testsOf}
+use Rattle.rules.specs.Circuit.{constantsOf, gatesOf, testsOf}
 use Rattle.rules.proofs.Circuits.BitLength.{bit-length}
 use Rattle.columns.specs.Kinds.{fromCode}
 use Rattle.columns.proofs.Taken.{counts-one}
@@ -49,7 +49,7 @@ top-counts-requires c κs =
     (omega (arith, e, b .bits-most), e)
 
 returns : tie.Need-returns
-unfolding entriesOf publishedOf constantsOf addsOf scalesOf gatesOf testsOf
+unfolding entriesOf publishedOf constantsOf gatesOf testsOf
 returns c =
     let l = c .before .before .largest-of .ensures in
     rw (counts-one _, l, c .enum-told .given .1) refl

@@ -4,7 +4,7 @@ use Prim.Native.Nat.{_*_}
 use native.Mathlib.Numerals.{add-one}
 use borrow.Author.Needs.{needs}
 use Rattle.rules.specs.Columns.{entriesOf, publishedOf, largestOf}
-use Rattle.rules.specs.Circuit.{constantsOf, addsOf, scalesOf, gatesOf, testsOf}
+use Rattle.rules.specs.Circuit.{constantsOf, gatesOf, testsOf}
 use Rattle.columns.proofs.Taken.{counts-one}
 use Rattle.columns.proofs.top_counts.Statement.{statement}
 use Rattle.columns.proofs.top_counts.Tie as tie
@@ -18,27 +18,15 @@ add-t4 c = search needs
 mul-t5 : tie.Need-mul-t5
 mul-t5 c = search needs
 
-add-t6 : tie.Need-add-t6
-add-t6 c = search needs
+mul-t6 : tie.Need-mul-t6
+mul-t6 c = search needs
 
-mul-t7 : tie.Need-mul-t7
-mul-t7 c = search needs
-
-add-t8 : tie.Need-add-t8
-add-t8 c = search needs
-
-mul-t9 : tie.Need-mul-t9
-mul-t9 c = search needs
-
-mul-t10 : tie.Need-mul-t10
-mul-t10 c = search needs
-
-add-t11 : tie.Need-add-t11
-add-t11 c = search needs
+add-t7 : tie.Need-add-t7
+add-t7 c = search needs
 
 returns : tie.Need-returns
-unfolding entriesOf publishedOf constantsOf addsOf scalesOf gatesOf testsOf largestOf
-returns c = rw (counts-one _, ← c .pre .1, add-one (2 * c .args .b), add-one (4 * c .args .b)) refl
+unfolding entriesOf publishedOf constantsOf gatesOf testsOf largestOf
+returns c = rw (counts-one _, ← c .pre .1, add-one (2 * c .args .b)) refl
 
 pub top-counts-spec : {M : Type 1} → statement M
-top-counts-spec = tie.close (tie.spec mul-t3 add-t4 mul-t5 add-t6 mul-t7 add-t8 mul-t9 mul-t10 add-t11 returns)
+top-counts-spec = tie.close (tie.spec mul-t3 add-t4 mul-t5 mul-t6 add-t7 returns)

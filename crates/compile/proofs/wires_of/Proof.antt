@@ -20,6 +20,8 @@ unfolding wiresMade
 wires-one k =
     omega (
       arith,
+      adds-made (k ∷ []),
+      scales-made (k ∷ []),
       total-one constants k,
       total-one entries k,
       total-one adds k,

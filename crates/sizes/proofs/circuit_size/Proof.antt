@@ -1,7 +1,5 @@
--- `sizes::circuit_size` meets its contract: the table of body lengths keeps its rule, and a circuit has one constant more
--- than its columns. Assumes nothing.
+-- `sizes::circuit_size` meets its contract: the table of body lengths keeps its rule. Assumes nothing.
 use mathlib.Core.Path.{refl}
-use native.Mathlib.Omega.{arith}
 use Rattle.algebra.specs.Lists.{every, countFrom}
 use Rattle.circuit.proofs.BodyTable.{tested}
 use Rattle.sizes.proofs.circuit_size.Statement.{statement}
@@ -9,7 +7,7 @@ use Rattle.sizes.proofs.circuit_size.Tie as tie
 
 steps-size-requires : tie.Need-steps-size-requires
 unfolding every countFrom
-steps-size-requires c κs = (tested _ refl, omega arith, c .before .pre)
+steps-size-requires c κs = (tested _ refl, c .before .pre)
 
 returns : tie.Need-returns
 returns c = c .steps-size .ensures

@@ -48,7 +48,7 @@ add-result-5 : tie.Need-add-result-5
 add-result-5 c =
     omega (
       arith,
-      c .before .before .before .before .before .before .before .before .pre .2,
+      c .before .before .before .before .before .before .before .before .before .pre .1,
       c .before .before .before .before .before .before .before .kind-size .ensures .1,
       c .before .before .before .before .before .before .kind-size2 .ensures .1,
       c .before .before .before .before .before .adds .ensures .1,
@@ -61,7 +61,7 @@ add-result-5 c =
 
 returns : tie.Need-returns
 returns c =
-    let a = c .before .before .before .before .before .before .before .before in
+    let a = c .before .before .before .before .before .before .before .before .before in
     rw (
       c .before .before .before .before .before .before .before .kind-size .ensures .0,
       c .before .before .before .before .before .before .kind-size2 .ensures .0,
@@ -71,8 +71,7 @@ returns c =
       c .before .before .before .scales .ensures .0,
       c .before .kind-size5 .ensures .0,
       c .kind-size6 .ensures .0,
-      steps-are (f .before .before .args .c),
-    )
+    ) (steps-are (a .args .c))
 
 pub steps-size-spec : {M : Type 1} → statement M
 steps-size-spec =

@@ -17,7 +17,7 @@ use Rattle.rules.specs.Settings.{document01}
 use Rattle.rules.specs.Columns.{Column, yesNo, entriesOf, publishedOf, entriesIn, publishedIn, publishedFrom}
 use Rattle.rules.specs.Server.{publishedShares}
 use Rattle.rules.specs.Table.{sheetIn, columnsIn, openedIn, totalsIn, waitingIn, totalsPlace, addedTotals}
-use Rattle.rules.proofs.Circuits.Limits.{limits}
+use Rattle.rules.proofs.Circuits.Limits.{limits, published-few-of}
 use Rattle.rules.proofs.Histories.ClosingBytes.{getD-map}
 use Rattle.columns.specs.Kinds.{bytesOfKind}
 use Rattle.columns.proofs.Sums.{entries, published, total-most}
@@ -33,7 +33,7 @@ use Rattle.table.specs.Reading.{Sound}
 use Rattle.rounds.specs.Waits.{Waits}
 use Rattle.rounds.specs.Totals.{wordAt, wordsAdded, Addable, totalWith, withPublished}
 use Rattle.rounds.proofs.AddedWords.{length-run, run-none, run-more, run-behind, length-run-put}
-use Rattle.rounds.proofs.PublishedEntries.{published-first, published-at}
+use Rattle.rounds.proofs.PublishedEntries.{published-at}
 use Rattle.rounds.proofs.PublishedSums.{says, total-word, total-below, share-word, sheet-reads, sheet-long}
 
 pub record Added (T : List ℕ) (k : Table) (t : List ℕ) (c : Cursor) : Type 0 where
@@ -141,7 +141,7 @@ module _ (T : List ℕ) (k : Table) (v : Waits T k) (t : List ℕ) (c : Cursor) 
             ∙ ap valueOf
             (run-behind (totalWith T) T start (c .published) (share + 4 * c .entry + 4 * i) 4 run-fits (omega (arith, a .few)))
             ∙ ap (wordAt T) same
-            ∙ share-word T k (v .sound) (c .entry + i) (omega (arith, entries-fit, published-first column, l))
+            ∙ share-word T k (v .sound) (c .entry + i) (omega (arith, entries-fit, published-few-of column, l))
 
         sum-is : wordsAdded t (start + 4 * c .published) (share + 4 * c .entry) i ≡ totalWith T (c .published + i)
         unfolding wordsAdded totalWith
@@ -160,7 +160,7 @@ module _ (T : List ℕ) (k : Table) (v : Waits T k) (t : List ℕ) (c : Cursor) 
 
       pub added-addable : Addable t (start + 4 * c .published) (share + 4 * c .entry) count
       added-addable =
-          let few = published-first column in
+          let few = published-few-of column in
           record {
             apart = omega (arith, count-is, published-few);
             fits = omega (arith, count-is, few, entries-fit, v .sound .long, a .same);

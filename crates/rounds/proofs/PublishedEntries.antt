@@ -8,18 +8,8 @@ use native.Mathlib.Omega.{arith}
 use lib.ListN.{length, getD, take, List·getD-append}
 use lib.Seq.{getD-append-add}
 use Rattle.algebra.specs.Lists.{countFrom}
-use Rattle.rules.specs.Columns.{Column, yesNo, choice, number, entriesOf, publishedOf, entriesIn, publishedIn, publishedFrom}
-
-pub published-first : (c : Column) → publishedOf c ≤ entriesOf c
-unfolding publishedOf entriesOf
-published-first yesNo = omega arith
-published-first (choice n) = omega arith
-published-first (number n) = omega arith
-
-length-count : (a n : ℕ) → length (countFrom a n) ≡ n
-unfolding countFrom
-length-count a zero = refl
-length-count a (suc n) = ap suc (length-count (suc a) n)
+use Rattle.rules.specs.Columns.{Column, yesNo, entriesOf, publishedOf, entriesIn, publishedIn, publishedFrom}
+use Rattle.rules.proofs.Circuits.Limits.{count-length}
 
 count-at : (a n i : ℕ) → i < n → getD (countFrom a n) i 0 ≡ a + i
 unfolding countFrom
@@ -33,12 +23,12 @@ unfolding publishedFrom publishedIn entriesIn
 published-at [] a k i h l = absurd (omega arith)
 published-at (c ∷ cs) a zero i h l =
     ap (λ n. getD (countFrom a (publishedOf c) ++ publishedFrom (a + entriesOf c) cs) n 0) (zero-add i)
-    ∙ List·getD-append (countFrom a (publishedOf c)) _ 0 i (rw length-count l)
+    ∙ List·getD-append (countFrom a (publishedOf c)) _ 0 i (rw count-length l)
     ∙ count-at a (publishedOf c) i l
     ∙ omega arith
 published-at (c ∷ cs) a (suc k) i h l =
     let e : publishedOf c + publishedIn (take k cs) + i ≡ length (countFrom a (publishedOf c)) + (publishedIn (take k cs) + i)
-    = omega (arith, length-count a (publishedOf c)) in
+    = omega (arith, count-length a (publishedOf c)) in
     ap (λ n. getD (countFrom a (publishedOf c) ++ publishedFrom (a + entriesOf c) cs) n 0) e
     ∙ getD-append-add (countFrom a (publishedOf c)) (publishedFrom (a + entriesOf c) cs) (publishedIn (take k cs) + i) 0
     ∙ published-at cs (a + entriesOf c) k i (omega arith) l

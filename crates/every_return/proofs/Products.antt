@@ -9,7 +9,7 @@ use native.Mathlib.Omega.{arith}
 use borrow.Author.Tests.{le-leb, lt-leb}
 use lib.ListN.{length, getD, take, drop}
 use Rattle.algebra.specs.Lists.{All, all[], all∷}
-use Rattle.rules.specs.Columns.{Column, yesNo, choice, number, valuesOf}
+use Rattle.rules.specs.Columns.{Column, yesNo, choice, number, top, valuesOf}
 use Rattle.rules.specs.EveryReturn.{listsIn, mostLists}
 use Rattle.rules.proofs.Circuits.Limits.{InLimits}
 use Rattle.every_return.specs.Listing.{countedUp}
@@ -23,6 +23,7 @@ unfolding valuesOf
 values-pos yesNo h = omega arith
 values-pos (choice n) h = omega (arith, h .0)
 values-pos (number n) h = power-pos n
+values-pos (top n) h = omega arith
 
 lists-pos : (cs : List Column) → All InLimits cs → 0 < listsIn cs
 unfolding listsIn

@@ -11,20 +11,20 @@
 //! | 0 | 1 | stage: 0 idle, 1 awaits round one, 2 awaits round two, 3 closed |
 //! | 1 | 1 | S |
 //! | 2 | 1 | own number |
-//! | 3 | 1 | length of the sheet less 1 (a sheet that is read has 1 to 256 bytes) |
-//! | 4 | 2 | N |
-//! | 6 | 2 | returns decided, dropped ones included |
-//! | 8 | 2 | returns accepted |
-//! | 10 | 4 | id that waits |
-//! | 14 | 8 | the two elements of the message that was written last for it |
-//! | 22 | 20 | a, b, c, r × h(r) and tau of its share |
-//! | 42 | | the sheet |
+//! | 3 | 2 | length of the sheet (a sheet that is read has 1 to 426 bytes) |
+//! | 5 | 2 | N |
+//! | 7 | 2 | returns decided, dropped ones included |
+//! | 9 | 2 | returns accepted |
+//! | 11 | 4 | id that waits |
+//! | 15 | 8 | the two elements of the message that was written last for it |
+//! | 23 | 20 | a, b, c, r × h(r) and tau of its share |
+//! | 43 | | the sheet |
 //! | | | the totals, an element for each published entry |
 //! | | | the published entries of the share that waits |
 //! | | | N ids, the decided ones first |
 //!
-//! Bytes 10 to 21 and the share's published entries are held while a return waits, bytes 22
-//! to 41 while it awaits round one. What is not held is free, as are the ids' places past the
+//! Bytes 11 to 22 and the share's published entries are held while a return waits, bytes 23
+//! to 42 while it awaits round one. What is not held is free, as are the ids' places past the
 //! decided ones. A table is refused 11 when its slice is too short for it, or when S, own
 //! number, N, sheet, refusal 4's rule, stage, an element that is held or a count breaks its
 //! limit. The counts: accepted at most decided, decided at most N, and below N while a return
@@ -32,7 +32,7 @@
 //!
 //! Every table that is not refused has parts that some calls could have left in it, each by
 //! itself: a waiting share's u_0, v_0, h and the challenges can be chosen so that any elements
-//! stand in bytes 14 to 41. So no call trusts what it has not looked at.
+//! stand in bytes 15 to 42. So no call trusts what it has not looked at.
 
 mod judge;
 mod layout;

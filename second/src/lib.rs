@@ -1,5 +1,5 @@
-//! A second program for the figures pool of document 01 and the further calls of
-//! document 02, written from the papers alone.
+//! A second program for the figures pool of document 01 and the further columns and
+//! calls of document 02, written from the papers alone.
 //!
 //! Three forms of the same rules live here:
 //!

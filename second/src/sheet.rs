@@ -11,6 +11,8 @@ pub const MAX_MULTIPLICATIONS: u64 = 256;
 pub const MAX_TESTS: u64 = 512;
 /// Decided returns N, at most.
 pub const MAX_LIMIT: u32 = 1024;
+/// The top T of a column of kind 20, at most.
+pub const MAX_TOP: u32 = 16_777_215;
 
 /// One column of a sheet.
 #[derive(Clone, Copy, Debug, PartialEq, Eq)]
@@ -21,6 +23,9 @@ pub enum Column {
     Choice(u8),
     /// Kind 19 with b bits: entry v, then b bit entries, lowest first.
     Number(u8),
+    /// Kind 20 with a top T of b bits: "the entries are v, the b bits of v, and the b bits of
+    /// T - v".
+    Top(u32),
 }
 
 impl Column {
@@ -33,9 +38,23 @@ impl Column {
             [18, options @ 2..=64, next @ ..] => (Column::Choice(*options), next),
             [19, bits @ 1..=24, next @ ..] => (Column::Number(*bits), next),
             [18 | 19, _, ..] => return Err(refusal::LIMIT),
-            // An unknown kind, or kind 18 or 19 as the last byte.
+            // "A T out of range is refused as a count."
+            [20, t0, t1, t2, t3, next @ ..] => match u32::from_le_bytes([*t0, *t1, *t2, *t3]) {
+                top @ 1..=MAX_TOP => (Column::Top(top), next),
+                _ => return Err(refusal::LIMIT),
+            },
+            // An unknown kind, or a body that is cut.
             _ => return Err(refusal::KIND),
         }))
+    }
+
+    /// "With b the bit length of T": b of kinds 19 and 20, 0 of the others.
+    pub(crate) fn bits(self) -> u8 {
+        match self {
+            Column::YesNo | Column::Choice(_) => 0,
+            Column::Number(bits) => bits,
+            Column::Top(top) => (u32::BITS - top.leading_zeros()) as u8,
+        }
     }
 
     /// How many entries the column has.
@@ -44,14 +63,15 @@ impl Column {
             Column::YesNo => 1,
             Column::Choice(options) => usize::from(options),
             Column::Number(bits) => 1 + usize::from(bits),
+            Column::Top(_) => 1 + 2 * usize::from(self.bits()),
         }
     }
 
     /// How many of its entries are published. They stand at the column's start:
-    /// every entry of kinds 17 and 18, and v of kind 19.
+    /// every entry of kinds 17 and 18, and v of kinds 19 and 20.
     pub fn published(self) -> usize {
         match self {
-            Column::YesNo | Column::Number(_) => 1,
+            Column::YesNo | Column::Number(_) | Column::Top(_) => 1,
             Column::Choice(options) => usize::from(options),
         }
     }
@@ -62,15 +82,17 @@ impl Column {
             Column::YesNo => 1,
             Column::Choice(options) => usize::from(options),
             Column::Number(bits) => usize::from(bits),
+            Column::Top(_) => 2 * usize::from(self.bits()),
         }
     }
 
     /// How many tests its part of the circuit has: one for each bit check, and one
-    /// for the sum of kinds 18 and 19.
+    /// for each sum: one sum of kinds 18 and 19, two of kind 20.
     pub fn tests(self) -> usize {
         match self {
             Column::YesNo => 1,
             Column::Choice(_) | Column::Number(_) => self.multiplications() + 1,
+            Column::Top(_) => self.multiplications() + 2,
         }
     }
 
@@ -80,14 +102,17 @@ impl Column {
             Column::YesNo => 2,
             Column::Choice(options) => u32::from(options),
             Column::Number(bits) => 1u32.checked_shl(u32::from(bits)).unwrap_or(u32::MAX),
+            // "Legal values are 0 to T."
+            Column::Top(top) => top.saturating_add(1),
         }
     }
 
-    /// The largest value of a published entry: 2^b - 1 for kind 19, else 1.
+    /// The largest value of a published entry: 2^b - 1 for kind 19, T for kind 20, else 1.
     pub fn largest(self) -> u64 {
         match self {
             Column::YesNo | Column::Choice(_) => 1,
             Column::Number(_) => u64::from(self.values()) - 1,
+            Column::Top(top) => u64::from(top),
         }
     }
 }
@@ -234,5 +259,25 @@ mod tests {
         let sheet = Sheet::read(&[19, 2, 17, 19, 1, 18, 2]).unwrap();
         let published: Vec<usize> = sheet.published_entries().collect();
         assert_eq!(published, [0, 3, 4, 6, 7]);
+    }
+
+    #[test]
+    fn counts_of_tops() {
+        let sheet = Sheet::read(&[17, 20, 200, 0, 0, 0, 20, 0, 1, 0, 0, 17]).unwrap();
+        let (hours, more) = (Column::Top(200), Column::Top(256));
+        assert_eq!(sheet.columns(), [Column::YesNo, hours, more, Column::YesNo]);
+        assert_eq!(sheet.entries(), 1 + 17 + 19 + 1);
+        assert_eq!(sheet.published(), 4);
+        assert_eq!(sheet.multiplications(), 1 + 16 + 18 + 1);
+        assert_eq!(sheet.tests(), 1 + 18 + 20 + 1);
+        let published: Vec<usize> = sheet.published_entries().collect();
+        assert_eq!(published, [0, 1, 18, 37]);
+        assert_eq!((hours.values(), hours.largest()), (201, 200));
+        for (top, bits) in [(1, 1), (2, 2), (3, 2), (4, 3), (127, 7), (128, 8)] {
+            assert_eq!(Column::Top(top).bits(), bits);
+        }
+        assert_eq!(Column::Top((1 << 23) - 1).bits(), 23);
+        assert_eq!(Column::Top(1 << 23).bits(), 24);
+        assert_eq!(Column::Top(MAX_TOP).bits(), 24);
     }
 }

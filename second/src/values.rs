@@ -25,11 +25,22 @@ pub fn encode(sheet: &Sheet, values: &[u8]) -> Result<Vec<u64>, u32> {
             // "Entry v, then b bit entries, lowest first."
             Column::Number(bits) => {
                 entries.push(u64::from(value));
-                entries.extend((0..bits).map(|bit| u64::from(value >> bit & 1)));
+                entries.extend(bits_of(value, bits));
+            }
+            // "The entries are v, the b bits of v, and the b bits of T - v."
+            Column::Top(top) => {
+                entries.push(u64::from(value));
+                entries.extend(bits_of(value, column.bits()));
+                entries.extend(bits_of(top - value, column.bits()));
             }
         }
     }
     Ok(entries)
+}
+
+/// The lowest b bits of a number, lowest first.
+fn bits_of(number: u32, bits: u8) -> impl Iterator<Item = u64> {
+    (0..bits).map(move |bit| u64::from(number >> bit & 1))
 }
 
 #[cfg(test)]
@@ -60,5 +71,23 @@ mod tests {
             Err(refusal::VALUES)
         );
         assert_eq!(encode(&sheet, &[]), Err(refusal::VALUES));
+    }
+
+    #[test]
+    fn up_to_a_top() {
+        let sheet = Sheet::read(&[20, 5, 0, 0, 0, 17]).unwrap();
+        for (value, v, rest) in [
+            (0, [0, 0, 0], [1, 0, 1]),
+            (1, [1, 0, 0], [0, 0, 1]),
+            (4, [0, 0, 1], [1, 0, 0]),
+            (5, [1, 0, 1], [0, 0, 0]),
+        ] {
+            let entries = [&[u64::from(value)][..], &v, &rest, &[1]].concat();
+            assert_eq!(encode(&sheet, &bytes(&[value, 1])), Ok(entries));
+        }
+        // 6 and 7 have three bits too.
+        for wrong in [6, 7, 8, 1 << 24, u32::MAX] {
+            assert_eq!(encode(&sheet, &bytes(&[wrong, 1])), Err(refusal::VALUES));
+        }
     }
 }

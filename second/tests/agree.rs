@@ -65,13 +65,15 @@ fn tables_agree_after_every_call() {
 /// Full-size sheets of every kind, with r at and around the points of h.
 #[test]
 fn full_sheets_agree() {
-    let sheets: [Vec<u8>; 6] = [
+    let sheets: [Vec<u8>; 8] = [
         vec![17; 256],
         vec![18, 64, 18, 64, 18, 64, 18, 64],
         [18, 2].repeat(128),
         [19, 24].repeat(10).into_iter().chain([19, 5]).collect(),
         [19, 1].repeat(128),
         [17, 18, 3, 19, 7].repeat(21),
+        longest_sheet(),
+        largest_sheet(),
     ];
     let mut rng = Rng::new(23);
     for bytes in &sheets {

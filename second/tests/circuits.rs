@@ -21,6 +21,11 @@ fn size(column: Column) -> (usize, usize) {
             let b = usize::from(bits);
             (2 + 5 * b, 3 + check * b + 7 + (7 + 5) * b + 3)
         }
+        Column::Top(top) => {
+            let b = top.ilog2() as usize + 1;
+            let (first, second) = (7 + (7 + 5) * b + 3, 5 + 5 + (7 + 5) * b + 3);
+            (4 + 10 * b, 3 + check * 2 * b + first + second)
+        }
     }
 }
 
@@ -48,29 +53,52 @@ fn every_sheet_circuit_is_read_with_the_sheets_counts() {
     }
 }
 
-#[test]
-fn largest_circuit_of_a_sheet() {
-    // The best over all sheets of each number of entries.
+/// The most that a count comes to over all sheets, a best choice of columns for each number of
+/// entries. Columns of one kind with the same b are alike.
+fn most(count: impl Fn(Column) -> usize) -> usize {
     let columns: Vec<Column> = std::iter::once(Column::YesNo)
         .chain((2..=64).map(Column::Choice))
         .chain((1..=24).map(Column::Number))
+        .chain(tops().map(Column::Top))
         .collect();
-    let most = |count: &dyn Fn(Column) -> usize| {
-        let mut best = vec![0; 257];
-        for entries in 1..=256 {
-            best[entries] = columns
-                .iter()
-                .filter(|column| column.entries() <= entries)
-                .map(|&column| best[entries - column.entries()] + count(column))
-                .max()
-                .unwrap();
-        }
-        best[256]
-    };
-    assert_eq!(5 + most(&|column| size(column).1), 7_008);
-    assert_eq!(1 + most(&|column| size(column).0), 1_248);
-    assert_eq!(most(&Column::multiplications), 256);
-    assert_eq!(most(&Column::tests), 384);
+    let mut best = vec![0; 257];
+    for entries in 1..=256 {
+        best[entries] = columns
+            .iter()
+            .filter(|column| column.entries() <= entries)
+            .map(|&column| best[entries - column.entries()] + count(column))
+            .max()
+            .unwrap();
+    }
+    best[256]
+}
+
+/// The bytes of a column in a sheet.
+fn sheet_bytes(column: Column) -> usize {
+    match column {
+        Column::YesNo => 1,
+        Column::Choice(_) | Column::Number(_) => 2,
+        Column::Top(_) => 5,
+    }
+}
+
+#[test]
+fn largest_circuit_of_a_sheet() {
+    assert_eq!(5 + most(|column| size(column).1), 7_161);
+    assert_eq!(1 + most(|column| size(column).0), 1_275);
+    assert_eq!(most(Column::multiplications), 256);
+    assert_eq!(most(Column::tests), 384);
+    assert_eq!(most(Column::published), 256);
+    assert_eq!(most(|_| 1), 256);
+    assert_eq!(most(sheet_bytes), 426);
+    let elements = |column: Column| column.entries() + 2 * column.multiplications();
+    assert_eq!(6 + 4 * (most(elements) + 6), 3_102);
+    // Sheets that come to these.
+    let read = Circuit::of(&Sheet::read(&largest_sheet()).unwrap());
+    assert_eq!((read.bytes().len(), read.wires()), (7_161, 1_275));
+    let longest = longest_sheet();
+    assert_eq!(longest.len(), 426);
+    assert!(Sheet::read(&longest).is_ok());
 }
 
 /// The steps of a bit check whose first wire has this number.
@@ -110,6 +138,105 @@ fn choice_and_number_by_hand() {
     check(&[17, 19, 2], &[&start, &yes_no, &value, &low, &high, &sum]);
 }
 
+#[test]
+fn top_by_hand() {
+    use Step::*;
+    let check = |sheet: &[u8], parts: &[&[Step]]| {
+        let circuit = Circuit::of(&Sheet::read(sheet).unwrap());
+        assert_eq!(circuit.steps(), parts.concat());
+    };
+    let start = [Constant(P - 1)];
+    // T = 1: v, its bit, the bit of 1 - v.
+    let checks = [bit_check(1, 2), bit_check(2, 5)].concat();
+    let first = [Scale(1, P - 1), Scale(2, 1), Add(8, 9), Test(10)];
+    let second = [
+        Constant(P - 1),
+        Add(11, 1),
+        Scale(5, 1),
+        Add(12, 13),
+        Test(14),
+    ];
+    check(
+        &[20, 1, 0, 0, 0],
+        &[&start, &[Entry(0)], &checks, &first, &second],
+    );
+    // T = 2 after a yes/no: two bits of v, two of 2 - v.
+    let checks: Vec<Step> = (0..4).flat_map(|k| bit_check(2 + k, 5 + 3 * k)).collect();
+    let first = [
+        Scale(4, P - 1),
+        Scale(5, 1),
+        Add(17, 18),
+        Scale(8, 2),
+        Add(19, 20),
+        Test(21),
+    ];
+    let second = [
+        Constant(P - 2),
+        Add(22, 4),
+        Scale(11, 1),
+        Add(23, 24),
+        Scale(14, 2),
+        Add(25, 26),
+        Test(27),
+    ];
+    let value = [Entry(1)];
+    check(
+        &[17, 20, 2, 0, 0, 0],
+        &[&start, &bit_check(0, 1), &value, &checks, &first, &second],
+    );
+}
+
+/// The tests of a list of a sheet that are not zero, by their number.
+fn failing(sheet: &[u8], list: &[u64]) -> Vec<usize> {
+    let circuit = Circuit::of(&Sheet::read(sheet).unwrap());
+    let mut wires: Vec<u64> = Vec::new();
+    let mut tests = Vec::new();
+    for step in circuit.steps() {
+        let wire = |number: u16| wires[usize::from(number)];
+        wires.push(match *step {
+            Step::Constant(constant) => constant,
+            Step::Entry(entry) => list[usize::from(entry)],
+            Step::Add(left, right) => (wire(left) + wire(right)) % P,
+            Step::Scale(source, constant) => wire(source) * constant % P,
+            Step::Multiply(left, right) => wire(left) * wire(right) % P,
+            Step::Test(source) => {
+                tests.push(wire(source));
+                continue;
+            }
+        });
+    }
+    assert_eq!(
+        circuit.is_valid(list),
+        Some(tests.iter().all(|&wire| wire == 0))
+    );
+    (0..tests.len()).filter(|&k| tests[k] != 0).collect()
+}
+
+/// A value past the top that fits b bits: whatever bits stand second, the last test, and it
+/// alone, tells.
+#[test]
+fn past_the_top() {
+    for (top, bits) in [(2, 2), (4, 3), (5, 3), (6, 3), (200, 8)] {
+        let bit = |number: u64, j: u64| number >> j & 1;
+        for value in 0..1u64 << bits {
+            let mut taken = Vec::new();
+            for rest in 0..1u64 << bits {
+                let mut list = vec![value];
+                list.extend((0..bits).map(|j| bit(value, j)));
+                list.extend((0..bits).map(|j| bit(rest, j)));
+                let failing = failing(&top_column(top), &list);
+                if failing.is_empty() {
+                    taken.push(rest);
+                } else {
+                    assert_eq!(failing, [2 * bits as usize + 1]);
+                }
+            }
+            let rest = u64::from(top).checked_sub(value);
+            assert_eq!(taken, rest.into_iter().collect::<Vec<u64>>());
+        }
+    }
+}
+
 /// The lists of all values of a small sheet.
 fn encodings(sheet: &Sheet) -> Vec<Vec<u64>> {
     let mut lists = vec![Vec::new()];
@@ -145,6 +272,10 @@ fn valid_lists_are_the_encodings() {
         &[19, 1],
         &[19, 2],
         &[17, 18, 2],
+        &[20, 1, 0, 0, 0],
+        &[20, 2, 0, 0, 0],
+        &[20, 3, 0, 0, 0],
+        &[20, 1, 0, 0, 0, 17],
     ] {
         let shape = Sheet::read(sheet).unwrap();
         let checks = Circuit::of(&shape);

@@ -137,7 +137,9 @@ fn sheets_read_and_refused() {
     assert!(circuit(&[18, 2], ROOM).is_ok());
     assert!(circuit(&[18, 64], ROOM).is_ok());
     assert_eq!(circuit(&[], ROOM), Err(2));
+    // A lone byte 20 is a cut body.
     assert_eq!(circuit(&[20], ROOM), Err(1));
+    assert_eq!(circuit(&[21], ROOM), Err(1));
 }
 
 /// The input of recount in the example.
@@ -208,6 +210,24 @@ fn recount_refusals() {
     long[65_536] = 17;
     assert_eq!(recount(&long), "refused 2\n");
     assert_eq!(recount(&long[..long.len() - 1]), "refused 12\n");
+}
+
+/// A column with a top is published as one total, option 0.
+#[test]
+fn recount_of_a_top() {
+    let mut input = vec![8, 0, 18, 2, 20, 200, 0, 0, 0, 17, 2, 0, 4];
+    input.extend(closing(0, 2, &[P32 - 1, 1, 7, 0]));
+    input.extend(closing(1, 2, &[2, 0, 318, 1]));
+    let text = "accepted 2\n1 0 1\n1 1 1\n2 0 325\n3 0 1\n";
+    assert_eq!(recount(&input), text);
+    // One total fewer, a top out of range, too many returns.
+    assert_eq!(recount(&input[..input.len() - 4]), "refused 12\n");
+    input[8] = 1;
+    assert_eq!(recount(&input), "refused 2\n");
+    let most = [5, 0, 20, 255, 255, 255, 0, 2];
+    assert_eq!(recount(&[&most[..], &[129, 0]].concat()), "refused 4\n");
+    assert_eq!(recount(&[&most[..], &[128, 0]].concat()), "refused 12\n");
+    assert_eq!(recount(&[4, 0, 20, 1, 0, 0, 2, 1, 0]), "refused 1\n");
 }
 
 #[test]

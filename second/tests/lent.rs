@@ -37,7 +37,7 @@ fn openings_agree() {
         let Ok(Lent { length, bytes }) = lent else {
             continue;
         };
-        for room in [0, 1, 41, length / 2, length - 1] {
+        for room in [0, 1, 42, length / 2, length - 1] {
             let mut short = vec![FILL; room];
             assert_eq!(
                 lent::open(*servers, *own, sheet, *limit, &mut short),
@@ -64,10 +64,13 @@ fn shares_agree() {
         [19, 24].repeat(10).into_iter().chain([19, 5]).collect(),
         [19, 1].repeat(128),
         [17, 18, 3, 19, 7].repeat(21),
+        longest_sheet(),
+        largest_sheet(),
     ];
     sheets.extend((1..70).map(|count| vec![17; count]));
     sheets.extend((2..20).map(|options| vec![18, options, 17]));
     sheets.extend((1..24).map(|bits| vec![17, 19, bits]));
+    sheets.extend(tops().map(|top| [vec![18, 2], top_column(top), vec![17]].concat()));
     let mut rng = Rng::new(42);
     for bytes in &sheets {
         let sheet = Sheet::read(bytes).unwrap();

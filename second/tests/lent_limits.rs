@@ -77,9 +77,9 @@ fn message(answer: Answer) -> Vec<u8> {
 fn sound(bytes: &[u8]) -> Option<u8> {
     let number = |at: usize| u32::from(bytes[at]) + 256 * u32::from(bytes[at + 1]);
     let (stage, servers, own) = (bytes[0], bytes[1], bytes[2]);
-    let end = 42 + usize::from(bytes[3]) + 1;
-    let sheet = bytes.get(42..end)?;
-    let (limit, decided, accepted) = (number(4), number(6), number(8));
+    let end = 43 + number(3) as usize;
+    let sheet = bytes.get(43..end)?;
+    let (limit, decided, accepted) = (number(5), number(7), number(9));
     table::open(servers.into(), own.into(), sheet, limit).ok()?;
     let published = 4 * Sheet::read(sheet).ok()?.published();
     let totals = bytes.get(end..end + published)?;
@@ -88,8 +88,8 @@ fn sound(bytes: &[u8]) -> Option<u8> {
     field::elements(totals)?;
     let held = match stage {
         0 | 3 => &[],
-        1 => &bytes[14..42],
-        2 => &bytes[14..22],
+        1 => &bytes[15..43],
+        2 => &bytes[15..23],
         _ => return None,
     };
     field::elements(held)?;
@@ -128,7 +128,12 @@ fn whole(table: &Lent) -> Lent {
 
 #[test]
 fn header_and_sheet_bytes_changed() {
-    for (sheet, limit) in [(&[17, 18, 3, 19, 24][..], 3), (&[17], 4), (&[17; 40], 1024)] {
+    for (sheet, limit) in [
+        (&[17, 18, 3, 19, 24][..], 3),
+        (&[17], 4),
+        (&[17; 40], 1024),
+        (&[20, 5, 0, 0, 0, 17], 3),
+    ] {
         let Stages {
             tables,
             calls,
@@ -137,7 +142,7 @@ fn header_and_sheet_bytes_changed() {
         for table in &tables {
             let table = whole(table);
             check(&table, &calls);
-            for at in 0..42 + sheet.len() {
+            for at in 0..43 + sheet.len() {
                 for byte in 0..=255 {
                     let mut other = table.clone();
                     other.bytes[at] = byte;
@@ -151,7 +156,13 @@ fn header_and_sheet_bytes_changed() {
 #[test]
 fn elements_not_below_p() {
     let p = P as u32;
-    for sheet in [&[17, 18, 3, 19, 5][..], &[17], &[17; 37], &[18, 2, 18, 9]] {
+    for sheet in [
+        &[17, 18, 3, 19, 5][..],
+        &[17],
+        &[17; 37],
+        &[18, 2, 18, 9],
+        &[20, 200, 0, 0, 0, 18, 2],
+    ] {
         let Stages {
             tables,
             calls,
@@ -159,12 +170,12 @@ fn elements_not_below_p() {
         } = stages(sheet, 5);
         let published = Sheet::read(&sheet).unwrap().published();
         for (stage, table) in tables.iter().enumerate() {
-            let totals = 42 + sheet.len();
+            let totals = 43 + sheet.len();
             let entries = totals + 4 * published;
             let ids = entries + 4 * published;
-            let mut places: Vec<(usize, bool)> = vec![(10, false)];
-            places.extend((14..22).step_by(4).map(|at| (at, stage == 1 || stage == 2)));
-            places.extend((22..42).step_by(4).map(|at| (at, stage == 1)));
+            let mut places: Vec<(usize, bool)> = vec![(11, false)];
+            places.extend((15..23).step_by(4).map(|at| (at, stage == 1 || stage == 2)));
+            places.extend((23..43).step_by(4).map(|at| (at, stage == 1)));
             places.extend((totals..entries).step_by(4).map(|at| (at, true)));
             places.extend(
                 (entries..ids)
@@ -201,7 +212,7 @@ fn short_and_long_slices() {
             assert_eq!(taken(&other, &calls), takes);
         }
     }
-    for length in [0, 1, 41, 42, 43, 7000] {
+    for length in [0, 1, 42, 43, 44, 7000] {
         for byte in [0, 1, 2, 17, 255] {
             let table = Lent {
                 bytes: vec![byte; length],

@@ -22,6 +22,10 @@ fn by_hand() {
     assert_eq!(lists(&[17]), [[0], [1]]);
     assert_eq!(lists(&[18, 3]), [[0], [1], [2]]);
     assert_eq!(lists(&[19, 2]), [[0], [1], [2], [3]]);
+    assert_eq!(lists(&[20, 1, 0, 0, 0]), [[0], [1]]);
+    assert_eq!(lists(&[20, 4, 0, 0, 0]), [[0], [1], [2], [3], [4]]);
+    let top = [[0, 0], [0, 1], [0, 2], [1, 0], [1, 1], [1, 2]];
+    assert_eq!(lists(&[17, 20, 2, 0, 0, 0]), top);
     let mixed = [[0, 0], [0, 1], [0, 2], [1, 0], [1, 1], [1, 2]];
     assert_eq!(lists(&[17, 18, 3]), mixed);
     let turned = [[0, 0], [0, 1], [1, 0], [1, 1], [2, 0], [2, 1]];
@@ -61,12 +65,14 @@ fn rising_and_legal() {
 /// A list is written exactly when making takes its values.
 #[test]
 fn all_and_no_other() {
-    let sheets: [&[u8]; 5] = [
+    let sheets: [&[u8]; 7] = [
         &[17, 17],
         &[18, 4, 17],
         &[19, 2, 18, 3],
         &[19, 3],
         &[17, 19, 1, 18, 2],
+        &[20, 6, 0, 0, 0],
+        &[20, 1, 0, 0, 0, 17, 20, 2, 0, 0, 0],
     ];
     for bytes in sheets {
         let sheet = Sheet::read(bytes).unwrap();
@@ -93,12 +99,20 @@ fn limits() {
         ([18, 64].repeat(2), 4096),
         ([18, 3].repeat(7), 2187),
         (vec![18, 39, 18, 35, 18, 3], 4095),
+        (top_column(4095), 4096),
+        ([top_column(584), vec![18, 7]].concat(), 4095),
+        (top_column(1).repeat(12), 4096),
     ] {
         assert_eq!(every_return(&sheet, ROOM).unwrap().lists, lists);
     }
     let many = [vec![18, 41, 18, 50, 17], [18, 3].repeat(8), vec![19, 13]];
     let more = [vec![19, 24], [18, 64].repeat(4), [19, 24].repeat(10)];
-    for sheet in many.iter().chain(&more) {
+    let tops = [4096, 16_777_215].map(top_column);
+    let wide = [
+        [top_column(2047), vec![18, 3]].concat(),
+        top_column(1).repeat(85),
+    ];
+    for sheet in many.iter().chain(&more).chain(&tops).chain(&wide) {
         assert_eq!(refused(sheet, ROOM), Some(17));
         assert_eq!(refused(sheet, 0), Some(17));
     }

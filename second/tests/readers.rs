@@ -8,13 +8,20 @@ use second::{read_circuit, Sheet};
 fn sheet_refusals() {
     let read = |bytes: &[u8]| Sheet::read(bytes).map(|_| ());
     // Kinds and cut bodies.
-    for kind in (0..=255).filter(|kind| !(17..=19).contains(kind)) {
+    for kind in (0..=255).filter(|kind| !(17..=20).contains(kind)) {
         assert_eq!(read(&[kind]), Err(1));
-        assert_eq!(read(&[17, kind, 2]), Err(1));
+        assert_eq!(read(&[17, kind, 2, 0, 0, 0]), Err(1));
     }
     assert_eq!(read(&[18]), Err(1));
     assert_eq!(read(&[19]), Err(1));
     assert_eq!(read(&[17, 17, 18]), Err(1));
+    for body in 0..4 {
+        for byte in [0, 1, 17, 255] {
+            let cut = [vec![20], vec![byte; body]].concat();
+            assert_eq!(read(&cut), Err(1));
+            assert_eq!(read(&[vec![17; 300], cut].concat()), Err(1));
+        }
+    }
     // Counts.
     for count in 0..=255 {
         let choice = if (2..=64).contains(&count) {
@@ -30,16 +37,42 @@ fn sheet_refusals() {
         };
         assert_eq!(read(&[19, count]), number);
     }
+    for (top, answer) in [
+        (0, Err(2)),
+        (1, Ok(())),
+        (2, Ok(())),
+        (200, Ok(())),
+        (256, Ok(())),
+        (65_536, Ok(())),
+        (16_777_214, Ok(())),
+        (16_777_215, Ok(())),
+        (16_777_216, Err(2)),
+        (16_777_217, Err(2)),
+        (1 << 31, Err(2)),
+        (u32::MAX, Err(2)),
+    ] {
+        assert_eq!(read(&[&[20], &top.to_le_bytes()[..]].concat()), answer);
+    }
     // The earlier record wins, whatever its number.
     assert_eq!(read(&[18, 1, 99]), Err(2));
     assert_eq!(read(&[99, 18, 1]), Err(1));
     assert_eq!(read(&[19, 0, 18]), Err(2));
+    assert_eq!(read(&[20, 0, 0, 0, 0, 99]), Err(2));
+    assert_eq!(read(&[20, 0, 0, 0, 1, 20]), Err(2));
+    assert_eq!(read(&[99, 20, 0, 0, 0, 0]), Err(1));
     // Total limits last.
     assert_eq!(read(&[]), Err(2));
     assert_eq!(read(&[17; 256]), Ok(()));
     assert_eq!(read(&[17; 257]), Err(2));
     assert_eq!(read(&[18, 64, 18, 64, 18, 64, 18, 64]), Ok(()));
     assert_eq!(read(&[18, 64, 18, 64, 18, 64, 18, 64, 17]), Err(2));
+    // Five of 49 entries and one of 11; 85 of 3 entries and one more.
+    let high = [20, 255, 255, 255, 0].repeat(5);
+    assert_eq!(read(&[&high[..], &[20, 31, 0, 0, 0]].concat()), Ok(()));
+    assert_eq!(read(&[&high[..], &[20, 32, 0, 0, 0]].concat()), Err(2));
+    let low = [20, 1, 0, 0, 0].repeat(85);
+    assert_eq!(read(&[&low[..], &[17]].concat()), Ok(()));
+    assert_eq!(read(&[&low[..], &[17, 17]].concat()), Err(2));
     let mut long = vec![17; 300];
     long.push(99);
     assert_eq!(read(&long), Err(1));

@@ -36,6 +36,23 @@ fn opening() {
     // 1,024 times 2^21 - 1 is below p, 1,024 times 2^22 - 1 is not.
     assert_eq!(refused(2, 0, &[19, 21], 1024), None);
     assert_eq!(refused(2, 0, &[19, 22], 1024), Some(4));
+    // T is the largest value; 1,023 times 2,099,202 is p - 1.
+    for (top, most) in [
+        (16_777_215, 128),
+        (16_777_214, 128),
+        (8_388_607, 256),
+        (8_388_608, 255),
+        (2_099_203, 1022),
+        (2_099_202, 1023),
+        (2_097_151, 1024),
+        (200, 1024),
+        (1, 1024),
+    ] {
+        let more = if most == 1024 { 2 } else { 4 };
+        assert_eq!(refused(2, 0, &top_column(top), most), None);
+        assert_eq!(refused(2, 0, &top_column(top), most + 1), Some(more));
+    }
+    assert_eq!(refused(2, 0, &top_column(2_097_152), 1024), Some(4));
 }
 
 #[test]
@@ -79,6 +96,31 @@ fn wrong_values(sheet: &[u8], values: &[u8], random: &[u8], room: usize) {
         assert_eq!(make(sheet, 2, 5, &words(wrong), random, room), Err(5));
     }
     assert_eq!(make(sheet, 2, 5, &values[..7], random, room), Err(5));
+}
+
+/// T is taken and T + 1 is not, whether it fits b bits or not.
+#[test]
+fn values_at_the_top() {
+    for top in tops() {
+        let sheet = top_column(top);
+        let shape = Sheet::read(&sheet).unwrap();
+        let random = words(&vec![3; shape.share_elements() + 4]);
+        for (value, number) in [
+            (0, None),
+            (top - 1, None),
+            (top, None),
+            (top + 1, Some(5)),
+            (
+                (2 << top.ilog2()) - 1,
+                Some(5).filter(|_| !(top + 1).is_power_of_two()),
+            ),
+            (2 << top.ilog2(), Some(5)),
+            (u32::MAX, Some(5)),
+        ] {
+            let made = make(&sheet, 2, 1, &words(&[value]), &random, ROOM);
+            assert_eq!(made.err(), number, "{value} of {top}");
+        }
+    }
 }
 
 /// Random elements at fault: too few, too many, one not below p.

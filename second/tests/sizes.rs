@@ -40,6 +40,12 @@ fn by_hand() {
     assert_eq!(row(&[18, 3]), [1, 3, 3, 13, 3, 4, 71, 66, 1024]);
     assert_eq!(row(&[19, 1]), [1, 2, 1, 8, 1, 2, 46, 46, 1024]);
     assert_eq!(row(&[19, 24]), [1, 25, 1, 123, 24, 25, 690, 322, 128]);
+    let top = |top| row(&top_column(top));
+    assert_eq!(top(1), [1, 3, 1, 15, 2, 4, 87, 58, 1024]);
+    assert_eq!(top(2), [1, 5, 1, 25, 4, 6, 143, 82, 1024]);
+    assert_eq!(top(3), top(2));
+    assert_eq!(top(200), [1, 17, 1, 85, 16, 18, 479, 226, 1024]);
+    assert_eq!(top(16_777_215), [1, 49, 1, 245, 48, 50, 1375, 610, 128]);
     let mixed = [17, 18, 3, 19, 4];
     assert_eq!(row(&mixed), [3, 9, 5, 38, 8, 10, 212, 130, 1024]);
     // The largest of each count.
@@ -50,6 +56,10 @@ fn by_hand() {
     let numbers = [[19, 24].repeat(10), vec![19, 5]].concat();
     let most = [11, 256, 11, 1248, 245, 256, 7008, 3014, 128];
     assert_eq!(row(&numbers), most);
+    let most = [6, 256, 6, 1275, 250, 262, 7161, 3054, 255];
+    assert_eq!(row(&largest_sheet()), most);
+    let most = [86, 256, 86, 1194, 171, 341, 6991, 2422, 1024];
+    assert_eq!(row(&longest_sheet()), most);
 }
 
 #[test]
@@ -99,6 +109,7 @@ fn the_greatest_n() {
     let mut rng = Rng::new(43);
     let mut sheets: Vec<Vec<u8>> = (1..=24).map(|bits| vec![19, bits]).collect();
     sheets.extend([vec![17], vec![18, 64], vec![19, 3, 19, 24, 17]]);
+    sheets.extend([2_097_151, 2_097_152, 8_388_608].map(top_column));
     sheets.extend((0..12).map(|_| gen::sheet(&mut rng, 40)));
     for sheet in &sheets {
         let opening = |limit: &u32| open(2, 1, sheet, *limit).is_ok();
@@ -107,6 +118,9 @@ fn the_greatest_n() {
         assert_eq!(opened, (1..=greatest).collect::<Vec<u32>>());
         let read = Sheet::read(sheet).unwrap();
         assert_eq!(greatest, gen::largest_limit(&read));
+    }
+    for (top, most) in [(16_777_215, 128), (8_388_608, 255), (200, 1024)] {
+        assert_eq!(sizes(&top_column(top)).unwrap().greatest_limit, most);
     }
     for (bits, most) in [(24, 128), (23, 256), (22, 512), (21, 1024)] {
         assert_eq!(sizes(&[19, bits]).unwrap().greatest_limit, most);

@@ -5,7 +5,8 @@ mod common;
 use common::*;
 use second::field::P;
 use second::gen::{self, added_up, lets_in, Origin, Return, Rng};
-use second::{close, drop, join, make, open, share, Circuit, Column, Joined, Sheet, Verdict};
+use second::{close, drop, fast, join, make, open, share};
+use second::{Circuit, Column, Joined, Sheet, Verdict};
 
 /// Adds values to the published sums.
 fn add_values(sheet: &Sheet, values: &[u8], sums: &mut [u64]) {
@@ -63,6 +64,8 @@ fn true_sums() {
         [19, 24].repeat(10).into_iter().chain([19, 5]).collect(),
         [19, 1].repeat(128),
         [18, 2].repeat(128),
+        longest_sheet(),
+        largest_sheet(),
     ];
     for max in [1, 2, 5, 10, 20, 40, 80] {
         for _ in 0..6 {
@@ -109,6 +112,76 @@ fn a_full_pool() {
             totals: words(&[total]),
         })
     );
+}
+
+/// The largest totals that open with the greatest top: 128 times 16,777,215 does not wrap.
+#[test]
+fn every_return_at_the_top() {
+    let mut rng = Rng::new(10);
+    let (sheet, top) = (top_column(16_777_215), 16_777_215);
+    let shape = Sheet::read(&sheet).unwrap();
+    let mut tables = open_all(2, &sheet, 128);
+    for id in 0..128 {
+        let random = gen::elements(&mut rng, shape.share_elements() + 4);
+        let messages = fast::make(&sheet, 2, id, &words(&[top]), &random, ROOM).unwrap();
+        let (r, s) = gen::pair(&mut rng, 48);
+        let judged = judge(&mut tables, &split(&shape, &messages), r, s);
+        assert_eq!(judged.2, Verdict::Accepted);
+    }
+    let closings = tables.iter_mut().map(|table| close(table, ROOM).unwrap());
+    let joined = closings.collect::<Vec<_>>().concat();
+    assert_eq!(
+        join(2, &sheet, 128, &joined, 4),
+        Ok(Joined {
+            count: 128,
+            totals: words(&[2_147_483_520]),
+        })
+    );
+}
+
+/// Hours of 201 to 255 with a top of 200, the bits of v right, the others the bits of any
+/// number: made as a workshop makes a return, and rejected. With hours up to 200 and the bits of
+/// what is left to 200 it is accepted.
+#[test]
+fn hours_past_the_top() {
+    let sheet = Sheet::read(&top_column(200)).unwrap();
+    let mut rng = Rng::new(12);
+    for (value, rest) in [
+        (200, 0),
+        (0, 200),
+        (199, 1),
+        (201, 255),
+        (201, 0),
+        (201, 1),
+        (255, 55),
+        (255, 201),
+        (200, 1),
+        (0, 0),
+        (256, 200),
+    ] {
+        let bits = |number: u64| (0..8).map(move |j| number >> j & 1);
+        let entries: Vec<u64> = std::iter::once(value)
+            .chain(bits(value))
+            .chain(bits(rest))
+            .collect();
+        let honest = value + rest == 200;
+        let given = Return::of_entries(&mut rng, &sheet, 3, 1, &entries);
+        let mut tables = open_all(3, &top_column(200), 10);
+        let (_, second, verdict) = judge(&mut tables, &given.shares, given.r, 5);
+        assert_eq!(verdict == Verdict::Accepted, honest, "{value} {rest}");
+        // The polynomials are those of the entries: a test tells.
+        assert_eq!(sums(&second).0, 0);
+        let total = if honest { value as u32 } else { 0 };
+        let closings = tables.iter_mut().map(|table| close(table, ROOM).unwrap());
+        let joined = closings.collect::<Vec<_>>().concat();
+        assert_eq!(
+            join(3, &top_column(200), 10, &joined, 4),
+            Ok(Joined {
+                count: u32::from(honest),
+                totals: words(&[total]),
+            })
+        );
+    }
 }
 
 /// At most so many pairs let a false return in: for the smallest circuit, count them over

@@ -45,13 +45,35 @@ impl Builder {
                     .map(|bit| self.bit_check(entry + 1 + bit, minus_one))
                     .collect();
                 let start = self.make(Step::Scale(value, P - 1));
-                let last = wires.iter().zip(0u32..).fold(start, |running, (&wire, j)| {
-                    let term = self.make(Step::Scale(wire, 1 << j));
-                    self.make(Step::Add(running, term))
-                });
-                self.steps.push(Step::Test(last));
+                self.add_bits(start, &wires);
+            }
+            // "Entry v; 2b bit checks; the sum and test of kind 19 over the first bits; then
+            // the constant p - T, add v to it, add each of the second bits times 2^j, bit by
+            // bit as there, and test."
+            Column::Top(top) => {
+                let bits = column.bits();
+                let value = self.make(Step::Entry(entry));
+                let wires: Vec<u16> = (0..2 * u16::from(bits))
+                    .map(|bit| self.bit_check(entry + 1 + bit, minus_one))
+                    .collect();
+                let (first, second) = wires.split_at(usize::from(bits));
+                let start = self.make(Step::Scale(value, P - 1));
+                self.add_bits(start, first);
+                let minus_top = self.make(Step::Constant(P - u64::from(top)));
+                let start = self.make(Step::Add(minus_top, value));
+                self.add_bits(start, second);
             }
         }
+    }
+
+    /// From a running sum on, "for each bit j from 0, bit wire times 2^j, then add the running
+    /// sum and it; test the last sum".
+    fn add_bits(&mut self, start: u16, bits: &[u16]) {
+        let last = bits.iter().zip(0u32..).fold(start, |running, (&wire, j)| {
+            let term = self.make(Step::Scale(wire, 1 << j));
+            self.make(Step::Add(running, term))
+        });
+        self.steps.push(Step::Test(last));
     }
 
     /// "A bit check of entry e: entry e; add it and wire 0; multiply the entry wire by

@@ -21,6 +21,8 @@ pub(super) enum Group {
     YesNo(usize),
     Choice(usize),
     Number(usize),
+    /// So many bits, and the top.
+    Top(usize, u64),
 }
 
 pub(super) fn groups(sheet: &Sheet) -> Vec<Group> {
@@ -31,6 +33,9 @@ pub(super) fn groups(sheet: &Sheet) -> Vec<Group> {
             (Column::YesNo, _) => groups.push(Group::YesNo(1)),
             (Column::Choice(options), _) => groups.push(Group::Choice(usize::from(options))),
             (Column::Number(bits), _) => groups.push(Group::Number(usize::from(bits))),
+            (Column::Top(top), _) => {
+                groups.push(Group::Top(usize::from(column.bits()), u64::from(top)));
+            }
         }
     }
     groups
@@ -48,7 +53,10 @@ pub(super) fn test_wires(
     tests.clear();
     for &group in groups {
         // Each bit check tests its product.
-        let (Group::YesNo(checks) | Group::Choice(checks) | Group::Number(checks)) = group;
+        let checks = match group {
+            Group::YesNo(checks) | Group::Choice(checks) | Group::Number(checks) => checks,
+            Group::Top(bits, _) => 2 * bits,
+        };
         let (own, next) = outputs.split_at(checks);
         tests.extend_from_slice(own);
         outputs = next;
@@ -63,10 +71,22 @@ pub(super) fn test_wires(
             Group::Number(bits) => {
                 let (own, next) = entries.split_at(1 + bits);
                 entries = next;
-                let terms = own[1..].iter().zip(0u32..);
-                let sum: u64 = terms.map(|(&bit, j)| bit << j).sum();
-                tests.push(strict(sum + P - own[0]));
+                tests.push(strict(weighed(&own[1..]) + P - own[0]));
+            }
+            // Below 2^32 + 2^55 before the reduction.
+            Group::Top(bits, top) => {
+                let (own, next) = entries.split_at(1 + 2 * bits);
+                entries = next;
+                let (low, high) = own[1..].split_at(bits);
+                let minus_top = if first { P - top } else { 0 };
+                tests.push(strict(weighed(low) + P - own[0]));
+                tests.push(strict(weighed(high) + own[0] + minus_top));
             }
         }
     }
+}
+
+/// The sum of 2^j times bit j.
+fn weighed(bits: &[u64]) -> u64 {
+    bits.iter().zip(0u32..).map(|(&bit, j)| bit << j).sum()
 }

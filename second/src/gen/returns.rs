@@ -64,15 +64,38 @@ pub fn pair(rng: &mut Rng, multiplications: usize) -> (u64, u64) {
 impl Return {
     /// A random return of an origin under an id.
     pub fn random(rng: &mut Rng, sheet: &Sheet, servers: u32, id: u32, origin: Origin) -> Return {
-        let circuit = Circuit::of(sheet);
-        let (r, s) = pair(rng, sheet.multiplications());
         let entries = match origin {
             Origin::FalseEntries => false_entries(rng, sheet),
             Origin::Forged | Origin::Lucky => false_bits(rng, sheet),
             _ => true_entries(rng, sheet),
         };
+        Return::of(rng, sheet, servers, id, origin, &entries)
+    }
+
+    /// A return of L entries, valid or not, with the polynomials that belong to them.
+    pub fn of_entries(
+        rng: &mut Rng,
+        sheet: &Sheet,
+        servers: u32,
+        id: u32,
+        entries: &[u64],
+    ) -> Return {
+        Return::of(rng, sheet, servers, id, Origin::FalseEntries, entries)
+    }
+
+    /// A return of these entries, with the origin's fault.
+    fn of(
+        rng: &mut Rng,
+        sheet: &Sheet,
+        servers: u32,
+        id: u32,
+        origin: Origin,
+        entries: &[u64],
+    ) -> Return {
+        let circuit = Circuit::of(sheet);
+        let (r, s) = pair(rng, sheet.multiplications());
         let free = [(); 4].map(|()| rng.element());
-        let mut whole = making::whole(&circuit, &entries, &free);
+        let mut whole = making::whole(&circuit, entries, &free);
         falsify(rng, &circuit, origin, &mut whole, r);
         let random: Vec<u64> = (whole.len()..servers as usize * whole.len())
             .map(|_| rng.element())
@@ -138,6 +161,10 @@ fn true_entries(rng: &mut Rng, sheet: &Sheet) -> Vec<u64> {
 /// A valid list with an entry or more changed.
 fn false_entries(rng: &mut Rng, sheet: &Sheet) -> Vec<u64> {
     let mut entries = true_entries(rng, sheet);
+    if let Some(number) = sheets::with_gap(rng, sheet).filter(|_| rng.chance(50)) {
+        past_top(rng, sheet, &mut entries, number);
+        return entries;
+    }
     for _ in 0..rng.between(1, 3) {
         let at = rng.index(entries.len());
         entries[at] = match rng.below(3) {
@@ -147,6 +174,23 @@ fn false_entries(rng: &mut Rng, sheet: &Sheet) -> Vec<u64> {
         };
     }
     entries
+}
+
+/// Puts a value past its top, in as many bits, into a column: the bits of v are right, the
+/// others any bits, so that only the test of the second sum can tell.
+fn past_top(rng: &mut Rng, sheet: &Sheet, entries: &mut [u64], number: usize) {
+    let (before, column) = (&sheet.columns()[..number], sheet.columns()[number]);
+    let start: usize = before.iter().map(|column| column.entries()).sum();
+    let own = &mut entries[start..start + column.entries()];
+    let bits = usize::from(column.bits());
+    let first = u64::from(column.values());
+    let any = rng.between(first, (1 << bits) - 1);
+    let value = rng.pick([first, any, (1 << bits) - 1]);
+    own[0] = value;
+    for j in 0..bits {
+        own[1 + j] = value >> j & 1;
+        own[1 + bits + j] = rng.below(2);
+    }
 }
 
 /// A list whose sums are right but whose bits are not all bits.
@@ -168,6 +212,13 @@ fn false_bits(rng: &mut Rng, sheet: &Sheet) -> Vec<u64> {
                 Column::Number(_) => {
                     own[0] = field::add(own[0], delta);
                     own[1] = field::add(own[1], delta);
+                }
+                // The second sum starts with v, so that its bits take off what v has more.
+                Column::Top(_) => {
+                    let second = 1 + usize::from(column.bits());
+                    own[0] = field::add(own[0], delta);
+                    own[1] = field::add(own[1], delta);
+                    own[second] = field::sub(own[second], delta);
                 }
             }
         }

@@ -14,21 +14,29 @@ pub fn sheet(rng: &mut Rng, max_entries: usize) -> Vec<u8> {
         2 => rng.between(1, max),
         _ => max,
     };
-    let only = rng.pick([None, None, None, Some(17), Some(18), Some(19)]);
+    // One of the four kinds, or all of them.
+    let only = rng.below(8).checked_sub(4).map(|kind| 17 + kind);
     let widest = rng.pick([2, 5, 64]);
     let mut left = target;
     let mut bytes = Vec::new();
     while left > 0 {
-        let kind = only.unwrap_or_else(|| rng.pick([17, 18, 19]));
-        // Kinds 18 and 19 need two entries at least.
-        if kind == 17 || left == 1 {
-            bytes.push(17);
-            left -= 1;
-        } else if kind == 18 {
+        let kind = only.unwrap_or_else(|| rng.between(17, 20));
+        let (column, entries) = column(rng, kind, left, widest);
+        bytes.extend(column);
+        left -= entries;
+    }
+    bytes
+}
+
+/// A column of a kind with at most so many entries, and how many it has; a yes/no where the
+/// kind needs more than are left.
+fn column(rng: &mut Rng, kind: u64, left: u64, widest: u64) -> (Vec<u8>, u64) {
+    match kind {
+        18 if left >= 2 => {
             let options = rng.between(2, left.min(64).min(widest));
-            bytes.extend([18, options as u8]);
-            left -= options;
-        } else {
+            (vec![18, options as u8], options)
+        }
+        19 if left >= 2 => {
             let most = (left - 1).min(24).min(widest);
             // Wide numbers often: they are what refusal 4 is about.
             let bits = if rng.chance(30) {
@@ -36,11 +44,26 @@ pub fn sheet(rng: &mut Rng, max_entries: usize) -> Vec<u8> {
             } else {
                 rng.between(1, most)
             };
-            bytes.extend([19, bits as u8]);
-            left -= bits + 1;
+            (vec![19, bits as u8], 1 + bits)
         }
+        20 if left >= 3 => {
+            let bits = rng.between(1, ((left - 1) / 2).min(24).min(widest));
+            (top_column(top(rng, bits)), 1 + 2 * bits)
+        }
+        _ => (vec![17], 1),
     }
-    bytes
+}
+
+/// A top of so many bits (1 to 24), often the least or the greatest.
+pub(super) fn top(rng: &mut Rng, bits: u64) -> u32 {
+    let (least, greatest) = (1 << (bits - 1), (1 << bits) - 1);
+    let any = rng.between(least, greatest);
+    rng.pick([least, greatest, any, any]) as u32
+}
+
+/// A column with a top: the kind byte and the 4-byte top.
+pub(super) fn top_column(top: u32) -> Vec<u8> {
+    [&[20], &top.to_le_bytes()[..]].concat()
 }
 
 /// A legal sheet of few legal returns: up to 4,096, or, once in a while, a little over.
@@ -51,10 +74,16 @@ pub fn small_sheet(rng: &mut Rng) -> Vec<u8> {
     while left >= 2 {
         let options = rng.between(2, left.min(64));
         let bits = rng.between(1, u64::from(left.ilog2()));
-        let (column, values) = match rng.below(3) {
+        let (column, values) = match rng.below(4) {
             0 => (vec![17], 2),
             1 => (vec![18, options as u8], options),
-            _ => (vec![19, bits as u8], 1 << bits),
+            2 => (vec![19, bits as u8], 1 << bits),
+            _ => {
+                let few = rng.between(1, left.min(9) - 1);
+                let any = rng.between(1, left - 1);
+                let top = rng.pick([few, few, any, left - 1]);
+                (top_column(top as u32), top + 1)
+            }
         };
         bytes.extend(column);
         left /= values;
@@ -64,6 +93,32 @@ pub fn small_sheet(rng: &mut Rng) -> Vec<u8> {
     }
     bytes
 }
+
+/// Columns with a count outside its limits.
+const OUTSIDE: [&[u8]; 11] = [
+    &[18, 0],
+    &[18, 1],
+    &[18, 65],
+    &[18, 255],
+    &[19, 0],
+    &[19, 25],
+    &[19, 255],
+    &[20, 0, 0, 0, 0],
+    &[20, 0, 0, 0, 1],
+    &[20, 1, 0, 0, 1],
+    &[20, 255, 255, 255, 255],
+];
+
+/// Columns whose body is cut.
+const CUT: [&[u8]; 7] = [
+    &[18],
+    &[19],
+    &[20],
+    &[20, 0],
+    &[20, 200, 0],
+    &[20, 0, 0, 0],
+    &[20, 255, 255, 255],
+];
 
 /// A sheet that is meant to be refused, 1 or 2. (A few that were only touched in one byte
 /// are legal after all.)
@@ -77,28 +132,20 @@ pub fn damaged_sheet(rng: &mut Rng) -> Vec<u8> {
         0 => return Vec::new(),
         // An unknown kind, last or with more behind it.
         1 => {
-            bytes.push(rng.pick([0, 1, 16, 20, 33, 255]));
+            bytes.push(rng.pick([0, 1, 16, 21, 33, 255]));
             if rng.chance(50) {
                 bytes.extend(sheet(rng, 5));
             }
         }
         // A count outside its limits.
         2 => {
-            bytes.extend(rng.pick([
-                [18, 0],
-                [18, 1],
-                [18, 65],
-                [18, 255],
-                [19, 0],
-                [19, 25],
-                [19, 255],
-            ]));
+            bytes.extend(rng.pick(OUTSIDE));
             if rng.chance(50) {
                 bytes.extend(sheet(rng, 5));
             }
         }
         // A cut body.
-        3 => bytes.push(rng.pick([18, 19])),
+        3 => bytes.extend(rng.pick(CUT)),
         // Too many entries.
         4 => {
             while Sheet::read(&bytes).is_ok() || bytes.is_empty() {
@@ -117,6 +164,7 @@ pub fn damaged_sheet(rng: &mut Rng) -> Vec<u8> {
             [19, 25, 17, 18],
             [19, 0, 20, 20],
             [20, 19, 0, 18],
+            [21, 18, 1, 17],
         ])),
         7 => {
             let length = rng.between(1, 20) as usize;
@@ -127,7 +175,7 @@ pub fn damaged_sheet(rng: &mut Rng) -> Vec<u8> {
                 bytes.push(17);
             }
             let at = rng.index(bytes.len());
-            bytes[at] = rng.pick([0, 1, 2, 16, 17, 18, 19, 20, 24, 25, 64, 65, 255]);
+            bytes[at] = rng.pick([0, 1, 2, 16, 17, 18, 19, 20, 21, 24, 25, 64, 65, 255]);
         }
     }
     bytes
@@ -157,6 +205,18 @@ fn value(rng: &mut Rng, column: Column) -> u32 {
     }
 }
 
+/// A column with a top, by its number, that has a value past the top in as many bits; `None`
+/// where there is none.
+pub(super) fn with_gap(rng: &mut Rng, sheet: &Sheet) -> Option<usize> {
+    let columns = sheet.columns().iter().enumerate();
+    let gaps = columns.filter(|(_, column)| match column {
+        Column::Top(top) => !(top + 1).is_power_of_two(),
+        _ => false,
+    });
+    let gaps: Vec<usize> = gaps.map(|(number, _)| number).collect();
+    (!gaps.is_empty()).then(|| gaps[rng.index(gaps.len())])
+}
+
 /// Values that are refused 5.
 pub fn damaged_values(rng: &mut Rng, sheet: &Sheet) -> Vec<u8> {
     let mut bytes = values(rng, sheet);
@@ -170,7 +230,9 @@ pub fn damaged_values(rng: &mut Rng, sheet: &Sheet) -> Vec<u8> {
             bytes.resize(bytes.len() + more, 0);
         }
         _ => {
-            let at = rng.index(sheet.columns().len());
+            let any = rng.index(sheet.columns().len());
+            let gap = with_gap(rng, sheet).filter(|_| rng.chance(50));
+            let at = gap.unwrap_or(any);
             let past = sheet.columns()[at].values();
             let any = rng.between(u64::from(past), u64::from(u32::MAX)) as u32;
             let wrong = rng.pick([past, past + 1, any, u32::MAX]);

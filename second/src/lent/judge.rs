@@ -142,7 +142,8 @@ impl Walk<'_> {
     ) -> u64 {
         let (mut checked, mut shown) = (0, 0);
         self.tau(shape, s, |column, entries| {
-            // A number's first entry is published and is no input: the next one overwrites it.
+            // The first entry of a number, or of a column with a top, is published and is no
+            // input: the next one overwrites it.
             // The other kinds' entries are both.
             let lead = column.entries() - column.multiplications();
             for (i, &entry) in entries.iter().enumerate() {
@@ -176,29 +177,42 @@ impl Walk<'_> {
                 *place = value(output);
             }
             count += column.tests();
-            if let Some(test) = self.last_test(column, entries) {
-                tests[count - 1] = test;
-            }
+            self.sum_tests(column, entries, &mut tests[..count]);
             show(column, entries);
         }
         powers_sum(&tests[..count], s, |wire| wire)
     }
 
-    /// The test of a choice's or a number's sum.
-    fn last_test(&self, column: Column, entries: &[Word]) -> Option<u64> {
-        // Below 2^31 + 2^55 before the reduction.
-        let sum = match column {
-            Column::YesNo => return None,
-            Column::Choice(_) => {
+    /// Notes the tests of a column's sums, which are the last of its tests. The sums are below
+    /// 2^32 + 2^55 before the reduction.
+    #[inline(always)]
+    fn sum_tests(&self, column: Column, entries: &[Word], tests: &mut [u64]) {
+        match (column, tests) {
+            (Column::Choice(_), [.., last]) => {
                 let options = entries.iter().map(|&entry| value(entry));
-                options.sum::<u64>() + self.minus_one
+                *last = strict(options.sum::<u64>() + self.minus_one);
             }
-            Column::Number(_) => {
-                let bits = entries[1..].iter().zip(0u32..);
-                let sum: u64 = bits.map(|(&bit, j)| value(bit) << j).sum();
-                sum + P - value(entries[0])
+            (Column::Number(_), [.., last]) => {
+                *last = strict(weighed(&entries[1..]) + P - value(entries[0]));
             }
-        };
-        Some(strict(sum))
+            (Column::Top(top), [.., first, second]) => {
+                let (low, high) = entries[1..].split_at(usize::from(column.bits()));
+                // The constant p - T counts at server 0 only.
+                let minus_top = if self.minus_one == 0 {
+                    0
+                } else {
+                    P - u64::from(top)
+                };
+                *first = strict(weighed(low) + P - value(entries[0]));
+                *second = strict(weighed(high) + value(entries[0]) + minus_top);
+            }
+            _ => {}
+        }
     }
+}
+
+/// The sum of 2^j times bit j.
+fn weighed(bits: &[Word]) -> u64 {
+    let terms = bits.iter().zip(0u32..);
+    terms.map(|(&bit, j)| value(bit) << j).sum()
 }

@@ -24,13 +24,13 @@ const STAGE: usize = 0;
 const SERVERS: usize = 1;
 const OWN: usize = 2;
 const SHEET: usize = 3;
-const LIMIT: usize = 4;
-const DECIDED: usize = 6;
-const ACCEPTED: usize = 8;
-const ID: usize = 10;
-const MESSAGE: usize = 14;
-const FINDINGS: usize = 22;
-const HEADER: usize = 42;
+const LIMIT: usize = 5;
+const DECIDED: usize = 7;
+const ACCEPTED: usize = 9;
+const ID: usize = 11;
+const MESSAGE: usize = 15;
+const FINDINGS: usize = 23;
+const HEADER: usize = 43;
 
 /// The length of a table.
 pub(super) fn length(sheet: usize, shape: &Shape, limit: usize) -> usize {
@@ -43,7 +43,7 @@ pub(super) fn write(bytes: &mut [u8], servers: u8, own: u8, sheet: &[u8], limit:
     bytes[STAGE] = IDLE;
     bytes[SERVERS] = servers;
     bytes[OWN] = own;
-    bytes[SHEET] = (sheet.len() - 1) as u8;
+    bytes[SHEET..][..2].copy_from_slice(&(sheet.len() as u16).to_le_bytes());
     bytes[LIMIT..][..2].copy_from_slice(&limit.to_le_bytes());
     bytes[HEADER..][..sheet.len()].copy_from_slice(sheet);
 }
@@ -79,7 +79,7 @@ impl<'a> Table<'a> {
     fn parts(bytes: &'a mut [u8]) -> Option<Self> {
         let (header, rest) = bytes.split_first_chunk_mut::<HEADER>()?;
         let limit = usize::from(pair(header, LIMIT));
-        let (sheet, rest) = rest.split_at_mut_checked(usize::from(header[SHEET]) + 1)?;
+        let (sheet, rest) = rest.split_at_mut_checked(usize::from(pair(header, SHEET)))?;
         let shape = Shape::opening(sheet, limit as u32).ok()?;
         let (words, _) = rest.as_chunks_mut();
         let (totals, words) = words.split_at_mut_checked(shape.published)?;

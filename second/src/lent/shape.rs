@@ -114,13 +114,15 @@ mod tests {
         }
         for count in 0..300 {
             check(&vec![17; count]);
-            for last in [16, 18, 19, 20] {
+            for last in [16, 18, 19, 20, 21] {
                 let mut bytes = vec![17; count];
                 bytes.push(last);
                 check(&bytes);
                 bytes.push(2);
                 check(&bytes);
                 bytes.push(17);
+                check(&bytes);
+                bytes.extend([0, 0, 17]);
                 check(&bytes);
             }
         }

@@ -24,6 +24,26 @@ pub fn words(numbers: &[u32]) -> Vec<u8> {
     numbers.iter().flat_map(|n| n.to_le_bytes()).collect()
 }
 
+/// A column with a top.
+pub fn top_column(top: u32) -> Vec<u8> {
+    [&[20], &top.to_le_bytes()[..]].concat()
+}
+
+/// Tops at both sides of every bit length, the least and the greatest among them.
+pub fn tops() -> impl Iterator<Item = u32> {
+    (0..24).flat_map(|bits| [1 << bits, (2 << bits) - 1, 3 << bits >> 1])
+}
+
+/// The longest sheet: no sheet that is read has more bytes.
+pub fn longest_sheet() -> Vec<u8> {
+    [top_column(1).repeat(85), vec![17]].concat()
+}
+
+/// A sheet of the longest circuit: six tops with 256 entries.
+pub fn largest_sheet() -> Vec<u8> {
+    [top_column(1 << 23).repeat(5), top_column(16)].concat()
+}
+
 /// The bytes with others in their place from a position on.
 pub fn with(bytes: &[u8], at: usize, others: &[u8]) -> Vec<u8> {
     let mut bytes = bytes.to_vec();

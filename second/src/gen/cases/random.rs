@@ -212,7 +212,7 @@ fn damage_input(rng: &mut Rng, input: &mut Vec<u8>) {
         3 => {
             let mut sheet = vec![17; 65_535];
             if rng.chance(50) {
-                sheet[65_534] = rng.pick([18, 19, 20]);
+                sheet[65_534] = rng.pick([18, 19, 20, 21]);
             }
             *input = recount_input(2, &sheet, 1, &[]);
             let cut = rng.below(5) as usize;

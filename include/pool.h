@@ -66,7 +66,7 @@ extern "C" {
 /* Refusals. */
 #define POOL_DONE 0
 #define POOL_KIND 1     /* sheet or circuit: unknown kind byte, or the body is cut off */
-#define POOL_LIMIT 2    /* a count, constant, number of servers, server number or N outside its limits */
+#define POOL_LIMIT 2    /* a count, top, constant, number of servers, server number or N outside its limits */
 #define POOL_WIRE 3     /* circuit: a wire not yet made, or an entry that does not exist */
 #define POOL_WRAP 4     /* N returns could make a total of p or more */
 #define POOL_VALUE 5    /* not one value for each column, or a value outside its column */
@@ -97,11 +97,15 @@ extern "C" {
  *     POOL_YES_NO          no body; values 0 and 1; one entry, one published
  *     POOL_CHOICE, B       B options, 2 to 64; values 0 to B - 1; B entries, B published
  *     POOL_NUMBER, b       b bits, 1 to 24; values 0 to 2^b - 1; b + 1 entries, one published
- * A sheet has 1 to 256 entries. M is the number of multiplications: 1 for yes/no, B for a choice, b for a number.
+ *     POOL_TOP, T          a number with a top of its own: T in 4 bytes, 1 to 16,777,215; values 0 to T; with b the bit length
+ *                          of T, 2b + 1 entries, one published
+ * A sheet has 1 to 256 entries. M is the number of multiplications: 1 for yes/no, B for a choice, b for a number, 2b for a
+ * number with a top.
  */
 #define POOL_YES_NO 17
 #define POOL_CHOICE 18
 #define POOL_NUMBER 19
+#define POOL_TOP 20
 
 /*
  * Sizes of buffers, in bytes, from S (2 to 8), N and what pool_sizes tells of the sheet: its columns, published entries and
@@ -123,8 +127,8 @@ extern "C" {
 #define POOL_SHELF_BYTES(messages, width) ((size_t)(messages) * (size_t)(width))
 
 /* Sizes that are enough for every sheet and S. */
-#define POOL_MAX_SHEET_BYTES 256
-#define POOL_MAX_CIRCUIT_BYTES 7008
+#define POOL_MAX_SHEET_BYTES 426
+#define POOL_MAX_CIRCUIT_BYTES 7161
 #define POOL_MAX_VALUES_BYTES 1024
 #define POOL_MAX_RANDOM_BYTES 21688
 #define POOL_MAX_SHARE_BYTES 3102
@@ -146,7 +150,7 @@ extern "C" {
  *     tests              K of this circuit
  *     circuit_bytes      the length of this circuit
  *     share_bytes        the length of one share message
- *     greatest_returns   the greatest N that pool_open takes with this sheet: 1,024, or less where numbers are long
+ *     greatest_returns   the greatest N that pool_open takes with this sheet: 1,024, or less where numbers can be large
  * Refusals: 1 or 2 by the first column at fault; 2 for no entries or more than 256.
  */
 uint32_t pool_sizes(const uint8_t *sheet, size_t sheet_len,
@@ -174,7 +178,7 @@ uint32_t pool_read_circuit(uint32_t entries, const uint8_t *circuit, size_t circ
  *               the first column weighing most: from one list to the next the last column moves first. *written is
  *               POOL_EVERY_RETURN_BYTES; a sheet with at most 4,096 lists has at most 12 columns, so that
  *               POOL_MAX_EVERY_RETURN_BYTES are enough for every sheet
- *     lists     how many there are, 1 list for each choice of a value in every column: 2, B or 2^b values, multiplied
+ *     lists     how many there are, 1 list for each choice of a value in every column: 2, B, 2^b or T + 1 values, multiplied
  * Refusals: the sheet's, 17 for more than 4,096 lists, 14.
  */
 uint32_t pool_every_return(const uint8_t *sheet, size_t sheet_len, uint8_t *out, size_t out_len,

@@ -27,6 +27,7 @@ const (
 	kindYesNo    = C.POOL_YES_NO
 	kindChoice   = C.POOL_CHOICE
 	kindNumber   = C.POOL_NUMBER
+	kindTop      = C.POOL_TOP
 	elementBytes = 4
 	maxEvery     = C.POOL_MAX_EVERY_RETURN_BYTES
 	maxShelf     = C.POOL_MAX_SHELF_MESSAGES

@@ -9,7 +9,7 @@ import (
 
 // A whole pool in one program: two servers, two returns.
 func Example() {
-	sheet, err := pool.NewSheet(pool.YesNo(), pool.Number(8))
+	sheet, err := pool.NewSheet(pool.YesNo(), pool.UpTo(200))
 	if err != nil {
 		log.Fatal(err)
 	}

@@ -8,7 +8,7 @@ import (
 // Line is one published total.
 type Line struct {
 	Column int // from 1
-	Option int // from 0; always 0 for yes/no and numbers
+	Option int // from 0; always 0 for yes/no and numbers, with a top or without
 	Total  uint32
 }
 

@@ -104,18 +104,20 @@ func refused(t *testing.T, err error, want Refusal) {
 }
 
 func TestSheet(t *testing.T) {
-	sheet, err := ReadSheet([]byte{17, 18, 3, 19, 4})
+	sheet, err := ReadSheet([]byte{17, 18, 3, 20, 200, 1, 2, 0, 19, 4})
 	if err != nil {
 		t.Fatal(err)
 	}
-	if want := []Column{YesNo(), Choice(3), Number(4)}; !reflect.DeepEqual(sheet.Columns(), want) {
+	want := []Column{YesNo(), Choice(3), UpTo(200 + 256 + 2*65536), Number(4)}
+	if !reflect.DeepEqual(sheet.Columns(), want) {
 		t.Errorf("columns %v, want %v", sheet.Columns(), want)
 	}
 	for _, test := range []struct {
 		sheet []byte
 		want  Refusal
 	}{{nil, Limit}, {[]byte{20}, Kind}, {[]byte{18}, Kind}, {[]byte{18, 1}, Limit}, {[]byte{18, 65}, Limit},
-		{[]byte{19, 0}, Limit}, {[]byte{19, 25}, Limit}, {bytes.Repeat([]byte{17}, 257), Limit}} {
+		{[]byte{19, 0}, Limit}, {[]byte{19, 25}, Limit}, {bytes.Repeat([]byte{17}, 257), Limit}, {[]byte{21}, Kind},
+		{[]byte{20, 200, 0, 0}, Kind}, {[]byte{20, 0, 0, 0, 0}, Limit}, {[]byte{20, 0, 0, 0, 1}, Limit}} {
 		_, err := ReadSheet(test.sheet)
 		refused(t, err, test.want)
 	}
@@ -169,8 +171,8 @@ func TestRefusalInWords(t *testing.T) {
 func TestPools(t *testing.T) {
 	random := rand.New(rand.NewSource(1))
 	for n := uint32(2); n <= 8; n++ {
-		sheet := sheetOf(t, YesNo(), Choice(5), Number(10), Choice(2), Number(1))
-		limits := []uint32{2, 5, 1024, 2, 2}
+		sheet := sheetOf(t, YesNo(), Choice(5), Number(10), Choice(2), Number(1), UpTo(200))
+		limits := []uint32{2, 5, 1024, 2, 2, 201}
 		client := Client{Sheet: sheet, Servers: n}
 		all := openAll(t, n, sheet, 6)
 		plain := make([]uint32, sheet.Sizes().Published)
@@ -191,6 +193,7 @@ func TestPools(t *testing.T) {
 			plain[6] += values[2]
 			plain[7+values[3]]++
 			plain[9] += values[4]
+			plain[10] += values[5]
 		}
 		totals := all.closeAndJoin(t, sheet, 6)
 		if totals.Accepted != 6 {
@@ -347,6 +350,8 @@ func TestRefusals(t *testing.T) {
 		refused(t, err, Limit)
 	}
 	_, err = Open(2, 0, sheetOf(t, Number(24)), 129)
+	refused(t, err, Wrap)
+	_, err = Open(2, 0, sheetOf(t, UpTo(1<<24-1)), 129)
 	refused(t, err, Wrap)
 	_, err = Join(2, sheet, 1, nil)
 	refused(t, err, Joined)

@@ -15,7 +15,7 @@ type Refusal uint32
 // The refusals, with their numbers.
 const (
 	Kind    Refusal = 1  // sheet or circuit: unknown kind, or its body is cut off
-	Limit   Refusal = 2  // a count, constant, number of servers, server number or N outside its limits
+	Limit   Refusal = 2  // a count, top, constant, number of servers, server number or N outside its limits
 	Wire    Refusal = 3  // circuit: a wire not yet made, or an entry that does not exist
 	Wrap    Refusal = 4  // N returns could make a total of p or more
 	Value   Refusal = 5  // not one value for each column, or a value outside its column
@@ -34,7 +34,7 @@ const (
 
 var words = [...]string{
 	Kind:    "sheet or circuit: an unknown kind, or its body is cut off",
-	Limit:   "a count, constant, number of servers, server number or N outside its limits",
+	Limit:   "a count, top, constant, number of servers, server number or N outside its limits",
 	Wire:    "circuit: a wire not yet made, or an entry that does not exist",
 	Wrap:    "so many returns could make a total of p or more",
 	Value:   "not one value for each column, or a value outside its column",
@@ -47,7 +47,7 @@ var words = [...]string{
 	Joined:  "joined messages: length, kind, id, order, element, own message or counts wrong",
 	Full:    "all N returns are decided",
 	Room:    "the output buffer is too short",
-	Many:    "more than 4,096 legal returns: take fewer columns, options or bits",
+	Many:    "more than 4,096 legal returns: take fewer columns, options or bits, or lower tops",
 	Run:     "not so many messages of one length: give whole messages, and the number and length that were stored",
 }
 

@@ -1,20 +1,29 @@
 package pool
 
-import "fmt"
+import (
+	"encoding/binary"
+	"fmt"
+)
 
-// Column is one question of a sheet: its kind byte and, for choices and numbers, the byte after it.
+// Column is one question of a sheet: its kind byte and what stands after it, the options, the bits or the top.
 type Column struct {
-	kind, size byte
+	kind byte
+	size uint32
 }
 
 // YesNo is a question with the values 0 (no) and 1 (yes).
 func YesNo() Column { return Column{kind: kindYesNo} }
 
 // Choice is a question with 2 to 64 options; its value is the chosen option, from 0.
-func Choice(options byte) Column { return Column{kindChoice, options} }
+func Choice(options byte) Column { return Column{kindChoice, uint32(options)} }
 
 // Number is a question with a number of 1 to 24 bits.
-func Number(bits byte) Column { return Column{kindNumber, bits} }
+func Number(bits byte) Column { return Column{kindNumber, uint32(bits)} }
+
+// UpTo is a question with a number from 0 to a top of its own, which is from 1 to 16,777,215. It takes about twice as much
+// work as a number of as many bits; a value above the top is refused when a return is made (Value), and rejected by the
+// servers.
+func UpTo(top uint32) Column { return Column{kindTop, top} }
 
 // String names the column in words.
 func (c Column) String() string {
@@ -23,6 +32,8 @@ func (c Column) String() string {
 		return "yes/no"
 	case kindChoice:
 		return fmt.Sprintf("choice of %d", c.size)
+	case kindTop:
+		return fmt.Sprintf("number up to %d", c.size)
 	default:
 		return fmt.Sprintf("number of %d bits", c.size)
 	}
@@ -30,10 +41,26 @@ func (c Column) String() string {
 
 // bytes gives the column as it stands in a sheet.
 func (c Column) bytes() []byte {
-	if c.kind == kindYesNo {
+	switch c.kind {
+	case kindYesNo:
 		return []byte{c.kind}
+	case kindTop:
+		return binary.LittleEndian.AppendUint32([]byte{c.kind}, c.size)
+	default:
+		return []byte{c.kind, byte(c.size)}
 	}
-	return []byte{c.kind, c.size}
+}
+
+// firstColumn gives the first column of a sheet that is sound.
+func firstColumn(sheet []byte) Column {
+	switch kind := sheet[0]; kind {
+	case kindYesNo:
+		return YesNo()
+	case kindTop:
+		return UpTo(binary.LittleEndian.Uint32(sheet[1:]))
+	default:
+		return Column{kind, uint32(sheet[1])}
+	}
 }
 
 // published says how many totals are published for the column.
@@ -81,10 +108,7 @@ func ReadSheet(b []byte) (*Sheet, error) {
 	}
 	s := &Sheet{append([]byte(nil), b...), make([]Column, 0, sizes.Columns), sizes}
 	for rest := s.bytes; len(rest) > 0; {
-		c := Column{kind: rest[0]}
-		if c.kind != kindYesNo {
-			c.size = rest[1]
-		}
+		c := firstColumn(rest)
 		s.columns = append(s.columns, c)
 		rest = rest[len(c.bytes()):]
 	}

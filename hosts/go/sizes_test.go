@@ -12,6 +12,11 @@ func TestSizes(t *testing.T) {
 		{sheetOf(t, YesNo(), Choice(3), Number(4)), Sizes{3, 9, 5, 38, 8, 10, 212, 130, 1024}},
 		{sheetOf(t, Number(24)), Sizes{1, 25, 1, 123, 24, 25, 690, 322, 128}},
 		{sheetOf(t, Number(22), Number(1)), Sizes{2, 25, 2, 120, 23, 25, 675, 314, 512}},
+		{sheetOf(t, UpTo(1)), Sizes{1, 3, 1, 15, 2, 4, 87, 58, 1024}},
+		{sheetOf(t, UpTo(200)), Sizes{1, 17, 1, 85, 16, 18, 479, 226, 1024}},
+		{sheetOf(t, UpTo(1<<24-1)), Sizes{1, 49, 1, 245, 48, 50, 1375, 610, 128}},
+		{sheetOf(t, UpTo(1<<23), UpTo(1<<23), UpTo(1<<23), UpTo(1<<23), UpTo(1<<23), UpTo(16)),
+			Sizes{6, 256, 6, 1275, 250, 262, 7161, 3054, 255}},
 		{sheetOf(t, Choice(64), Choice(64), Choice(64), Choice(64)), Sizes{4, 256, 256, 1025, 256, 260, 5393, 3102, 1024}},
 	} {
 		if got := test.sheet.Sizes(); got != test.want {

@@ -51,7 +51,8 @@ static void append(struct run *to, const uint8_t *bytes, size_t len)
 
 /* Wild arguments */
 
-static const uint8_t odd_bytes[] = {0, 1, 2, 3, 8, 9, 17, 18, 19, 20, 25, 33, 34, 35, 36, 64, 65, 127, 128, 255};
+static const uint8_t odd_bytes[] = {0,  1,  2,  3,  8,  9,  17, 18, 19,  20, 21,
+                                    25, 33, 34, 35, 36, 64, 65, 127, 128, 255};
 
 static uint8_t odd_byte(void) { return odd_bytes[random_below(sizeof odd_bytes)]; }
 
@@ -141,11 +142,48 @@ static size_t some_extra(void) { return random_below(3) == 0 ? random_below(20) 
 
 /* Sheets and circuits */
 
+/* A column of a sheet that was read. */
+struct column {
+    uint8_t kind;
+    uint32_t values; /* how many it has: 0 to one less */
+    size_t next;     /* where the next one begins */
+};
+
+static struct column column_at(const struct run *sheet, size_t at)
+{
+    const uint8_t *c = sheet->at + at;
+    switch (c[0]) {
+    case POOL_CHOICE:
+        return (struct column){c[0], c[1], at + 2};
+    case POOL_NUMBER:
+        return (struct column){c[0], UINT32_C(1) << c[1], at + 2};
+    case POOL_TOP:
+        return (struct column){c[0], get_u32(c + 1) + 1, at + 5};
+    default:
+        return (struct column){c[0], 2, at + 1};
+    }
+}
+
+/* A top of so many bits, now and then the least or the greatest. */
+static void add_top(struct run *sheet, uint32_t bits)
+{
+    uint32_t least = UINT32_C(1) << (bits - 1), top = least + random_below(least);
+    uint8_t column[5] = {POOL_TOP};
+    if (random_below(4) == 0)
+        top = random64() % 2 ? least : 2 * least - 1;
+    put_u32(column + 1, top);
+    append(sheet, column, sizeof column);
+}
+
 static void add_column(struct run *sheet, uint32_t budget)
 {
-    uint32_t kind = random_below(3), most;
+    uint32_t kind = random_below(4), most;
     if (kind == 0 || budget < 2) {
         append(sheet, (const uint8_t[]){POOL_YES_NO}, 1);
+        return;
+    }
+    if (kind == 3 && budget > 2) {
+        add_top(sheet, 1 + random_below(budget < 49 ? (budget - 1) / 2 : 24));
         return;
     }
     most = kind == 1 ? (budget < 64 ? budget : 64) : (budget - 1 < 24 ? budget - 1 : 24);
@@ -230,10 +268,10 @@ static void long_circuit(void)
 static uint32_t bases(uint32_t *base)
 {
     uint32_t lists = 1;
-    for (size_t at = 0; at < pool.sheet.len; at++) {
-        uint8_t kind = pool.sheet.at[at];
-        uint32_t size = kind == POOL_YES_NO ? 2 : pool.sheet.at[++at];
-        *base = kind == POOL_NUMBER ? UINT32_C(1) << size : size;
+    for (size_t at = 0; at < pool.sheet.len;) {
+        struct column column = column_at(&pool.sheet, at);
+        at = column.next;
+        *base = column.values;
         lists = lists > POOL_MAX_LISTS / *base ? POOL_MAX_LISTS + 1 : lists * *base;
         base++;
     }
@@ -271,14 +309,20 @@ static void every_return(void)
     }
 }
 
-/* As many lists as may be, and then 4,100. */
+/* As many lists as may be, and then 4,100; the same with tops, and then 4,097. */
 static void most_lists(void)
 {
-    static const uint8_t most[] = {POOL_CHOICE, 64, POOL_NUMBER, 6};
-    static const uint8_t more[] = {POOL_YES_NO, POOL_CHOICE, 41, POOL_CHOICE, 50};
-    for (int k = 0; k < 2; k++) {
+    static const struct {
+        uint8_t len, at[10];
+    } sheets[] = {
+        {4, {POOL_CHOICE, 64, POOL_NUMBER, 6}},
+        {5, {POOL_YES_NO, POOL_CHOICE, 41, POOL_CHOICE, 50}},
+        {10, {POOL_TOP, 31, 0, 0, 0, POOL_TOP, 127, 0, 0, 0}},
+        {5, {POOL_TOP, 0, 16, 0, 0}},
+    };
+    for (size_t k = 0; k < sizeof sheets / sizeof sheets[0]; k++) {
         pool.sheet.len = 0;
-        append(&pool.sheet, k ? more : most, k ? sizeof more : sizeof most);
+        append(&pool.sheet, sheets[k].at, sheets[k].len);
         must(call_sizes(&pool.sheet, &pool.sizes), "a sound sheet is refused");
         every_return();
     }
@@ -344,14 +388,15 @@ static void new_values(uint32_t *sums)
 {
     size_t published = 0;
     pool.values.len = 0;
-    for (size_t at = 0; at < pool.sheet.len; at++) {
-        uint8_t kind = pool.sheet.at[at], value[4];
-        uint32_t size = kind == POOL_YES_NO ? 2 : pool.sheet.at[++at];
-        uint32_t v = random_below(kind == POOL_NUMBER ? UINT32_C(1) << size : size);
+    for (size_t at = 0; at < pool.sheet.len;) {
+        struct column column = column_at(&pool.sheet, at);
+        uint32_t v = random_below(8) ? random_below(column.values) : column.values - 1;
+        uint8_t value[4];
+        at = column.next;
         put_u32(value, v);
         append(&pool.values, value, 4);
-        sums[published + (kind == POOL_CHOICE ? v : 0)] += kind == POOL_CHOICE ? 1 : v;
-        published += kind == POOL_CHOICE ? size : 1;
+        sums[published + (column.kind == POOL_CHOICE ? v : 0)] += column.kind == POOL_CHOICE ? 1 : v;
+        published += column.kind == POOL_CHOICE ? column.values : 1;
     }
     if (published != pool.sizes.published || pool.values.len != POOL_VALUES_BYTES(pool.sizes.columns))
         fail("the count of columns or published entries");
@@ -362,6 +407,43 @@ static void new_random(void)
     pool.random.len = POOL_RANDOM_BYTES(pool.servers, pool.sizes.share_bytes);
     for (size_t at = 0; at < pool.random.len; at += 4)
         put_u32(pool.random.at + at, random_below(16) ? random_below(POOL_PRIME) : POOL_PRIME - 1);
+}
+
+/* A value one past its column, in one of the columns, is refused. */
+static void past_value(uint32_t id, size_t room)
+{
+    uint32_t k = random_below(pool.sizes.columns);
+    size_t at = 0;
+    for (uint32_t j = 0; j < k; j++)
+        at = column_at(&pool.sheet, at).next;
+    copy(&b, &pool.values);
+    put_u32(b.at + 4 * k, column_at(&pool.sheet, at).values);
+    if (call_make(&pool.sheet, pool.servers, id, &b, &pool.random, room, &out) != POOL_VALUE)
+        fail("a value past its column");
+}
+
+/*
+ * Makes the return again by a sheet with the highest tops of as many bits, with these as the values: the shares have the
+ * form of the pool's. Says whether there is a top that is lower, so that the servers must reject it.
+ */
+static int make_with_higher_tops(uint32_t id, size_t room)
+{
+    int higher = 0;
+    copy(&a, &pool.sheet);
+    copy(&b, &pool.values);
+    for (size_t at = 0, k = 0; at < a.len; at = column_at(&a, at).next, k++) {
+        uint32_t values = column_at(&a, at).values, most = 1;
+        while (most < values)
+            most *= 2;
+        if (a.at[at] == POOL_TOP && most > values) {
+            put_u32(a.at + at + 1, most - 1);
+            put_u32(b.at + 4 * k, most - 1);
+            higher = 1;
+        }
+    }
+    if (higher)
+        must(call_make(&a, pool.servers, id, &b, &pool.random, room, &pool.shares), "making with higher tops");
+    return higher;
 }
 
 static void make_return(uint32_t id)
@@ -376,6 +458,7 @@ static void make_return(uint32_t id)
             wild(&a);
         call_make(&a, wild32(pool.servers), id, &b, &c, wild_room(room), &out);
     }
+    past_value(id, room);
     must(call_make(&pool.sheet, pool.servers, id, &pool.values, &pool.random, room, &pool.shares), "making");
     if (pool.shares.len != room)
         fail("the length of the shares");
@@ -502,14 +585,17 @@ static void drop_return(void)
         must(call_drop(&pool.tables[i], some_extra()), "dropping");
 }
 
-/* One return: honest, altered or dropped. */
+/* One return: honest, altered, past its tops or dropped. */
 static void play_return(uint32_t id)
 {
-    uint32_t sums[POOL_MAX_ENTRIES] = {0}, conduct = random_below(6);
+    uint32_t sums[POOL_MAX_ENTRIES] = {0}, conduct = random_below(7), honest = 1;
     new_values(sums);
     new_random();
     make_return(id);
+    if (conduct == 3)
+        honest = !make_with_higher_tops(id, pool.shares.len);
     if (conduct == 0) {
+        honest = 0;
         uint8_t *entry = pool.shares.at + random_below(pool.servers) * pool.sizes.share_bytes + 6;
         put_u32(entry, (get_u32(entry) + 1 + random_below(1000)) % POOL_PRIME);
     }
@@ -524,9 +610,9 @@ static void play_return(uint32_t id)
         return;
     }
     /* A lone yes/no that is altered can be 1 where it was 0 or 0 where it was 1, but its products are not altered. */
-    if (round_two() != (conduct != 0))
+    if (round_two() != honest)
         fail("the verdict");
-    if (conduct == 0)
+    if (!honest)
         return;
     pool.accepted++;
     for (uint32_t k = 0; k < pool.sizes.published; k++)

@@ -20,8 +20,8 @@
 
 enum { SERVERS = 2, RETURNS = 4 };
 
-static const uint8_t sheet[] = {POOL_YES_NO, POOL_CHOICE, 3, POOL_NUMBER, 4};
-static const uint8_t values[] = {1, 0, 0, 0, 2, 0, 0, 0, 9, 0, 0, 0};
+static const uint8_t sheet[] = {POOL_YES_NO, POOL_CHOICE, 3, POOL_NUMBER, 4, POOL_TOP, 200, 0, 0, 0};
+static const uint8_t values[] = {1, 0, 0, 0, 2, 0, 0, 0, 9, 0, 0, 0, 150, 0, 0, 0};
 static uint8_t tables[SERVERS][POOL_MAX_TABLE_BYTES], shares[SERVERS * POOL_MAX_SHARE_BYTES];
 static uint8_t elements[POOL_MAX_RANDOM_BYTES], ones[SERVERS * POOL_ROUND_BYTES], twos[sizeof ones];
 static uint8_t stored[sizeof shares], back[sizeof shares];

@@ -165,12 +165,19 @@ static int measure(size_t plain)
     return deep;
 }
 
+/* So many tops, of 24 bits or of 1. */
+static void tops(size_t count, uint8_t byte)
+{
+    for (sheet_len = 0; sheet_len < 5 * count; sheet_len += 5)
+        memcpy(sheet + sheet_len, (const uint8_t[]){POOL_TOP, byte | 1, byte, byte, 0}, 5);
+}
+
 int main(void)
 {
     int deep;
     size_t plain = depth(nothing);
     memset(sheet, POOL_YES_NO, sizeof sheet);
-    sheet_len = 256;
+    sheet_len = POOL_MAX_ENTRIES;
     printf("bytes of stack, 256 columns:");
     deep = measure(plain);
     for (sheet_len = 0; sheet_len < 20; sheet_len += 2) {
@@ -178,6 +185,13 @@ int main(void)
         sheet[sheet_len + 1] = 24;
     }
     printf("bytes of stack, 10 numbers:");
+    deep += measure(plain);
+    tops(5, 0xff);
+    printf("bytes of stack, 5 tops of 24 bits:");
+    deep += measure(plain);
+    tops(85, 0);
+    sheet[sheet_len++] = POOL_YES_NO;
+    printf("bytes of stack, the longest sheet:");
     deep += measure(plain);
     if (refused != 0 || accepted != 1)
         puts("a call was refused");

@@ -84,13 +84,14 @@ impl Setting {
     }
 }
 
-// The sheets that are measured: M = 1, 24, 256, and a mixture near 256.
+// The sheets that are measured: M = 1, 24, 256, and mixtures near 256, one of them with tops.
 pub fn settings() -> Vec<Setting> {
     let sheets = [
         ("one yes/no", vec![17]),
         ("number of 24", vec![19, 24]),
         ("256 yes/no", vec![17; 256]),
         ("large mixture", [17, 18, 5, 19, 9, 17, 19, 3, 18, 2].repeat(11)),
+        ("mixture, tops", [17, 18, 5, 19, 9, 20, 200, 0, 0, 0, 20, 1, 0, 0, 0].repeat(7)),
     ];
     let with = |servers| sheets.clone().map(|(name, sheet)| Setting::new(name, sheet, servers));
     [2, 8].into_iter().flat_map(with).collect()

@@ -14,18 +14,34 @@ fn bytes_of(kind: u8) -> usize {
     match kind {
         17 => 1,
         18 | 19 => 2,
+        20 => 5,
         _ => 0,
     }
 }
 
-fn column(kind: u8, last: usize) -> Counts {
+// The number in the body of the column at a place: options, bits or the top.
+fn body(s: &[u8], at: usize) -> u32 {
+    match s[at] {
+        17 => 0,
+        20 => u32::from_le_bytes([s[at + 1], s[at + 2], s[at + 3], s[at + 4]]),
+        _ => s[at + 1] as u32,
+    }
+}
+
+// How many bits a top has.
+fn bits(top: u32) -> u32 {
+    32 - top.leading_zeros()
+}
+
+fn column(kind: u8, size: u32) -> Counts {
+    let n = size as usize;
     match kind {
         17 => Counts { columns: 1, entries: 1, published: 1, gates: 1, tests: 1 },
-        18 if (2..=64).contains(&last) => {
-            Counts { columns: 1, entries: last, published: last, gates: last, tests: last + 1 }
-        }
-        19 if (1..=24).contains(&last) => {
-            Counts { columns: 1, entries: last + 1, published: 1, gates: last, tests: last + 1 }
+        18 if (2..=64).contains(&n) => Counts { columns: 1, entries: n, published: n, gates: n, tests: n + 1 },
+        19 if (1..=24).contains(&n) => Counts { columns: 1, entries: n + 1, published: 1, gates: n, tests: n + 1 },
+        20 if (1..1 << 24).contains(&n) => {
+            let b = bits(size) as usize;
+            Counts { columns: 1, entries: 2 * b + 1, published: 1, gates: 2 * b, tests: 2 * b + 2 }
         }
         _ => Counts::default(),
     }
@@ -55,7 +71,7 @@ pub fn read_sheet(s: &[u8]) -> Result<Counts, u32> {
         if size == 0 || s.len() - at < size {
             return Err(1);
         }
-        let c = column(kind, s[at + size - 1] as usize);
+        let c = column(kind, body(s, at));
         if c.entries == 0 {
             return Err(2);
         }
@@ -82,19 +98,23 @@ pub fn reading(s: &[u8], out: &mut [u32; 9]) -> u32 {
     }
 }
 
-// Of a sheet that was read: the wires and bytes of its circuit, and the bits of its longest number, 1 without one.
+// Of a sheet that was read: the wires and bytes of its circuit, and its largest value, 1 without numbers.
 fn weigh(s: &[u8]) -> (usize, usize, usize) {
     let (mut wires, mut bytes, mut most, mut at) = (1, 5, 1, 0);
     while at < s.len() {
-        let n = s[at + bytes_of(s[at]) - 1] as usize;
-        let (w, b, bits) = match s[at] {
+        let n = body(s, at) as usize;
+        let (w, b, largest) = match s[at] {
             17 => (3, 16, 1),
             18 => (4 * n, 21 * n + 3, 1),
-            _ => (5 * n + 2, 28 * n + 13, n),
+            19 => (5 * n + 2, 28 * n + 13, (1 << n) - 1),
+            _ => {
+                let b = bits(n as u32) as usize;
+                (10 * b + 4, 56 * b + 26, n)
+            }
         };
         wires += w;
         bytes += b;
-        most = most.max(bits);
+        most = most.max(largest);
         at += bytes_of(s[at]);
     }
     (wires, bytes, most)
@@ -105,9 +125,9 @@ fn weigh(s: &[u8]) -> (usize, usize, usize) {
 pub fn sizes(s: &[u8], out: &mut [u32; 9]) -> u32 {
     match read_sheet(s) {
         Ok(c) => {
-            let (wires, bytes, bits) = weigh(s);
+            let (wires, bytes, largest) = weigh(s);
             let share = 6 + 4 * (c.entries + 2 * c.gates + 6);
-            let returns = (P_LESS_ONE as usize / ((1 << bits) - 1)).min(1024);
+            let returns = (P_LESS_ONE as usize / largest).min(1024);
             let all = [c.columns, c.entries, c.published, wires, c.gates, c.tests, bytes, share, returns];
             *out = all.map(|n| n as u32);
             0
@@ -158,16 +178,34 @@ fn put_choice(out: &mut [u8], at: usize, n: u32, e: u32, w: u32) -> usize {
     put_one(out, place, 6, sum)
 }
 
+// Adds n bits, the first at wire w, to the sum at wire q, which is the last one, and tests it.
+fn put_sum(out: &mut [u8], at: usize, n: u32, w: u32, q: u32) -> usize {
+    let mut place = at;
+    for i in 0..n {
+        place = put_scale(out, place, w + 3 * i, 1 << i);
+        place = put_pair(out, place, 3, q + 2 * i, q + 2 * i + 1);
+    }
+    put_one(out, place, 6, q + 2 * n)
+}
+
 fn put_number(out: &mut [u8], at: usize, n: u32, e: u32, w: u32) -> usize {
     let mut place = put_one(out, at, 2, e);
     place = bit_checks(out, place, n, e + 1, w + 1);
     place = put_scale(out, place, w, P_LESS_ONE);
-    let q = w + 1 + 3 * n;
-    for i in 0..n {
-        place = put_scale(out, place, w + 1 + 3 * i, 1 << i);
-        place = put_pair(out, place, 3, q + 2 * i, q + 2 * i + 1);
-    }
-    put_one(out, place, 6, q + 2 * n)
+    put_sum(out, place, n, w + 1, w + 1 + 3 * n)
+}
+
+fn put_top(out: &mut [u8], at: usize, top: u32, e: u32, w: u32) -> usize {
+    let n = bits(top);
+    let q = w + 1 + 6 * n;
+    let mut place = put_one(out, at, 2, e);
+    place = bit_checks(out, place, 2 * n, e + 1, w + 1);
+    place = put_scale(out, place, w, P_LESS_ONE);
+    place = put_sum(out, place, n, w + 1, q);
+    place = put(out, place, &[1]);
+    place = put(out, place, &(P_LESS_ONE + 1 - top).to_le_bytes());
+    place = put_pair(out, place, 3, q + 2 * n + 1, w);
+    put_sum(out, place, n, w + 1 + 3 * n, q + 2 * n + 2)
 }
 
 #[inline(never)]
@@ -183,12 +221,13 @@ pub fn circuit(s: &[u8], out: &mut [u8], written: &mut usize) -> u32 {
     place = put(out, place, &P_LESS_ONE.to_le_bytes());
     let (mut at, mut e, mut w) = (0, 0, 1);
     while at < s.len() {
-        let n = s[at + bytes_of(s[at]) - 1] as u32;
+        let n = body(s, at);
         let (entries, wires);
         (place, entries, wires) = match s[at] {
             17 => (bit_checks(out, place, 1, e, w), 1, 3),
             18 => (put_choice(out, place, n, e, w), n, 4 * n),
-            _ => (put_number(out, place, n, e, w), n + 1, 5 * n + 2),
+            19 => (put_number(out, place, n, e, w), n + 1, 5 * n + 2),
+            _ => (put_top(out, place, n, e, w), 2 * bits(n) + 1, 10 * bits(n) + 4),
         };
         e += entries;
         w += wires;

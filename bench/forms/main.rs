@@ -38,7 +38,10 @@ fn sheets() -> Vec<(&'static str, Vec<u8>)> {
         ("10 numbers of 24", [19, 24].repeat(10)),
         ("128 numbers of 1", [19, 1].repeat(128)),
         ("22 and 24 bits", vec![19, 22, 19, 24]),
+        ("15 tops of 200", [20, 200, 0, 0, 0].repeat(15)),
+        ("85 tops of 1", [20, 1, 0, 0, 0].repeat(85)),
         ("large mixture", [17, 18, 5, 19, 9, 17, 19, 3, 18, 2].repeat(11)),
+        ("mixture, tops", [17, 18, 5, 19, 9, 20, 200, 0, 0, 0, 20, 1, 0, 0, 0].repeat(7)),
     ]
 }
 
@@ -119,7 +122,7 @@ fn damaged(sheet: &[u8]) -> Vec<Vec<u8>> {
     let mut all = vec![sheet.to_vec()];
     all.extend((0..sheet.len()).map(|n| sheet[..n].to_vec()));
     for at in 0..sheet.len() {
-        for byte in [0, 1, 16, 17, 20, 24, 25, 64, 65, 255] {
+        for byte in [0, 1, 16, 17, 20, 21, 24, 25, 64, 65, 255] {
             let mut changed = sheet.to_vec();
             changed[at] = byte;
             all.push(changed);

@@ -5,6 +5,7 @@ use second::gen;
 use crate::calls::{plain, Call, Function};
 use crate::faults::{alone_and_in_pairs, sheets};
 use crate::suite::{Suite, Verdict};
+use crate::tops::{largest_sheet, longest_sheet, top_column};
 
 fn sizes(sheet: &[u8]) -> Call {
     Call { sheet: sheet.to_vec(), ..Call::of(Function::Sizes) }
@@ -28,7 +29,7 @@ pub fn refusals(suite: &mut Suite) -> Verdict {
 /// Columns, L, published, wires, M, K, circuit bytes, share bytes and greatest N of some sheets, the largest among them.
 pub fn by_hand(suite: &mut Suite) -> Verdict {
     suite.seed(13);
-    let rows: [(Vec<u8>, [u64; 9]); 12] = [
+    let rows: [(Vec<u8>, [u64; 9]); 18] = [
         (vec![17], [1, 1, 1, 4, 1, 1, 21, 42, 1024]),
         (vec![18, 2], [1, 2, 2, 9, 2, 3, 50, 54, 1024]),
         (vec![18, 3], [1, 3, 3, 13, 3, 4, 71, 66, 1024]),
@@ -41,6 +42,12 @@ pub fn by_hand(suite: &mut Suite) -> Verdict {
         ([18, 2].repeat(128), [128, 256, 256, 1025, 256, 384, 5765, 3102, 1024]),
         ([18, 64].repeat(4), [4, 256, 256, 1025, 256, 260, 5393, 3102, 1024]),
         ([[19, 24].repeat(10), vec![19, 5]].concat(), [11, 256, 11, 1248, 245, 256, 7008, 3014, 128]),
+        (top_column(1), [1, 3, 1, 15, 2, 4, 87, 58, 1024]),
+        (top_column(200), [1, 17, 1, 85, 16, 18, 479, 226, 1024]),
+        (top_column(0xFF_FFFF), [1, 49, 1, 245, 48, 50, 1375, 610, 128]),
+        (vec![17, 20, 2, 0, 0, 0, 19, 4], [3, 11, 3, 50, 9, 12, 284, 146, 1024]),
+        (largest_sheet(), [6, 256, 6, 1275, 250, 262, 7161, 3054, 255]),
+        (longest_sheet(), [86, 256, 86, 1194, 171, 341, 6991, 2422, 1024]),
     ];
     for (sheet, numbers) in rows {
         suite.agrees(&sizes(&sheet))?;
@@ -109,7 +116,7 @@ fn shown(suite: &mut Suite, sheet: &[u8], servers: u32) -> Verdict {
     openings(suite, sheet, servers, told)
 }
 
-/// Every choice and every number by itself, and the greatest N of each number of bits.
+/// Every choice and every number by itself, and the greatest N of each number of bits; some tops.
 pub fn columns(suite: &mut Suite) -> Verdict {
     suite.seed(14);
     shown(suite, &[17], 2)?;
@@ -122,6 +129,20 @@ pub fn columns(suite: &mut Suite) -> Verdict {
         let most = 1024 >> bits.saturating_sub(21);
         if greatest != most {
             return Err(format!("{bits} bits: the greatest N is {greatest}\nmust be {most}"));
+        }
+    }
+    tops(suite)
+}
+
+/// Tops at both ends of every number of bits. The greatest N is p - 1 over the top, at most 1,024.
+fn tops(suite: &mut Suite) -> Verdict {
+    let tops = (0..24).flat_map(|bits| [1 << bits, (2 << bits) - 1]);
+    for top in tops.chain([200, 2_097_152, 2_099_202, 2_099_203, 16_777_214]) {
+        let sheet = top_column(top);
+        shown(suite, &sheet, 2)?;
+        let (greatest, most) = (told(suite, &sheet)?[8], (2_147_483_646 / top).min(1024));
+        if greatest != most {
+            return Err(format!("a top of {top}: the greatest N is {greatest}\nmust be {most}"));
         }
     }
     Ok(())

@@ -66,7 +66,8 @@ fn runs(pool: &Pool, shares: &[Vec<u8>], stand: bool) -> Verdict {
 /// No part of a share stays, however the return ends, nor when the table is closed. A return was accepted before, so that
 /// no total is a part of this share.
 pub fn bytes(suite: &mut Suite) -> Verdict {
-    for (servers, sheet) in [(2, vec![17]), (3, vec![18, 3, 19, 4, 17]), (8, vec![19, 24]), (2, vec![18, 64, 18, 64])] {
+    let sheets = [(2, vec![17]), (3, vec![18, 3, 19, 4, 17]), (8, vec![19, 24]), (2, vec![18, 64, 18, 64])];
+    for (servers, sheet) in sheets.into_iter().chain([(3, vec![20, 200, 0, 0, 0, 17])]) {
         let mut rng = suite.seed(u64::from(servers));
         let mut pool = Pool::open(suite, servers, &sheet, 3)?;
         let values = gen::values(&mut rng, &pool.sheet);

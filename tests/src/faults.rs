@@ -54,8 +54,10 @@ fn servers(order: u32) -> Vec<Fault> {
 
 /// Sheets that are refused 1 or 2.
 pub fn sheets(order: u32) -> Vec<Fault> {
-    let wrong: [(u32, Vec<u8>); 10] = [
+    let wrong: [(u32, Vec<u8>); 15] = [
         (1, vec![20]),
+        (1, vec![21]),
+        (1, vec![17, 20, 200, 0, 0]),
         (1, vec![17, 18]),
         (1, vec![17, 19]),
         (1, [vec![17; 300], vec![99]].concat()),
@@ -64,6 +66,9 @@ pub fn sheets(order: u32) -> Vec<Fault> {
         (2, vec![17, 18, 65, 99]),
         (2, vec![19, 0]),
         (2, vec![19, 25]),
+        (2, vec![20, 0, 0, 0, 0]),
+        (2, vec![20, 0, 0, 0, 1]),
+        (2, vec![20, 255, 255, 255, 255, 99]),
         (2, vec![17; 257]),
     ];
     let changed =
@@ -71,7 +76,7 @@ pub fn sheets(order: u32) -> Vec<Fault> {
     wrong.into_iter().map(changed).collect()
 }
 
-/// N outside 1 to 1,024, and N that a number of 24 bits does not allow.
+/// N outside 1 to 1,024, and N that a number of 24 bits or the greatest top does not allow.
 fn returns(order: u32) -> Vec<Fault> {
     let wrong = [(0, 2), (1025, 2), (65_537, 2), (u32::MAX, 2), (129, 4), (1024, 4)];
     let changed = |(returns, number): (u32, u32)| {
@@ -84,7 +89,7 @@ fn returns(order: u32) -> Vec<Fault> {
 /// Sheet to circuit: the sheet, 14.
 pub fn circuit(suite: &mut Suite) -> Verdict {
     suite.seed(1);
-    let sheet = vec![17, 18, 3, 19, 4];
+    let sheet = vec![17, 18, 3, 19, 4, 20, 5, 0, 0, 0];
     let room = second::circuit(&sheet, usize::MAX).map_or(0, |bytes| bytes.len());
     let base = Call { sheet, room, ..Call::of(Function::Circuit) };
     let mut faults = sheets(0);
@@ -92,13 +97,14 @@ pub fn circuit(suite: &mut Suite) -> Verdict {
     alone_and_in_pairs(suite, &base, &faults)
 }
 
-/// Values that are refused 5: of a sheet of a yes/no, a choice of 3 and a number of 4 bits.
+/// Values that are refused 5: of a sheet of a yes/no, a choice of 3, a number of 4 bits and one up to 5.
 fn values(order: u32) -> Vec<Fault> {
     let value =
         |at: usize, wrong: u32| fault(order, 5, "values", move |call| put_word(&mut call.values, 4 * at, wrong.into()));
     let length = |length: usize| fault(order, 5, "values", move |call| call.values.resize(length, 0));
     let mut faults = vec![value(0, 2), value(0, 256), value(1, 3), value(2, 16), value(2, u32::MAX)];
-    faults.extend([0, 8, 11, 13, 16].map(length));
+    faults.extend([6, 7, 8, 261, u32::MAX].map(|wrong| value(3, wrong)));
+    faults.extend([0, 12, 15, 17, 20].map(length));
     faults
 }
 
@@ -115,7 +121,7 @@ fn randoms(order: u32, count: usize) -> Vec<Fault> {
 /// Making: the sheet, S, 5, 6, 14.
 pub fn make(suite: &mut Suite) -> Verdict {
     let mut rng: Rng = suite.seed(2);
-    let bytes = vec![17, 18, 3, 19, 4];
+    let bytes = vec![17, 18, 3, 19, 4, 20, 5, 0, 0, 0];
     let sheet = Sheet::read(&bytes).map_err(|number| format!("refused {number}"))?;
     let count = 2 * sheet.share_elements() + 4;
     let base = Call {
@@ -138,17 +144,20 @@ pub fn make(suite: &mut Suite) -> Verdict {
 /// Opening: S and own number, the sheet, N, 4, 14.
 pub fn open(suite: &mut Suite) -> Verdict {
     suite.seed(3);
-    let sheet = vec![17, 18, 3, 19, 24];
-    let room = 12 + 5 + 20 + 4 * 128 + 28 + 4 * (29 + 2 * 28 + 6);
-    let base = Call { servers: 3, own: 2, sheet, returns: 128, room, ..Call::of(Function::Open) };
-    let mut faults = servers(0);
-    faults.push(fault(1, 2, "servers", |call| call.servers = 2));
-    let own = |own: u32| fault(1, 2, "own", move |call| call.own = own);
-    faults.extend([3, 8, 256, 258, u32::MAX].map(own));
-    faults.extend(sheets(2));
-    faults.extend(returns(3));
-    faults.extend(rooms(5, room));
-    alone_and_in_pairs(suite, &base, &faults)
+    let number = (vec![17, 18, 3, 19, 24], 12 + 5 + 20 + 4 * 128 + 28 + 4 * (29 + 2 * 28 + 6));
+    let top = (vec![17, 18, 3, 20, 255, 255, 255, 0], 12 + 8 + 20 + 4 * 128 + 28 + 4 * (53 + 2 * 52 + 6));
+    for (sheet, room) in [number, top] {
+        let base = Call { servers: 3, own: 2, sheet, returns: 128, room, ..Call::of(Function::Open) };
+        let mut faults = servers(0);
+        faults.push(fault(1, 2, "servers", |call| call.servers = 2));
+        let own = |own: u32| fault(1, 2, "own", move |call| call.own = own);
+        faults.extend([3, 8, 256, 258, u32::MAX].map(own));
+        faults.extend(sheets(2));
+        faults.extend(returns(3));
+        faults.extend(rooms(5, room));
+        alone_and_in_pairs(suite, &base, &faults)?;
+    }
+    Ok(())
 }
 
 /// Tables that no call takes: damaged, cut short, and in the stages given.
@@ -255,7 +264,7 @@ pub fn close(suite: &mut Suite) -> Verdict {
     suite.number(&Call { table: fixture.full.clone(), ..fixture.close() }, 0)
 }
 
-/// Three totals messages of the sheet 17, 18 3, 19 24.
+/// Three totals messages of the sheets 17, 18 3, 19 24 and 17, 18 3, 20 16,777,215.
 fn totals(count: u32) -> Vec<u8> {
     let message = |server: u8| {
         let mut message = vec![36, server];
@@ -288,16 +297,18 @@ fn joined_totals(order: u32) -> Vec<Fault> {
 /// Joining: S, the sheet, N, 4, 12, 14.
 pub fn join(suite: &mut Suite) -> Verdict {
     suite.seed(11);
-    let sheet = vec![17, 18, 3, 19, 24];
-    let base = Call { servers: 3, sheet, returns: 128, message: totals(3), room: 20, ..Call::of(Function::Join) };
-    let mut faults = servers(0);
-    faults.extend(sheets(1));
-    faults.extend(returns(2));
-    faults.extend(rooms(5, 20));
-    faults.extend(joined_totals(4));
-    alone_and_in_pairs(suite, &base, &faults)?;
-    // A count of N is no fault, one more is; a count of 0 with totals that are not 0 is none.
-    suite.number(&Call { message: totals(128), ..base.clone() }, 0)?;
-    suite.number(&Call { message: totals(129), ..base.clone() }, 12)?;
-    suite.number(&Call { message: totals(0), ..base }, 0)
+    for sheet in [vec![17, 18, 3, 19, 24], vec![17, 18, 3, 20, 255, 255, 255, 0]] {
+        let base = Call { servers: 3, sheet, returns: 128, message: totals(3), room: 20, ..Call::of(Function::Join) };
+        let mut faults = servers(0);
+        faults.extend(sheets(1));
+        faults.extend(returns(2));
+        faults.extend(rooms(5, 20));
+        faults.extend(joined_totals(4));
+        alone_and_in_pairs(suite, &base, &faults)?;
+        // A count of N is no fault, one more is; a count of 0 with totals that are not 0 is none.
+        suite.number(&Call { message: totals(128), ..base.clone() }, 0)?;
+        suite.number(&Call { message: totals(129), ..base.clone() }, 12)?;
+        suite.number(&Call { message: totals(0), ..base }, 0)?;
+    }
+    Ok(())
 }

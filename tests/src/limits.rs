@@ -8,6 +8,7 @@ use crate::fixture::Fixture;
 use crate::layout::put_word;
 use crate::pools::Pool;
 use crate::suite::{Suite, Verdict};
+use crate::tops::{longest_sheet, top_column};
 
 const P: u64 = 2_147_483_647;
 
@@ -15,7 +16,7 @@ const P: u64 = 2_147_483_647;
 fn sheet(suite: &mut Suite, sheet: &[u8], number: u32) -> Verdict {
     let sheet = sheet.to_vec();
     suite.number(&Call { sheet: sheet.clone(), ..Call::of(Function::Sizes) }, number)?;
-    let call = Call { sheet: sheet.clone(), room: 7_008, ..Call::of(Function::Circuit) };
+    let call = Call { sheet: sheet.clone(), room: 7_161, ..Call::of(Function::Circuit) };
     suite.number(&call, number)?;
     if let Ok(done) = suite.check(&call)? {
         let entries = Sheet::read(&sheet).map_or(0, |sheet| sheet.entries()) as u32;
@@ -34,20 +35,55 @@ pub fn sheets(suite: &mut Suite) -> Verdict {
     for (kind, count, number) in [(19, 0, 2), (19, 1, 0), (19, 24, 0), (19, 25, 2), (19, 255, 2)] {
         sheet(suite, &[kind, count], number)?;
     }
-    for kind in (0..=255).filter(|kind| !(17..=19).contains(kind)) {
+    for kind in (0..=255).filter(|kind| !(17..=20).contains(kind)) {
         sheet(suite, &[kind], 1)?;
-        sheet(suite, &[17, kind, 17], 1)?;
+        sheet(suite, &[17, kind, 17, 0, 0, 0], 1)?;
     }
-    let faults: [(&[u8], u32); 6] = [(&[18], 1), (&[19], 1), (&[18, 1], 2), (&[19, 25], 2), (&[99], 1), (&[20, 2], 1)];
-    for (one, number) in faults {
-        for start in [vec![], vec![17], vec![17; 256], vec![17; 300]] {
+    tops(suite)?;
+    first_fault(suite)?;
+    totals(suite)
+}
+
+/// Tops at both sides, by each of the four bytes, and cut bodies, whatever stands in them.
+fn tops(suite: &mut Suite) -> Verdict {
+    for top in [1, 2, 3, 200, 255, 256, 65_535, 65_536, 0x0080_0000, 0x00FF_FFFE, 0x00FF_FFFF] {
+        sheet(suite, &top_column(top), 0)?;
+    }
+    for top in [0, 0x0100_0000, 0x0100_0001, 0x0200_00C8, 0x7FFF_FFFF, 0x8000_0000, 0x8000_0001, u32::MAX] {
+        sheet(suite, &top_column(top), 2)?;
+    }
+    for (length, byte) in (0..4).flat_map(|length| [0, 1, 17, 255].map(|byte| (length, byte))) {
+        let cut = [vec![20], vec![byte; length]].concat();
+        sheet(suite, &cut, 1)?;
+        sheet(suite, &[vec![17], cut].concat(), 1)?;
+    }
+    Ok(())
+}
+
+/// The first column at fault counts, also after too many entries. Of two columns at fault the first is not one that the
+/// second could make whole.
+fn first_fault(suite: &mut Suite) -> Verdict {
+    let whole: [(&[u8], u32); 7] = [
+        (&[18, 1], 2),
+        (&[19, 25], 2),
+        (&[99], 1),
+        (&[21], 1),
+        (&[20, 0, 0, 0, 0], 2),
+        (&[20, 0, 0, 0, 1], 2),
+        (&[20, 255, 255, 255, 255], 2),
+    ];
+    let cut: [(&[u8], u32); 5] = [(&[18], 1), (&[19], 1), (&[20], 1), (&[20, 2], 1), (&[20, 0, 0, 0], 1)];
+    for (one, number) in whole.into_iter().chain(cut) {
+        for start in [vec![], vec![17], vec![17; 256], vec![17; 300], top_column(200)] {
             sheet(suite, &[&start[..], one].concat(), number)?;
         }
-        for (two, _) in faults.iter().filter(|_| one.len() > 1 || one == [99]) {
+    }
+    for (one, number) in whole {
+        for (two, _) in whole.into_iter().chain(cut) {
             sheet(suite, &[one, two].concat(), number)?;
         }
     }
-    totals(suite)
+    Ok(())
 }
 
 /// 256 entries and not 257, whatever wraps at 8 or 16 bits.
@@ -63,6 +99,14 @@ fn totals(suite: &mut Suite) -> Verdict {
     for (last, number) in [(5, 0), (6, 2)] {
         sheet(suite, &[[19, 24].repeat(10), vec![19, last]].concat(), number)?;
     }
+    // 5 times 49 entries and 11 or 13 more; 85 times 3 entries and 1 or 2 more; 1,338 times 49 is 26 at 16 bits.
+    for (last, number) in [(31, 0), (32, 2)] {
+        sheet(suite, &[top_column(0xFF_FFFF).repeat(5), top_column(last)].concat(), number)?;
+    }
+    for (count, number) in [(0, 0), (1, 0), (2, 2)] {
+        sheet(suite, &[top_column(1).repeat(85), vec![17; count]].concat(), number)?;
+    }
+    sheet(suite, &top_column(0x80_0000).repeat(1338), 2)?;
     sheet(suite, &[vec![17; 70_000], vec![99]].concat(), 1)?;
     sheet(suite, &[vec![17; 70_000], vec![18]].concat(), 1)?;
     sheet(suite, &[vec![17; 70_000], vec![18, 65]].concat(), 2)
@@ -94,6 +138,17 @@ pub fn opening(suite: &mut Suite) -> Verdict {
         suite.number(&open(2, 1, &[18, 64, 19, bits, 17], most), 0)?;
         suite.number(&open(2, 1, &[18, 64, 19, bits, 17], most + 1), 4)?;
     }
+    // Of a top the N that keep N times it below p; 1,023 times 2,099,202 is p - 1.
+    for (top, most) in [(0xFF_FFFF, 128), (0x80_0000, 255), (2_099_203, 1022), (2_099_202, 1023)] {
+        suite.number(&open(2, 1, &top_column(top), most), 0)?;
+        suite.number(&open(2, 1, &top_column(top), most + 1), 4)?;
+        suite.number(&open(2, 1, &[vec![18, 64], top_column(top), vec![17]].concat(), most), 0)?;
+        suite.number(&open(2, 1, &[vec![19, 9], top_column(top), vec![17]].concat(), most + 1), 4)?;
+    }
+    for top in [1, 200, 255, 2_097_151] {
+        suite.number(&open(2, 1, &top_column(top), 1024), 0)?;
+        suite.number(&open(2, 1, &top_column(top), 1025), 2)?;
+    }
     suite.number(&open(2, 1, &[19, 21], 1024), 0)?;
     suite.number(&open(2, 1, &[19, 24], 1024), 4)?;
     suite.number(&open(2, 1, &[19, 24], 1025), 2)
@@ -101,7 +156,8 @@ pub fn opening(suite: &mut Suite) -> Verdict {
 
 /// r and s at both sides, on sheets with other numbers of multiplications.
 pub fn pairs(suite: &mut Suite) -> Verdict {
-    for (sheet, m) in [(vec![17], 1), (vec![18, 64], 64), (vec![19, 24, 17], 25), (vec![17; 256], 256)] {
+    let sheets = [(vec![17], 1), (vec![18, 64], 64), (vec![19, 24, 17], 25), (vec![17; 256], 256)];
+    for (sheet, m) in sheets.into_iter().chain([(top_column(200), 16)]) {
         let fixture = Fixture::new(suite, 2, 1, &sheet, 2)?;
         let rs = [(0, 9), (1, 9), (m, 9), (m + 1, 0), (2 * m, 0), (2 * m + 1, 0), (P - 1, 0), (P, 9), (P + 1, 9)];
         let wide = [((1 << 32) + m + 1, 9), ((1 << 32) + P - 1, 9), ((1 << 63) + m + 1, 9), (u64::MAX, 9)];
@@ -142,7 +198,8 @@ pub fn ids(suite: &mut Suite) -> Verdict {
 /// Room exact, one short, one more, none.
 pub fn rooms(suite: &mut Suite) -> Verdict {
     let mut rng = suite.seed(4);
-    for (servers, bytes) in [(2, vec![17]), (3, vec![17, 18, 3, 19, 4]), (8, vec![17; 256]), (2, [18, 64].repeat(4))] {
+    let sheets = [(2, vec![17]), (3, vec![17, 18, 3, 19, 4]), (8, vec![17; 256]), (2, [18, 64].repeat(4))];
+    for (servers, bytes) in sheets.into_iter().chain([(3, top_column(200)), (2, longest_sheet())]) {
         let sheet = Sheet::read(&bytes).map_err(|number| format!("refused {number}"))?;
         let circuit = second::circuit(&bytes, usize::MAX).map_or(0, |bytes| bytes.len());
         room(suite, &Call { sheet: bytes.clone(), ..Call::of(Function::Circuit) }, circuit)?;
@@ -202,7 +259,9 @@ pub fn elements(suite: &mut Suite) -> Verdict {
 pub fn values(suite: &mut Suite) -> Verdict {
     let mut rng = suite.seed(9);
     let columns = [(vec![17], 1), (vec![18, 2], 1), (vec![18, 64], 63), (vec![19, 1], 1), (vec![19, 24], 0xFF_FFFF)];
-    for (column, last) in columns {
+    // With these tops one more has as many bits, or one bit more.
+    let tops = [1, 2, 5, 200, 254, 255, 256, 0x80_0000, 0xFF_FFFE, 0xFF_FFFF].map(|top| (top_column(top), top));
+    for (column, last) in columns.into_iter().chain(tops) {
         let bytes = [&column[..], &[17]].concat();
         let sheet = Sheet::read(&bytes).map_err(|number| format!("refused {number}"))?;
         let random = gen::elements(&mut rng, sheet.share_elements() + 4);

@@ -7,6 +7,7 @@ use crate::calls::{plain, Call, Done, Function};
 use crate::faults::{alone_and_in_pairs, fault, rooms, sheets};
 use crate::layout::{put_word, words};
 use crate::suite::{Suite, Verdict};
+use crate::tops::top_column;
 
 /// Enough for every sheet: 4,096 lists of 12 values.
 const ROOM: usize = 196_608;
@@ -23,10 +24,13 @@ fn bytes_of(list: &[u64]) -> Vec<u8> {
 /// Lists told by hand: the last column moves first.
 pub fn by_hand(suite: &mut Suite) -> Verdict {
     suite.seed(1);
-    let rows: [(&[u8], &[&[u64]]); 5] = [
+    let rows: [(&[u8], &[&[u64]]); 8] = [
         (&[17], &[&[0], &[1]]),
         (&[18, 3], &[&[0], &[1], &[2]]),
         (&[19, 2], &[&[0], &[1], &[2], &[3]]),
+        (&[20, 1, 0, 0, 0], &[&[0], &[1]]),
+        (&[20, 4, 0, 0, 0], &[&[0], &[1], &[2], &[3], &[4]]),
+        (&[17, 20, 2, 0, 0, 0], &[&[0, 0], &[0, 1], &[0, 2], &[1, 0], &[1, 1], &[1, 2]]),
         (&[17, 18, 3], &[&[0, 0], &[0, 1], &[0, 2], &[1, 0], &[1, 1], &[1, 2]]),
         (
             &[19, 1, 17, 18, 2],
@@ -44,15 +48,24 @@ pub fn order(suite: &mut Suite) -> Verdict {
     suite.seed(2);
     let base = Call { room: 48, ..call(&[17, 18, 3]) };
     let mut faults = sheets(0);
-    for many in [vec![17; 13], vec![19, 13], vec![17; 256], [19, 24].repeat(10)] {
+    for many in [vec![17; 13], vec![19, 13], vec![17; 256], [19, 24].repeat(10), top_column(4096)] {
         faults.push(fault(1, 17, "sheet", move |call| call.sheet.clone_from(&many)));
     }
     faults.extend(rooms(2, 48));
     alone_and_in_pairs(suite, &base, &faults)?;
     // Too many lists, and then a column at fault; too many entries for a sheet.
     let start = [17; 20];
-    let ends: [(&[u8], u32); 6] =
-        [(&[20], 1), (&[18], 1), (&[18, 1], 2), (&[19, 25], 2), (&[18, 65, 99], 2), (&[17], 17)];
+    let ends: [(&[u8], u32); 9] = [
+        (&[20], 1),
+        (&[21], 1),
+        (&[20, 0, 0, 0], 1),
+        (&[18], 1),
+        (&[18, 1], 2),
+        (&[19, 25], 2),
+        (&[18, 65, 99], 2),
+        (&[20, 0, 0, 0, 0], 2),
+        (&[17], 17),
+    ];
     for (end, number) in ends {
         suite.number(&call(&[&start[..], end].concat()), number)?;
     }
@@ -63,7 +76,7 @@ pub fn order(suite: &mut Suite) -> Verdict {
 /// 4,096 lists are written and no more, whatever wraps at 16, 32 or 64 bits.
 pub fn limits(suite: &mut Suite) -> Verdict {
     suite.seed(3);
-    let written: [(Vec<u8>, u64); 9] = [
+    let written: [(Vec<u8>, u64); 13] = [
         (vec![17; 12], 4096),
         (vec![19, 12], 4096),
         (vec![19, 6, 18, 64], 4096),
@@ -73,6 +86,10 @@ pub fn limits(suite: &mut Suite) -> Verdict {
         (vec![18, 39, 18, 35, 18, 3], 4095),
         ([18, 3].repeat(7), 2187),
         (vec![17; 11], 2048),
+        (top_column(4095), 4096),
+        (top_column(1).repeat(12), 4096),
+        ([top_column(584), vec![18, 7]].concat(), 4095),
+        ([vec![17], top_column(2047)].concat(), 4096),
     ];
     for (sheet, lists) in written {
         let done = done(suite, &call(&sheet))?;
@@ -84,7 +101,9 @@ pub fn limits(suite: &mut Suite) -> Verdict {
         [vec![19, 13], vec![19, 24], vec![18, 41, 18, 50, 17], [18, 3].repeat(8), vec![19, 12, 17], vec![17, 19, 12]];
     let more = [[18, 16].repeat(4), [18, 64].repeat(3), [18, 64].repeat(4), [18, 16].repeat(8), [18, 16].repeat(16)];
     let wide = [[19, 24].repeat(2), [19, 16].repeat(4), [19, 24].repeat(10), [18, 2].repeat(128), [19, 1].repeat(128)];
-    for sheet in many.iter().chain(&more).chain(&wide) {
+    let tops = [4096, 8191, 65_535, 0xFF_FFFF].map(top_column);
+    let high = [[vec![17], top_column(2048)].concat(), top_column(15).repeat(8), top_column(1).repeat(85)];
+    for sheet in many.iter().chain(&more).chain(&wide).chain(&tops).chain(&high) {
         suite.number(&call(sheet), 17)?;
     }
     for columns in [13, 14, 16, 17, 31, 32, 33, 44, 63, 64, 65, 76, 128, 255, 256] {
@@ -166,7 +185,8 @@ pub fn no_other(suite: &mut Suite) -> Verdict {
     let mut rng = suite.seed(6);
     let sheets: [&[u8]; 6] =
         [&[17], &[18, 5, 17], &[19, 2, 18, 3], &[17, 17, 17], &[19, 1, 18, 4, 17], &[18, 2, 19, 2, 18, 3]];
-    for sheet in sheets {
+    let tops: [&[u8]; 3] = [&[20, 4, 0, 0, 0], &[20, 2, 0, 0, 0, 17], &[20, 1, 0, 0, 0, 18, 3, 20, 4, 0, 0, 0]];
+    for sheet in sheets.into_iter().chain(tops) {
         let columns = Sheet::read(sheet).map_or(0, |sheet| sheet.columns().len());
         let lists = written(suite, &mut rng, sheet, columns)?;
         for number in 0..6u64.pow(columns as u32) {

@@ -25,6 +25,7 @@ mod suite;
 mod tables;
 mod tally;
 mod tell;
+mod tops;
 
 use std::env;
 use std::process::ExitCode;
@@ -60,7 +61,7 @@ const REFUSALS: [(Function, &[u32]); 14] = [
 type Test = fn(&mut Suite) -> Verdict;
 
 /// Named tests without a seed of their own.
-const NAMED: [(&str, Test); 56] = [
+const NAMED: [(&str, Test); 60] = [
     ("header: constants", sizes::constants),
     ("header: sizes", sizes::lengths),
     ("header: sizes of runs", sizes::runs),
@@ -101,6 +102,10 @@ const NAMED: [(&str, Test); 56] = [
     ("tables: totals and waiting numbers", tables::numbers),
     ("tables: sheets", tables::sheets),
     ("tables: what is free", tables::free),
+    ("tops: a circuit told by hand", tops::circuit),
+    ("tops: values past the top", tops::past),
+    ("tops: bits that are none", tops::no_bits),
+    ("tops: tables of the longest sheet", tops::tables),
     ("decided: the bytes of a share", decided::bytes),
     ("decided: tables added up", decided::sums),
     ("every return: told by hand", lists::by_hand),
@@ -155,6 +160,7 @@ fn recounts(tally: &mut Tally) {
         return;
     };
     tally.note("recount: the example", recount::example(&program));
+    tally.note("recount: columns with a top", recount::tops(&program));
     tally.note("recount: input in pieces", recount::pieces(&program));
     tally.note("recount: limits", recount::limits(&program));
     tally.note("recount: random inputs", recount::random(&program, 0));

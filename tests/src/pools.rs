@@ -7,6 +7,7 @@ use second::{Column, Sheet};
 use crate::calls::{plain, Call, Done, Function};
 use crate::layout::{put_word, word};
 use crate::suite::{Suite, Verdict};
+use crate::tops::{largest_sheet, longest_sheet};
 
 /// S tables opened alike, with what the tests need to know of them.
 pub struct Pool {
@@ -173,7 +174,8 @@ pub fn pool(suite: &mut Suite, seed: u64) -> Verdict {
 pub fn large(suite: &mut Suite) -> Verdict {
     let mut number = [19, 24].repeat(10);
     number.extend([19, 5]);
-    for bytes in [vec![17; 256], [18, 64].repeat(4), [18, 2].repeat(128), [19, 1].repeat(128), number] {
+    let others = [vec![17; 256], [18, 64].repeat(4), [18, 2].repeat(128), [19, 1].repeat(128), number];
+    for bytes in others.into_iter().chain([longest_sheet(), largest_sheet()]) {
         for servers in [2, 8] {
             let mut rng = suite.seed(u64::from(servers));
             let mut pool = Pool::open(suite, servers, &bytes, 3)?;
@@ -215,14 +217,17 @@ fn used(suite: &mut Suite, pool: &Pool, share: &[u8]) -> Verdict {
     Ok(())
 }
 
-/// The largest totals that open: 128 times 2^24 - 1 does not wrap.
+/// The largest totals that open: 128 times 2^24 - 1 does not wrap, for a number and for a top.
 pub fn highest(suite: &mut Suite) -> Verdict {
-    let mut rng = suite.seed(128);
-    let mut pool = Pool::open(suite, 2, &[19, 24], 128)?;
-    for id in 0..128 {
-        let shares = pool.make(suite, &mut rng, id, &[255, 255, 255, 0])?;
-        pool.judge(suite, &shares, 1_000_000 + u64::from(id), 77)?;
+    for sheet in [&[19, 24][..], &[20, 255, 255, 255, 0]] {
+        let mut rng = suite.seed(128);
+        let mut pool = Pool::open(suite, 2, sheet, 128)?;
+        for id in 0..128 {
+            let shares = pool.make(suite, &mut rng, id, &[255, 255, 255, 0])?;
+            pool.judge(suite, &shares, 1_000_000 + u64::from(id), 77)?;
+        }
+        let join = pool.close(suite)?;
+        suite.gives(&join, plain(vec![128], 2_147_483_520u32.to_le_bytes().to_vec()))?;
     }
-    let join = pool.close(suite)?;
-    suite.gives(&join, plain(vec![128], 2_147_483_520u32.to_le_bytes().to_vec()))
+    Ok(())
 }

@@ -71,6 +71,30 @@ pub fn example(program: &PathBuf) -> Verdict {
     check(program, &[&whole[..], &vec![36; 200_000]].concat())
 }
 
+/// A column with a top of 200 between others: one total, option 0. Cut everywhere, and with tops out of range.
+pub fn tops(program: &PathBuf) -> Verdict {
+    let message =
+        |server: u8, totals: [u32; 4]| [&[36, server, 2, 0, 0, 0], &totals.map(u32::to_le_bytes).concat()[..]].concat();
+    let joined = [message(0, [2_147_483_646, 1, 7, 0]), message(1, [2, 0, 318, 1])].concat();
+    let whole = input(2, &[18, 2, 20, 200, 0, 0, 0, 17], 1024, &joined);
+    let text = "accepted 2\n1 0 1\n1 1 1\n2 0 325\n3 0 1\n";
+    if second::recount(&whole) != text {
+        return Err("the second program prints another text for a column with a top".to_string());
+    }
+    for length in 0..=whole.len() {
+        check(program, &whole[..length])?;
+    }
+    for (at, byte) in [(5, 0), (6, 1), (7, 255), (8, 1), (8, 255)] {
+        let mut other = whole.clone();
+        other[at] = byte;
+        check(program, &other)?;
+    }
+    for returns in [128, 129] {
+        check(program, &input(2, &[18, 2, 20, 255, 255, 255, 0, 17], returns, &joined))?;
+    }
+    Ok(())
+}
+
 /// The example in pieces, whole and cut.
 pub fn pieces(program: &PathBuf) -> Verdict {
     let whole = input(2, &[17, 18, 3], 10, &example_totals());
@@ -84,7 +108,7 @@ pub fn pieces(program: &PathBuf) -> Verdict {
 /// Long sheets, S and N at their limits, and more input than any joined messages.
 pub fn limits(program: &PathBuf) -> Verdict {
     let mut long = vec![17; 65_535];
-    for last in [17, 18, 19, 20, 99] {
+    for last in [17, 18, 19, 20, 21, 99] {
         long[65_534] = last;
         let whole = input(2, &long, 1, &[]);
         for length in whole.len() - 4..=whole.len() {
@@ -94,7 +118,7 @@ pub fn limits(program: &PathBuf) -> Verdict {
     }
     for servers in [0, 1, 2, 8, 9, 255] {
         for returns in [0, 1, 128, 129, 1024, 1025, 65_535] {
-            for sheet in [&[19, 24][..], &[17], &[], &[20], &[18, 1], &[17; 256], &[17; 257]] {
+            for sheet in [&[19, 24][..], &[17], &[], &[20], &[18, 1], &[17; 256], &[17; 257], &[20, 255, 255, 255, 0]] {
                 check(program, &input(servers, sheet, returns, &[]))?;
             }
         }

@@ -6,6 +6,7 @@ use crate::calls::{Call, Function};
 use crate::counts::told;
 use crate::fixture::Fixture;
 use crate::suite::{Suite, Verdict};
+use crate::tops::top_column;
 
 // The functions of sizes.c.
 extern "C" {
@@ -25,8 +26,8 @@ const REFUSALS: [usize; 17] = [0, 1, 2, 3, 4, 5, 6, 7, 8, 9, 10, 11, 12, 13, 14,
 
 /// After the refusals: p, S from and to, the most returns and entries, the column kinds, a round message's length, and
 /// the largest sizes; R and W at most, and their product; lists at most, and their bytes.
-const CONSTANTS: [usize; 19] =
-    [2_147_483_647, 2, 8, 1024, 256, 17, 18, 19, 14, 256, 7008, 3102, 1030, 8512, 64, 4096, 262_144, 4096, 196_608];
+const CONSTANTS: [usize; 20] =
+    [2_147_483_647, 2, 8, 1024, 256, 17, 18, 19, 20, 14, 426, 7161, 3102, 1030, 8512, 64, 4096, 262_144, 4096, 196_608];
 
 pub fn constants(_: &mut Suite) -> Verdict {
     for (number, must) in REFUSALS.into_iter().chain(CONSTANTS).enumerate() {
@@ -35,25 +36,36 @@ pub fn constants(_: &mut Suite) -> Verdict {
             return Err(format!("constant {number} of pool.h is {is}\nmust be {must}"));
         }
     }
-    let largest = largest_circuit();
-    if largest != 7008 {
-        return Err(format!("the largest circuit of a sheet has {largest} bytes"));
+    // The longest circuit has the constant at its start, the longest table 1,024 returns and no column before its own.
+    let circuit = 5 + most(|sheet| second::circuit(sheet, usize::MAX).map_or(0, |bytes| bytes.len() - 5));
+    let table = unsafe { sizes_table(0, 0, 30, 1024) } + most(table);
+    let is = [most(<[u8]>::len), circuit, table];
+    if is != [426, 7161, 8512] {
+        return Err(format!("the longest sheet, circuit and table have {is:?} bytes"));
     }
     Ok(())
 }
 
-/// The length of the longest circuit of a sheet: a best choice of columns for every number of entries.
-fn largest_circuit() -> usize {
-    let length = |sheet: &[u8]| second::circuit(sheet, usize::MAX).map_or(0, |bytes| bytes.len() - 5);
-    let mut columns = vec![(1, length(&[17]))];
-    columns.extend((2..=64).map(|options| (usize::from(options), length(&[18, options]))));
-    columns.extend((1..=24).map(|bits| (usize::from(bits) + 1, length(&[19, bits]))));
+/// What a column adds to the length of a table.
+fn table(sheet: &[u8]) -> usize {
+    second::sizes(sheet).map_or(0, |told| sheet.len() + 4 * told.published + told.share_bytes - 30)
+}
+
+/// The most that a length adds up to over all sheets: a best choice of columns for every number of entries. Tops of one
+/// number of bits are alike.
+fn most(length: impl Fn(&[u8]) -> usize) -> usize {
+    let mut sheets = vec![vec![17]];
+    sheets.extend((2..=64).map(|options| vec![18, options]));
+    sheets.extend((1..=24).map(|bits| vec![19, bits]));
+    sheets.extend((0..24).map(|bits| top_column(1 << bits)));
+    let entries = |sheet: &[u8]| second::sizes(sheet).map_or(0, |told| told.entries);
+    let columns: Vec<(usize, usize)> = sheets.iter().map(|sheet| (entries(sheet), length(sheet))).collect();
     let mut most = vec![0; 257];
     for entries in 1..=256 {
         let ends = columns.iter().filter(|(width, _)| *width <= entries);
         most[entries] = ends.map(|(width, length)| most[entries - width] + length).max().unwrap_or(0);
     }
-    5 + most.into_iter().max().unwrap_or(0)
+    most.into_iter().max().unwrap_or(0)
 }
 
 /// The sizes that the header's macros give from what pool_sizes tells are the lengths that are read and written.

@@ -5,6 +5,7 @@ use second::gen;
 use crate::calls::{Call, Function};
 use crate::fixture::Fixture;
 use crate::suite::{Suite, Verdict};
+use crate::tops::{largest_sheet, longest_sheet, top_column};
 
 const MARK: u8 = 0x5B;
 /// So much below is marked, from a little below the function that marks it.
@@ -48,19 +49,19 @@ fn measure(suite: &mut Suite) -> Result<usize, String> {
         let (messages, width, message, room) = (64, 4096, vec![7; 262_144], 262_144);
         most = most.max(used(suite, &Call { messages, width, message, room, ..Call::of(function) })?);
     }
-    for sheet in [vec![17; 12], vec![19, 12]] {
+    for sheet in [vec![17; 12], vec![19, 12], top_column(4095)] {
         let call = Call { sheet, room: 196_608, ..Call::of(Function::EveryReturn) };
         most = most.max(used(suite, &call)?);
     }
     let mut number = [19, 24].repeat(10);
     number.extend([19, 5]);
-    for sheet in [vec![17; 256], [18, 64].repeat(4), number] {
+    for sheet in [vec![17; 256], [18, 64].repeat(4), number, longest_sheet(), largest_sheet()] {
         let fixture = Fixture::new(suite, 8, 7, &sheet, 2)?;
         let read = second::Sheet::read(&sheet).map_err(|number| format!("refused {number}"))?;
         let mut calls = fixture.calls();
         calls.push(Call { sheet: sheet.clone(), ..Call::of(Function::Sizes) });
-        calls.push(Call { sheet: sheet.clone(), room: 7_008, ..Call::of(Function::Circuit) });
-        let message = second::circuit(&sheet, 7_008).unwrap_or_default();
+        calls.push(Call { sheet: sheet.clone(), room: 7_161, ..Call::of(Function::Circuit) });
+        let message = second::circuit(&sheet, 7_161).unwrap_or_default();
         calls.push(Call { entries: 256, message, ..Call::of(Function::ReadCircuit) });
         let values = gen::values(&mut rng, &read);
         let random = gen::elements(&mut rng, 7 * read.share_elements() + 4);

@@ -7,11 +7,12 @@ use crate::fixture::Fixture;
 use crate::layout::{put_short, put_word, sound, word, Table};
 use crate::reference::own_message;
 use crate::suite::{Suite, Verdict};
+use crate::tops::top_column;
 
 const P: u64 = 2_147_483_647;
 
 /// All five calls on a table, each with the arguments that fit its own stage.
-fn all_calls(suite: &mut Suite, calls: &[Call], table: &[u8]) -> Verdict {
+pub fn all_calls(suite: &mut Suite, calls: &[Call], table: &[u8]) -> Verdict {
     for call in calls {
         suite.agrees(&Call { table: table.to_vec(), ..call.clone() })?;
     }
@@ -19,12 +20,12 @@ fn all_calls(suite: &mut Suite, calls: &[Call], table: &[u8]) -> Verdict {
 }
 
 /// All five calls refuse a table.
-fn refused(suite: &mut Suite, calls: &[Call], table: &[u8]) -> Verdict {
+pub fn refused(suite: &mut Suite, calls: &[Call], table: &[u8]) -> Verdict {
     calls.iter().try_for_each(|call| suite.number(&Call { table: table.to_vec(), ..call.clone() }, 11))
 }
 
 /// The call that a table's stage takes is done: a share, round one, round two, and none where it is closed.
-fn taken(suite: &mut Suite, calls: &[Call], table: &[u8]) -> Verdict {
+pub fn taken(suite: &mut Suite, calls: &[Call], table: &[u8]) -> Verdict {
     match calls.get(usize::from(table[1])) {
         Some(call) if table[1] < 3 => suite.number(&Call { table: table.to_vec(), ..call.clone() }, 0),
         _ => refused(suite, calls, table),
@@ -33,11 +34,12 @@ fn taken(suite: &mut Suite, calls: &[Call], table: &[u8]) -> Verdict {
 
 /// Fixtures of small and larger sheets.
 fn fixtures(suite: &mut Suite) -> Result<Vec<Fixture>, String> {
-    let sheets: [(u32, usize, &[u8], u32); 3] = [(2, 0, &[17], 2), (3, 1, &[18, 2, 19, 1], 3), (8, 7, &[19, 3, 17], 4)];
+    let sheets: [(u32, usize, &[u8], u32); 4] =
+        [(2, 0, &[17], 2), (3, 1, &[18, 2, 19, 1], 3), (8, 7, &[19, 3, 17], 4), (2, 1, &[20, 2, 0, 0, 0], 2)];
     sheets.into_iter().map(|(servers, own, sheet, returns)| Fixture::new(suite, servers, own, sheet, returns)).collect()
 }
 
-fn stages(fixture: &Fixture) -> [&Vec<u8>; 5] {
+pub fn stages(fixture: &Fixture) -> [&Vec<u8>; 5] {
     [&fixture.idle, &fixture.first, &fixture.second, &fixture.closed, &fixture.full]
 }
 
@@ -215,20 +217,26 @@ pub fn sheets(suite: &mut Suite) -> Verdict {
         for (bits, returns, good) in
             [(24, 128, true), (24, 129, false), (23, 256, true), (23, 257, false), (21, 1024, true)]
         {
-            changed(suite, &calls, &longer, good, |t| fresh(t, bits, returns))?;
+            changed(suite, &calls, &longer, good, |t| fresh(t, &[19, bits, 17], returns))?;
         }
-        changed(suite, &calls, &longer, false, |t| fresh(t, 24, 1025))?;
+        changed(suite, &calls, &longer, false, |t| fresh(t, &[19, 24, 17], 1025))?;
+        for (top, returns, good) in [(0xFF_FFFF, 128, true), (0xFF_FFFF, 129, false), (200, 1024, true)] {
+            changed(suite, &calls, &longer, good, |t| fresh(t, &top_column(top), returns))?;
+        }
+        for top in [0, 0x100_0000, u32::MAX] {
+            changed(suite, &calls, &longer, false, |t| fresh(t, &top_column(top), 2))?;
+        }
     }
     Ok(())
 }
 
-/// Writes an idle table of the sheet 19 b, 17 with N over what a slice holds.
-fn fresh(slice: &mut [u8], bits: u8, returns: usize) {
+/// Writes an idle table of a sheet with N over what a slice holds.
+fn fresh(slice: &mut [u8], sheet: &[u8], returns: usize) {
     slice.fill(0);
     slice[..4].copy_from_slice(&[1, 0, 2, 1]);
     put_short(slice, 4, returns);
-    put_short(slice, 10, 3);
-    slice[12..15].copy_from_slice(&[19, bits, 17]);
+    put_short(slice, 10, sheet.len());
+    slice[12..12 + sheet.len()].copy_from_slice(sheet);
 }
 
 /// What is free is not read: numbers that do not belong to the share make round messages of their own.

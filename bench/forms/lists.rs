@@ -2,18 +2,19 @@
 use crate::loops::read_sheet;
 
 fn bytes_of(kind: u8) -> usize {
-    if kind == 17 {
-        1
-    } else {
-        2
+    match kind {
+        17 => 1,
+        20 => 5,
+        _ => 2,
     }
 }
 
-fn values_of(kind: u8, last: u8) -> u32 {
-    match kind {
-        17 => 2,
-        18 => last as u32,
-        _ => 1 << last,
+fn values_of(column: &[u8]) -> u32 {
+    match *column {
+        [17] => 2,
+        [18, n] => n as u32,
+        [20, a, b, c, d] => u32::from_le_bytes([a, b, c, d]) + 1,
+        _ => 1 << column[1],
     }
 }
 
@@ -21,9 +22,9 @@ fn values_of(kind: u8, last: u8) -> u32 {
 fn columns(s: &[u8]) -> impl Iterator<Item = u32> + '_ {
     let mut at = 0;
     std::iter::from_fn(move || {
-        let kind = *s.get(at)?;
-        at += bytes_of(kind);
-        Some(values_of(kind, s[at - 1]))
+        let column = &s[at..at + bytes_of(*s.get(at)?)];
+        at += column.len();
+        Some(values_of(column))
     })
 }
 

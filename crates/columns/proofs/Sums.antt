@@ -1,6 +1,6 @@
--- Counts that a sheet's columns add up to: entries, published entries, steps of each kind. Each is a sum over the columns, so
--- each law of such sums is said once, for any of them; the largest value is a maximum instead. Additions and products with a
--- constant follow from the other counts, column by column. Assumes nothing.
+-- Counts that a sheet's columns add up to: entries, published entries, multiplications, tests. Each is a sum over the
+-- columns, so each law of such sums is said once, for any of them; the largest value is a maximum instead. The steps of the
+-- other kinds follow from these counts, column by column. Assumes nothing.
 use mathlib.Core.Path.{_≡_, refl, sym, ap, _∙_}
 use mathlib.Core.List.{List, [], _∷_, _++_}
 use Prim.Native.Nat.{ℕ, _+_, _≤_, _<_, max}
@@ -9,7 +9,7 @@ use native.Mathlib.Omega.{arith}
 use lib.ListN.{length, getD, take, drop, take-append-drop}
 use lib.Seq.{take-suc}
 use Rattle.rules.specs.Columns.{Column, yesNo, choice, number, top, entriesOf, publishedOf, largestOf, entriesIn, publishedIn, largestIn}
-use Rattle.rules.specs.Circuit.{constantsOf, addsOf, scalesOf, gatesOf, testsOf, constantsIn, addsIn, scalesIn, gatesIn, testsIn}
+use Rattle.rules.specs.Circuit.{constantsOf, constantsIn, addsOf, scalesOf, gatesOf, testsOf, addsIn, scalesIn, gatesIn, testsIn}
 
 -- `In` adds up `of` over the columns
 pub record Total (of : Column → ℕ) (In : List Column → ℕ) : Type 0 where
@@ -75,7 +75,7 @@ pub largest-one : (c : Column) → largestIn (c ∷ []) ≡ largestOf c
 unfolding largestIn
 largest-one c = omega arith
 
--- ---- additions and products with a constant
+-- ---- steps of other kinds
 -- each multiplication checks a bit and has an addition before it, and the sums of a column have as many terms as the column
 -- has tests, less one
 column-adds : (c : Column) → addsOf c + 1 ≡ gatesOf c + testsOf c

@@ -1,13 +1,10 @@
 -- A column that is taken: what a record says by its kind, that the column is within its limits, and what it comes to.
 -- By the cases of the kind. Assumes nothing.
-use mathlib.Core.Path.{_≡_, refl, sym, ap, _∙_, subst}
-use mathlib.Core.Bool.{Bool, true, false, cond}
+use mathlib.Core.Path.{_≡_, refl, sym, ap, _∙_}
 use mathlib.Core.List.{List, [], _∷_}
 use Prim.Native.Nat.{ℕ, _^_, _≤_}
 use native.Mathlib.Nat.{pow-le-pow-right}
 use native.Mathlib.Omega.{arith}
-use lib.Dec.{eqb}
-use lib.ListN.{getD}
 use Rattle.records.specs.Outcome.{Outcome, ok, refused}
 use Rattle.rules.specs.Columns.{Column, yesNo, choice, number, top, columnOf}
 use Rattle.algebra.specs.Lists.{All, all[], all∷}

@@ -9,8 +9,7 @@ ghost use Rattle.rules.proofs.Circuits.Limits.{InLimits};
 ghost use Rattle.columns.specs.Counting.{countsOf};
 ghost use Rattle.columns.specs.Kinds.{bytesOfKind, judgedOf, fromCode};
 
-// What columns come to: entries, published entries, the constants, multiplications and tests of their steps (wire 0 is not of
-// a column), and their largest value.
+// What columns come to: entries, published entries, constants, multiplications and tests, and their largest value.
 pub struct Counts {
     pub columns: usize,
     pub entries: usize,
@@ -160,38 +159,6 @@ pub fn bit_length(n: u32) -> usize
     (32 - u32::leading_zeros(n)) as usize
 }
 
-// What a choice of n options comes to.
-fn choice_counts(n: usize, largest: u32) -> Counts
-    requires { ⌜ (n ≤ 64) × (largest ≡ largestOf (choice n)) ⌝ }
-    ensures { λ r. ⌜ r ≡ countsOf (choice n ∷ []) ⌝ }
-{
-    Counts {
-        columns: 1,
-        entries: n,
-        published: n,
-        constants: 0,
-        gates: n,
-        tests: n + 1,
-        largest,
-    }
-}
-
-// What a number of n bits comes to.
-fn number_counts(n: usize, largest: u32) -> Counts
-    requires { ⌜ (n ≤ 24) × (largest ≡ largestOf (number n)) ⌝ }
-    ensures { λ r. ⌜ r ≡ countsOf (number n ∷ []) ⌝ }
-{
-    Counts {
-        columns: 1,
-        entries: n + 1,
-        published: 1,
-        constants: 0,
-        gates: n,
-        tests: n + 1,
-        largest,
-    }
-}
-
 // What a number up to n comes to, where n has b bits.
 fn top_counts(b: usize, n: u32) -> Counts
     requires { ⌜ (b ≤ 24) × (b ≡ bitLength n) ⌝ }
@@ -224,8 +191,24 @@ pub fn counts_of(column: Column) -> Counts
             tests: 1,
             largest,
         },
-        Column::Choice(n) => choice_counts(n, largest),
-        Column::Number(n) => number_counts(n, largest),
+        Column::Choice(n) => Counts {
+            columns: 1,
+            entries: n,
+            published: n,
+            constants: 0,
+            gates: n,
+            tests: n + 1,
+            largest,
+        },
+        Column::Number(n) => Counts {
+            columns: 1,
+            entries: n + 1,
+            published: 1,
+            constants: 0,
+            gates: n,
+            tests: n + 1,
+            largest,
+        },
         Column::Top(n) => top_counts(bit_length(n), n),
     }
 }

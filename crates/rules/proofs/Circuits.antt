@@ -2,6 +2,7 @@
 pub mod Natural
 pub mod Growth
 pub mod Stretches
+pub mod ColumnRuns
 pub mod Walk
 pub mod BitLength
 pub mod Limits
@@ -11,6 +12,7 @@ pub mod Counts
 pub mod Sound
 pub mod ReadBack
 pub mod Digits
+pub mod FieldTests
 pub mod ColumnTests
 pub mod Encoding
 pub mod Published

@@ -5,7 +5,7 @@ use mathlib.Core.Bool.{Bool, _&&_, not}
 use mathlib.Core.List.{List, [], _∷_, _++_}
 use Prim.Native.Nat.{ℕ, zero, suc, _-_, _/_, _%_}
 use lib.Dec.{eqb}
-use lib.ListN.{length, getD, replicate}
+use lib.ListN.{length, getD}
 use Rattle.algebra.specs.Lists.{every, countFrom}
 use Rattle.algebra.specs.Modulo.{modulo}
 use Rattle.words.specs.Bytes.{bytesOf, bytesOfAll}

@@ -1,6 +1,6 @@
 -- Where the columns of a sheet that is read stand in its bytes: each behind those before it, where its record tells it. By the
 -- records that were read: one more changes nothing in front of it. Assumes nothing.
-use mathlib.Core.Path.{_≡_, refl, sym, ap, ap₂, _∙_, subst}
+use mathlib.Core.Path.{_≡_, refl, sym, ap, _∙_}
 use mathlib.Core.Logic.{⊎-elim}
 use mathlib.Core.Bool.{Bool, true, false, cond}
 use mathlib.Core.List.{List, [], _∷_, _++_}

@@ -52,8 +52,7 @@ length-is h k l = simp unary-clauses at (h .rule (suc k) (omega arith) (omega ar
 -- the steps of each kind, added up
 pub steps-are : (c : Counts)
     → (c .constants + 1) * suc (lengthAt 0) + c .entries * suc (lengthAt 1) + addsMade c * suc (lengthAt 2)
-    + scalesMade c * suc (lengthAt 3) + c .gates * suc (lengthAt 4) + c .tests * suc (lengthAt 5)
-    ≡ stepsSize c
+    + scalesMade c * suc (lengthAt 3) + c .gates * suc (lengthAt 4) + c .tests * suc (lengthAt 5) ≡ stepsSize c
 unfolding stepsSize weighed
 steps-are c = omega arith
 
@@ -68,7 +67,7 @@ scales-most c h = omega arith
 pub steps-most : (c : Counts) → Small 256 c → stepsSize c ≤ 14000
 steps-most c h = omega (arith, steps-are c, adds-most c h, scales-most c h)
 
-pub wires-most : (c : Counts) → Small 256 c → wiresMade c ≤ 2500
+pub wires-most : (c : Counts) → Small 256 c → wiresMade c ≤ 2304
 unfolding wiresMade
 wires-most c h = omega (arith, adds-most c h, scales-most c h)
 

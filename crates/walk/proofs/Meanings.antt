@@ -1,6 +1,6 @@
 -- The walks as walks of parts, and the inputs at a server and on a list as inputs by a meaning on numbers: they name no
 -- constant but p - 1. By induction on the columns. Assumes nothing.
-use mathlib.Core.Path.{_≡_, refl, ap, ap₂, _∙_}
+use mathlib.Core.Path.{_≡_, refl, ap, ap₂}
 use mathlib.Core.List.{List, [], _∷_, _++_}
 use Prim.Native.Nat.{ℕ, _+_}
 use native.Mathlib.Omega.{arith}

@@ -4,7 +4,7 @@ use mathlib.Core.Path.{_≡_, refl, sym, ap, ap₂, _∙_}
 use mathlib.Core.List.{List, [], _∷_, _++_, map, map-append}
 use Prim.Native.Nat.{ℕ, _+_, _<_}
 use native.Mathlib.Omega.{arith}
-use Rattle.algebra.specs.Lists.{all[], all∷, tabulate}
+use Rattle.algebra.specs.Lists.{all[]}
 use Rattle.algebra.proofs.Members.{all-append}
 use Rattle.algebra.proofs.Tables.{map-tabulate}
 use Rattle.field.specs.Residues.{residues, Elements}

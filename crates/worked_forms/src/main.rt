@@ -13,6 +13,15 @@ fn sheets() {
     forms::sheet(b"sheet 17, 18 cut:\x11\x12");
 }
 
+fn tops() {
+    forms::sheet(b"sheet 20 200:\x14\xc8\0\0\0");
+    forms::sheet(b"sheet 20 1:\x14\x01\0\0\0");
+    forms::sheet(b"sheet 20 16777215:\x14\xff\xff\xff\0");
+    forms::sheet(b"sheet 20 0:\x14\0\0\0\0");
+    forms::sheet(b"sheet 20 16777216:\x14\0\0\0\x01");
+    forms::sheet(b"sheet 20, 3 bytes:\x14\xc8\0\0");
+}
+
 fn long_sheets() {
     printing::write(b"256 columns of 17");
     forms::counts(&[17; 256]);
@@ -51,6 +60,7 @@ fn circuits() {
 
 fn main() {
     sheets();
+    tops();
     long_sheets();
     values();
     written();

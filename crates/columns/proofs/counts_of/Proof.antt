@@ -1,11 +1,11 @@
 -- `columns::counts_of` meets its contract: each arm is one case of the counts. Assumes nothing.
-use mathlib.Core.Path.{refl, ap, _∙_}
+use mathlib.Core.Path.{refl}
+use native.Mathlib.Numerals.{add-one}
 use native.Mathlib.Omega.{arith}
 use borrow.Author.Needs.{needs}
-use Rattle.rules.specs.Columns.{entriesOf, publishedOf, largestOf}
+use Rattle.rules.specs.Columns.{entriesOf, publishedOf}
 use Rattle.rules.specs.Circuit.{constantsOf, gatesOf, testsOf}
 use Rattle.rules.proofs.Circuits.BitLength.{bit-length}
-use Rattle.columns.specs.Kinds.{fromCode}
 use Rattle.columns.proofs.Taken.{counts-one}
 use Rattle.columns.proofs.counts_of.Statement.{statement}
 use Rattle.columns.proofs.counts_of.Tie as tie
@@ -19,20 +19,17 @@ enum-told c = search needs
 enum-known-column : tie.Need-enum-known-column
 enum-known-column c = search needs
 
-choice-counts-requires : tie.Need-choice-counts-requires
-choice-counts-requires c κs =
-    let o = c .before in
-    let l = rw (o .column .given .1) at (o .before .before .before .pre) in
-    (l .1, rw (o .column .given .1) at (o .before .before .largest-of .ensures))
+add-t7 : tie.Need-add-t7
+add-t7 c = let l = rw (c .before .column .given .1) at (c .before .before .before .before .pre) in omega arith
+
+add-t8 : tie.Need-add-t8
+add-t8 c = let l = rw (c .before .column2 .given .1) at (c .before .before .before .before .pre) in omega arith
 
 enum-known-column-2 : tie.Need-enum-known-column-2
 enum-known-column-2 c = search needs
 
-number-counts-requires : tie.Need-number-counts-requires
-number-counts-requires c κs =
-    let o = c .before in
-    let l = rw (o .column2 .given .1) at (o .before .before .before .pre) in
-    (l .1, rw (o .column2 .given .1) at (o .before .before .largest-of .ensures))
+add-t9 : tie.Need-add-t9
+add-t9 c = let l = rw (c .before .column2 .given .1) at (c .before .before .before .before .pre) in omega arith
 
 enum-known-column-3 : tie.Need-enum-known-column-3
 enum-known-column-3 c = search needs
@@ -55,10 +52,16 @@ returns c =
     rw (counts-one _, l, c .enum-told .given .1) refl
 
 returns-2 : tie.Need-returns-2
-returns-2 c = rw (c .before .before .column .given .1) (c .choice-counts .ensures)
+unfolding entriesOf publishedOf constantsOf gatesOf testsOf
+returns-2 c =
+    let l = c .before .before .before .largest-of .ensures in
+    rw (counts-one _, l, c .before .column .given .1) refl
 
 returns-3 : tie.Need-returns-3
-returns-3 c = rw (c .before .before .column2 .given .1) (c .number-counts .ensures)
+unfolding entriesOf publishedOf constantsOf gatesOf testsOf
+returns-3 c =
+    let l = c .before .before .before .largest-of .ensures in
+    rw (counts-one _, l, c .before .column2 .given .1, add-one) refl
 
 returns-4 : tie.Need-returns-4
 returns-4 c = rw (c .before .before .before .column3 .given .1) (c .top-counts .ensures)
@@ -70,9 +73,10 @@ counts-of-spec =
     largest-of-requires
     enum-told
     enum-known-column
-    choice-counts-requires
+    add-t7
     enum-known-column-2
-    number-counts-requires
+    add-t8
+    add-t9
     enum-known-column-3
     bit-length-requires
     top-counts-requires

@@ -68,7 +68,8 @@ add-put-rest-2 c = search needs
 
 put-rest-requires : tie.Need-put-rest-requires
 put-rest-requires c κs =
-    let a = c .before .before .before .before .before .before .before .before .before .before .before .before .before .before .before .before .before .before in
+    let o = c .before .before .before .before .before .before .before .before .before in
+    let a = o .before .before .before .before .before .before .before .before .before in
     let z = top-size (a .args .n) (a .args .b) (a .pre .2) in
     search needs
 

@@ -20,9 +20,9 @@ unfolding wiresMade
 wires-one k =
     omega (
       arith,
+      total-one constants k,
       adds-made (k ∷ []),
       scales-made (k ∷ []),
-      total-one constants k,
       total-one entries k,
       total-one adds k,
       total-one scales k,

@@ -1,20 +1,20 @@
 -- One column in a field: its tests are all zero exactly when its entries encode a legal value. A bit check says that an
--- entry is 0 or 1; the last test says that the options' entries add up to 1, or that v is the number with those bits.
+-- entry is 0 or 1; the sums say that the options' entries add up to 1, that v is the number with its bits, that v and the
+-- number with the second bits add up to the top.
 -- Assumes nothing.
-use mathlib.Core.Path.{_≡_, refl, sym, _∙_, ap, ap₂}
-use mathlib.Core.Logic.{_⊎_, inl, inr}
-use mathlib.Core.Bool.{Bool, cond, true, false}
+use mathlib.Core.Path.{_≡_, sym, _∙_, ap, ap₂}
+use mathlib.Core.Bool.{cond}
 use mathlib.Core.List.{List, [], _∷_}
 use Prim.Native.Nat.{ℕ, zero, suc, _+_, _-_, _*_, _/_, _%_, _^_, _≤_, _<_}
-use native.Mathlib.Nat.{pow-le-pow-right, add-zero as n-add-zero, mul-zero as n-mul-zero, mul-suc as n-mul-suc}
+use native.Mathlib.Nat.{pow-le-pow-right, add-zero as n-add-zero}
 use native.Mathlib.Omega.{arith}
 use native.Mathlib.Decide.{decLt}
 use borrow.Author.Tests.{lt-ltb, le-ltb}
 use lib.Dec.{ltb}
 use Rattle.algebra.specs.Lists.{All, all[], all∷, tabulate}
 use Rattle.algebra.specs.Ops.{Ops, Field}
-use Rattle.algebra.proofs.Ring.{ring, add-zero, zero-add, add-assoc, add-neg, neg-add, mul-zero, zero-mul, mul-one, mul-add}
-use Rattle.algebra.proofs.Ring.{sub-zero, add-cancel, ι-add}
+use Rattle.algebra.proofs.Ring.{add-zero, add-assoc, neg-add}
+use Rattle.algebra.proofs.Ring.{ι-add}
 use Rattle.algebra.proofs.Members.{all-append, all-left, all-right, all-getD, all-tabulate}
 use Rattle.algebra.proofs.Tables.{length-tabulate, getD-tabulate}
 use Rattle.rules.specs.Settings.{Setting}
@@ -25,8 +25,10 @@ use Rattle.rules.specs.Values.{twoNumbers, encoded}
 use Rattle.rules.proofs.Circuits.BitLength.{BitLength, bit-length}
 use Rattle.rules.proofs.Circuits.Limits.{InLimits}
 use Rattle.rules.proofs.Circuits.Encoding.{two-below}
+use Rattle.rules.proofs.Circuits.FieldTests.{ι-one, ι-mul, bitOf, bit-below, bit-zero, zero-bit, choice-one, number-value}
+use Rattle.rules.proofs.Circuits.FieldTests.{value-number, rest-zero, zero-rest}
 use Rattle.rules.proofs.Circuits.Digits.{total, Bits, numberOf, number-below, digit-at, number-again, oneAt, one-at-below}
-use Rattle.rules.proofs.Circuits.Digits.{flag-below, total-most, One, total-one, one-total}
+use Rattle.rules.proofs.Circuits.Digits.{total-most, One, total-one, one-total}
 
 tabulate-all : {A : Type 0} {P : A → Type 0} (f : ℕ → A) (n : ℕ) → All P (tabulate f n) → (i : ℕ) → i < n → P (f i)
 tabulate-all f n h i l =
@@ -41,10 +43,6 @@ all-first (all∷ p ps) = p
 all-second : {A : Type 0} {P : A → Type 0} {a b : A} {s : List A} → All P (a ∷ b ∷ s) → P b
 all-second (all∷ p (all∷ q ps)) = q
 
-abbrev isYes : {A : Type 0} → Dec A → Bool
-isYes (yes a) = true
-isYes (no n) = false
-
 module _ (𝓕 : Field) where
   open Ops (𝓕 .ops) using (F, _⊕_, _⊗_, neg, 𝟘, 𝟙, ι)
 
@@ -56,15 +54,6 @@ module _ (𝓕 : Field) where
     pub value-below : value < valuesOf c
     pub column-is : (i : ℕ) → i < entriesOf c → x (e + i) ≡ ι (encoded c value i)
 
-  ι-one : ι 1 ≡ 𝟙
-  ι-one = 𝓕 .law-ι-suc 0 ∙ ap (_⊕ 𝟙) (𝓕 .law-ι-zero) ∙ zero-add 𝓕 𝟙
-
-  ι-mul : (a b : ℕ) → ι (a * b) ≡ ι a ⊗ ι b
-  ι-mul a zero = ap ι (n-mul-zero a) ∙ 𝓕 .law-ι-zero ∙ sym (mul-zero 𝓕 (ι a)) ∙ ap (ι a ⊗_) (sym (𝓕 .law-ι-zero))
-  ι-mul a (suc b) =
-      ap ι (n-mul-suc a b) ∙ ι-add 𝓕 (a * b) a ∙ ap₂ _⊕_ (ι-mul a b) (sym (mul-one 𝓕 (ι a)))
-      ∙ sym (mul-add 𝓕 (ι a) (ι b) 𝟙) ∙ ap (ι a ⊗_) (sym (𝓕 .law-ι-suc b))
-
   -- p - 1 is - 1, and numbers below 2^25 differ
   module _
       (σ : Setting) (large : 33554432 < σ .modulus) (minus-one : ι (σ .modulus - 1) ≡ neg 𝟙)
@@ -72,60 +61,6 @@ module _ (𝓕 : Field) where
     where
       abbrev m : ℕ
       m = σ .modulus - 1
-
-      -- ---- one bit check
-      bitOf : F → ℕ
-      bitOf a = cond (isYes (𝓕 .dec a 𝟙)) 1 0
-
-      bit-below : (a : F) → bitOf a < 2
-      unfolding bitOf
-      bit-below a = flag-below (isYes (𝓕 .dec a 𝟙))
-
-      bit-zero : (a : F) → a ⊗ (a ⊕ ι m) ≡ 𝟘 → a ≡ ι (bitOf a)
-      unfolding bitOf
-      bit-zero a e = go (𝓕 .dec a 𝟙) (𝓕 .no-zero-div a (a ⊕ ι m) e)
-        where
-          go : (d : Dec (a ≡ 𝟙)) → (a ≡ 𝟘) ⊎ (a ⊕ ι m ≡ 𝟘) → a ≡ ι (cond (isYes d) 1 0)
-          go (yes q) z = q ∙ sym ι-one
-          go (no q) (inl z) = z ∙ sym (𝓕 .law-ι-zero)
-          go (no q) (inr z) = absurd (q (sub-zero 𝓕 (ap (a ⊕_) (sym minus-one) ∙ z)))
-
-      zero-bit : (a : F) (d : ℕ) → d < 2 → a ≡ ι d → a ⊗ (a ⊕ ι m) ≡ 𝟘
-      zero-bit a zero l e = ap (_⊗ (a ⊕ ι m)) (e ∙ 𝓕 .law-ι-zero) ∙ zero-mul 𝓕 _
-      zero-bit a (suc zero) l e = ap (a ⊗_) (ap₂ _⊕_ (e ∙ ι-one) minus-one ∙ add-neg 𝓕 𝟙) ∙ mul-zero 𝓕 a
-      zero-bit a (suc (suc d)) l e = absurd (omega arith)
-
-      -- ---- the last test of a choice and of a number
-      id-choice : (b : F) → neg 𝟙 ⊕ b ≡ b ⊕ neg 𝟙
-      id-choice b = simp ring
-
-      choice-one : (k : ℕ) → k ≤ 64 → ι m ⊕ ι k ≡ 𝟘 → k ≡ 1
-      choice-one k h e =
-          small k 1 (omega arith) (omega arith) (sub-zero 𝓕 (sym (id-choice (ι k)) ∙ ap (_⊕ ι k) (sym minus-one) ∙ e) ∙ sym ι-one)
-
-      id-number : (v k : F) → v ⊗ neg 𝟙 ⊕ k ≡ k ⊕ neg v
-      id-number v k = simp ring
-
-      number-value : (v k : F) → v ⊗ ι m ⊕ k ≡ 𝟘 → v ≡ k
-      number-value v k e = sym (sub-zero 𝓕 (sym (id-number v k) ∙ ap (λ t. v ⊗ t ⊕ k) (sym minus-one) ∙ e))
-
-      value-number : (v : F) → v ⊗ ι m ⊕ v ≡ 𝟘
-      value-number v = ap (λ t. v ⊗ t ⊕ v) minus-one ∙ id-number v v ∙ add-neg 𝓕 v
-
-      -- ---- the second sum of a top
-      modulus-zero : ι (σ .modulus) ≡ 𝟘
-      modulus-zero =
-          let next : σ .modulus ≡ suc m = omega arith in
-          ap ι next ∙ 𝓕 .law-ι-suc m ∙ ap (_⊕ 𝟙) minus-one ∙ neg-add 𝓕 𝟙
-
-      rest-zero : (n k : ℕ) → n ≤ 33554432 → k ≡ n → ι (σ .modulus - n) ⊕ ι k ≡ 𝟘
-      rest-zero n k h e =
-          let whole : σ .modulus - n + k ≡ σ .modulus = omega arith in
-          sym (ι-add 𝓕 (σ .modulus - n) k) ∙ ap ι whole ∙ modulus-zero
-
-      zero-rest : (n k : ℕ) → n < 33554432 → k < 33554432 → ι (σ .modulus - n) ⊕ ι k ≡ 𝟘 → k ≡ n
-      zero-rest n k h l e =
-          small k n l h (add-cancel 𝓕 {a = ι (σ .modulus - n)} (e ∙ sym (rest-zero n n (omega arith) refl)))
 
       module _ (x : ℕ → F) where
         abbrev μ : Meaning F
@@ -144,15 +79,15 @@ module _ (𝓕 : Field) where
 
         -- the bits of the entries from e
         bits : ℕ → ℕ → ℕ
-        bits e i = bitOf (x (e + i))
+        bits e i = bitOf 𝓕 (x (e + i))
 
         bits-below : (e n : ℕ) → Bits (bits e) n
         unfolding bits
-        bits-below e n i l = bit-below (x (e + i))
+        bits-below e n i l = bit-below 𝓕 (x (e + i))
 
         bits-are : (e t n : ℕ) → Zeros (bitTests σ μ e t n) → (i : ℕ) → i < n → x (e + i) ≡ ι (bits e i)
         unfolding bitTests bitOut lessOne bits
-        bits-are e t n z i l = bit-zero (x (e + i)) (tabulate-all (λ i. bitOut σ μ (e + i) (t + i)) n z i l)
+        bits-are e t n z i l = bit-zero 𝓕 σ large minus-one small (x (e + i)) (tabulate-all (λ i. bitOut σ μ (e + i) (t + i)) n z i l)
 
         second-bits : (e b : ℕ) → ((i : ℕ) → i < 2 * b → x (e + i) ≡ ι (bits e i))
             → (i : ℕ) → i < b → x (e + b + i) ≡ ι (bits (e + b) i)
@@ -164,7 +99,7 @@ module _ (𝓕 : Field) where
         bits-zero : (e t n : ℕ) (d : ℕ → ℕ) → Bits d n → ((i : ℕ) → i < n → x (e + i) ≡ ι (d i)) → Zeros (bitTests σ μ e t n)
         unfolding bitTests bitOut lessOne
         bits-zero e t n d h at =
-            all-tabulate (λ i. bitOut σ μ (e + i) (t + i)) n (λ i l. zero-bit (x (e + i)) (d i) (h i l) (at i l))
+            all-tabulate (λ i. bitOut σ μ (e + i) (t + i)) n (λ i l. zero-bit 𝓕 σ large minus-one small (x (e + i)) (d i) (h i l) (at i l))
 
         -- ---- the n entries from e are the digits of v
         record Digits (v e n : ℕ) : Type 0 where
@@ -184,18 +119,18 @@ module _ (𝓕 : Field) where
         unfolding weighted
         digits-sum a v e n r =
             sum-is a (λ i. x (e + i) ⊗ ι (2 ^ i)) (λ i. v / 2 ^ i % 2 * 2 ^ i) n
-            (λ i l. ap (_⊗ ι (2 ^ i)) (r .digit-is i l) ∙ sym (ι-mul (v / 2 ^ i % 2) (2 ^ i)))
+            (λ i l. ap (_⊗ ι (2 ^ i)) (r .digit-is i l) ∙ sym (ι-mul 𝓕 (v / 2 ^ i % 2) (2 ^ i)))
             ∙ ap (λ k. a ⊕ ι k) (number-again n v (r .digits-below))
 
         -- ---- the test of a number: entry a is the number with these digits
         number-is : (v a e n : ℕ) → Digits v e n → numberTest σ μ a e n ≡ 𝟘 → x a ≡ ι v
         unfolding numberTest
-        number-is v a e n r z = number-value (x a) (ι v) (sym (digits-sum (x a ⊗ ι m) v e n r) ∙ z)
+        number-is v a e n r z = number-value 𝓕 σ large minus-one small (x a) (ι v) (sym (digits-sum (x a ⊗ ι m) v e n r) ∙ z)
 
         is-number : (v a e n : ℕ) → Digits v e n → x a ≡ ι v → numberTest σ μ a e n ≡ 𝟘
         unfolding numberTest
         is-number v a e n r q =
-            digits-sum (x a ⊗ ι m) v e n r ∙ ap (x a ⊗ ι m ⊕_) (sym q) ∙ value-number (x a)
+            digits-sum (x a ⊗ ι m) v e n r ∙ ap (x a ⊗ ι m ⊕_) (sym q) ∙ value-number 𝓕 σ large minus-one small (x a)
 
         -- the second test of a top: entry a and the number with these digits add up to n
         rest-sum : (n v a r e b : ℕ) → Digits r e b → x a ≡ ι v
@@ -257,7 +192,7 @@ module _ (𝓕 : Field) where
             one : One (bits e) n
             one =
                 let most : total (bits e) n ≤ n = total-most (bits e) n (bits-below e n) in
-                total-one (bits e) n (bits-below e n) (choice-one (total (bits e) n) (omega (arith, w .1)) last)
+                total-one (bits e) n (bits-below e n) (choice-one 𝓕 σ large minus-one small (total (bits e) n) (omega (arith, w .1)) last)
         column-encoded (number n) w e t z = record {
           value = numberOf (bits (suc e)) n;
           value-below = d .digits-below;
@@ -305,7 +240,7 @@ module _ (𝓕 : Field) where
             adds : v + r ≡ n
             adds =
                 let most : 2 ^ b ≤ 2 ^ 24 = pow-le-pow-right (omega arith) (k .bits-most) in
-                zero-rest n (v + r) (omega (arith, w .1)) (omega (arith, d .digits-below, d' .digits-below))
+                zero-rest 𝓕 σ large minus-one small n (v + r) (omega (arith, w .1)) (omega (arith, d .digits-below, d' .digits-below))
                 (sym (rest-sum n v e r (suc e + b) b d' v-is) ∙ all-second sums)
 
             at-entry : (i : ℕ) → i < suc (2 * b) → x (e + i) ≡ ι (encoded (top n) v i)
@@ -326,7 +261,7 @@ module _ (𝓕 : Field) where
             last : sumFrom σ μ (ι m) (λ i. x (e + i)) n ≡ 𝟘
             last =
                 sum-is (ι m) (λ i. x (e + i)) (oneAt (r .value)) n (r .column-is)
-                ∙ ap₂ _⊕_ minus-one (ap ι (one-total (r .value) n (r .value-below)) ∙ ι-one) ∙ neg-add 𝓕 𝟙
+                ∙ ap₂ _⊕_ minus-one (ap ι (one-total (r .value) n (r .value-below)) ∙ ι-one 𝓕) ∙ neg-add 𝓕 𝟙
         encoded-column (number n) w e t r =
             all-append (digits-zero (r .value) (suc e) t n d) (all∷ (is-number (r .value) e (suc e) n d first) all[])
           where
@@ -366,4 +301,4 @@ module _ (𝓕 : Field) where
             last : restTest σ μ n e (suc e + b) b ≡ 𝟘
             last =
                 rest-sum n v e (n - v) (suc e + b) b (both .1) first
-                ∙ rest-zero n (v + (n - v)) (omega (arith, w .1)) (omega (arith, r .value-below))
+                ∙ rest-zero 𝓕 σ large minus-one small n (v + (n - v)) (omega (arith, w .1)) (omega (arith, r .value-below))

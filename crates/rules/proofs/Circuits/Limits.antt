@@ -16,8 +16,8 @@ use Rattle.records.specs.Outcome.{Outcome, ok, refused}
 use Rattle.records.specs.Records.{readFrom, Says, nothing, more}
 use Rattle.records.proofs.Runs.{says-of-read}
 use Rattle.rules.specs.Columns.{Column, yesNo, choice, number, top, within, limitedColumn, columnBody, columnOf}
-use Rattle.rules.specs.Columns.{columnFormat, entriesOf, publishedOf, entriesIn, publishedIn, publishedFrom, sheetLimits, limitedSheet}
-use Rattle.rules.specs.Columns.{readSheet}
+use Rattle.rules.specs.Columns.{columnFormat, entriesOf, publishedOf, entriesIn, publishedIn, publishedFrom, sheetLimits}
+use Rattle.rules.specs.Columns.{limitedSheet, readSheet}
 use Rattle.rules.specs.Circuit.{wiresOf, gatesOf, testsOf, wiresIn, gatesIn, testsIn}
 use Rattle.rules.specs.Judging.{shareSize}
 use Rattle.rules.proofs.Circuits.BitLength.{bit-length}

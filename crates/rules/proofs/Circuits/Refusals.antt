@@ -9,7 +9,7 @@ use Prim.Native.Nat.{ℕ, zero, suc, _≤_}
 use native.Mathlib.Omega.{arith}
 use borrow.Author.Tests.{eqb-false}
 use lib.Dec.{leb, ltb, eqb}
-use lib.ListN.{length, getD, take}
+use lib.ListN.{length, take}
 use Rattle.algebra.specs.Lists.{sumOver}
 use Rattle.records.specs.Outcome.{Outcome, ok, refused, orElse}
 use Rattle.records.proofs.Outcome.{or-none, or-first}

@@ -13,8 +13,8 @@ use Rattle.records.specs.Outcome.{ok}
 use Rattle.rules.specs.Settings.{Setting, Facts}
 use Rattle.rules.specs.Columns.{Column, yesNo, choice, number, top, bitLength, entriesOf, entriesIn, readSheet}
 use Rattle.rules.specs.Circuit.{Step, constant, entry, add, scale, multiply, test, stepBytes, circuitBytes, bitCheck}
-use Rattle.rules.specs.Circuit.{bitChecks, optionAdds, bitAdds, bitSum, topSums, topSteps, columnSteps, wiresOf, circuitFrom, circuitOf}
-use Rattle.rules.specs.Circuit.{constantsOf, addsOf, scalesOf, gatesOf, testsOf, constantsIn, addsIn, scalesIn, gatesIn, testsIn}
+use Rattle.rules.specs.Circuit.{bitChecks, optionAdds, bitAdds, bitSum, topSums, topSteps, columnSteps, wiresOf, circuitFrom}
+use Rattle.rules.specs.Circuit.{circuitOf, constantsOf, addsOf, scalesOf, gatesOf, testsOf, constantsIn, addsIn, scalesIn, gatesIn, testsIn}
 use Rattle.rules.specs.Sizes.{weighed, columnSize, circuitSize}
 use Rattle.rules.proofs.Circuits.BitLength.{BitLength, bit-length}
 use Rattle.rules.proofs.Circuits.Limits.{InLimits, limits, numbersIn}

@@ -7,7 +7,8 @@ use Rattle.algebra.specs.Lists.{tabulate, every, countFrom, sumOver}
 use Rattle.words.specs.Bytes.{valueOf, bytesOf, bytesOfAll, splice, elementsOf, allBelow, sameBytes}
 use Rattle.records.specs.Outcome.{orElse}
 use Rattle.records.specs.Records.{readFrom}
-use Rattle.rules.specs.Columns.{lengthWithin, bitLength, limitedColumn, columnBody, columnOf, entriesOf, publishedOf, valuesOf, largestOf, entriesIn}
+use Rattle.rules.specs.Columns.{lengthWithin, bitLength}
+use Rattle.rules.specs.Columns.{limitedColumn, columnBody, columnOf, entriesOf, publishedOf, valuesOf, largestOf, entriesIn}
 use Rattle.rules.specs.Columns.{publishedIn, publishedFrom, sheetLimits, limitedSheet, readSheet, faultIn, listIn}
 use Rattle.rules.specs.Columns.{totalsFit}
 use Rattle.rules.specs.Circuit.{stepBytes, circuitBytes, bitCheck, bitChecks, optionSum, optionAdds, bitAdds, bitSum}
@@ -125,8 +126,9 @@ unfolding ledgerAnswers tableRefusal tableAfter tableAnswer runTable tableAnswer
 part18 = tt
 
 unfoldable pub part19 : Unit {0}
-unfolding closingsFrom firstsFrom secondsFrom largestIn constantsOf addsOf scalesOf constantsIn addsIn scalesIn greatestUpTo
-    sizesOf weighed columnSize circuitSize lengthWithin bitLength bitSum topSums topSteps twoNumbers firstBytes shelved shelfRefusal
+unfolding closingsFrom firstsFrom secondsFrom largestIn constantsOf addsOf scalesOf constantsIn addsIn scalesIn greatestUpTo sizesOf weighed
+    columnSize circuitSize lengthWithin bitLength bitSum topSums topSteps twoNumbers
+    firstBytes shelved shelfRefusal
 part19 = tt
 
 unfoldable pub part20 : Unit {0}

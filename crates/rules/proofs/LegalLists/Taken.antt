@@ -26,8 +26,8 @@ values-most : (c : Column) → InLimits c → valuesOf c ≤ 16777216
 unfolding valuesOf
 values-most yesNo h = omega arith
 values-most (choice n) h = omega (arith, h .1)
-values-most (number n) h = let most : 2 ^ n ≤ 2 ^ 24 = pow-le-pow-right (omega arith) (h .1) in omega arith
 values-most (top n) h = omega (arith, h .1)
+values-most (number n) h = let most : 2 ^ n ≤ 2 ^ 24 = pow-le-pow-right (omega arith) (h .1) in omega arith
 
 values-low : (cs : List Column) → All InLimits cs → (vs : List ℕ) → legalValues cs vs ≡ true → All (λ x. x < 256 ^ 4) vs
 unfolding legalValues

@@ -29,7 +29,9 @@ add-t8 : tie.Need-add-t8
 add-t8 c = omega (arith, c .before .before .before .before .before .before .before .before .before .before .before .before .pre)
 
 add-t9 : tie.Need-add-t9
-add-t9 c = omega (arith, c .before .before .before .before .before .before .before .before .before .before .before .before .before .before .pre)
+add-t9 c =
+    let i = c .before .before .before .before .before .before .before in
+    omega (arith, i .before .before .before .before .before .before .before .pre)
 
 larger-requires : tie.Need-larger-requires
 larger-requires c κs = search needs

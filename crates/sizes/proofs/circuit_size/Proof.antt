@@ -1,4 +1,5 @@
--- `sizes::circuit_size` meets its contract: the table of body lengths keeps its rule. Assumes nothing.
+-- `sizes::circuit_size` meets its contract: the table of body lengths keeps its rule, and a circuit has one constant more
+-- than its columns. Assumes nothing.
 use mathlib.Core.Path.{refl}
 use Rattle.algebra.specs.Lists.{every, countFrom}
 use Rattle.circuit.proofs.BodyTable.{tested}

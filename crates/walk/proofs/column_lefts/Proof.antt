@@ -1,12 +1,11 @@
 -- `walk::column_lefts` meets its contract: by the kinds of columns, the entries from the first bit on. Assumes nothing.
 use borrow.Author.Needs.{needs}
-use mathlib.Core.Path.{_≡_, refl, sym, ap, ap₂, _∙_}
+use mathlib.Core.Path.{_≡_, sym, ap, ap₂, _∙_}
 use mathlib.Core.List.{List}
 use Prim.Native.Nat.{ℕ, _+_}
 use native.Mathlib.Nat.{add-zero}
 use native.Mathlib.Numerals.{add-one}
 use native.Mathlib.Omega.{arith}
-use lib.ListN.{length}
 use Rattle.algebra.specs.Lists.{tabulate}
 use Rattle.rules.specs.Settings.{document01}
 use Rattle.rules.specs.Columns.{entriesOf}

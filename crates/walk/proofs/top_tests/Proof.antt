@@ -1,14 +1,13 @@
 -- `walk::top_tests` meets its contract: the outputs, and then the tests of both sums. Assumes nothing.
 use borrow.Author.Needs.{needs}
 use mathlib.Core.Path.{_≡_, ap₂, _∙_}
-use mathlib.Core.List.{List, [], _∷_, _++_}
-use Prim.Native.Nat.{ℕ, suc, _+_, _-_, _*_, _^_, _≤_, _<_}
+use mathlib.Core.List.{[], _∷_, _++_}
+use Prim.Native.Nat.{ℕ, suc, _+_, _-_, _*_, _≤_, _<_}
 use native.Mathlib.Nat.{mod-lt}
 use native.Mathlib.Omega.{arith}
 use lib.Dec.{lit<}
 use lib.ListN.{length}
 use Rattle.algebra.specs.Lists.{tabulate}
-use Rattle.field.specs.Residues.{prime, residues}
 use Rattle.field.proofs.Below.{member-below}
 use Rattle.rules.specs.Columns.{entriesOf}
 use Rattle.rules.specs.Circuit.{gatesOf, testsOf}

@@ -10,7 +10,7 @@ use lib.ListN.{length, take, drop, length-drop}
 use lib.Seq.{length-take-le}
 use Rattle.algebra.specs.Lists.{tabulate}
 use Rattle.algebra.specs.Interpolation.{weight}
-use Rattle.field.specs.Residues.{prime, residues, Elements}
+use Rattle.field.specs.Residues.{residues, Elements}
 use Rattle.field.proofs.Below.{member-below}
 use Rattle.words.proofs.Below.{all-take, all-drop}
 use Rattle.rules.specs.Columns.{columnsOf}
@@ -120,7 +120,12 @@ tau-of-requires c κs =
     let s = c .before .before .before .before .before .before .before .before .before in
     let m = room (s .pre .0) in (
       (m .entries, m .outputs),
-      (m .tests-are, m .tests-few, rw (c .before .before .before .before .first-only .ensures) (first-below (s .args .own)), s .pre .0 .s-below),
+      (
+        m .tests-are,
+        m .tests-few,
+        rw (c .before .before .before .before .first-only .ensures) (first-below (s .args .own)),
+        s .pre .0 .s-below,
+      ),
     )
 
 mul-sub : tie.Need-mul-sub

@@ -66,7 +66,7 @@ extern "C" {
 /* Refusals. */
 #define POOL_DONE 0
 #define POOL_KIND 1     /* sheet or circuit: unknown kind byte, or the body is cut off */
-#define POOL_LIMIT 2    /* a count, top, constant, number of servers, server number or N outside its limits */
+#define POOL_LIMIT 2    /* a count, top, constant, number of servers, server number, N, or R or W of stored messages outside its limits */
 #define POOL_WIRE 3     /* circuit: a wire not yet made, or an entry that does not exist */
 #define POOL_WRAP 4     /* N returns could make a total of p or more */
 #define POOL_VALUE 5    /* not one value for each column, or a value outside its column */

@@ -18,7 +18,7 @@ static inline const char *host_words(uint32_t refusal)
     static const char *const words[] = {
         "done",
         "sheet or circuit: an unknown kind, or its body is cut off",
-        "a count, top, constant, number of servers, server number or N outside its limits",
+        "a count, top, constant, number of servers, server number, N, or R or W of stored messages outside its limits",
         "circuit: a wire not yet made, or an entry that does not exist",
         "so many returns could make a total of p or more",
         "not one value for each column, or a value outside its column",

@@ -15,7 +15,7 @@ type Refusal uint32
 // The refusals, with their numbers.
 const (
 	Kind    Refusal = 1  // sheet or circuit: unknown kind, or its body is cut off
-	Limit   Refusal = 2  // a count, top, constant, number of servers, server number or N outside its limits
+	Limit   Refusal = 2  // a count, top, constant, number of servers, server number, N, or number or length of stored messages outside its limits
 	Wire    Refusal = 3  // circuit: a wire not yet made, or an entry that does not exist
 	Wrap    Refusal = 4  // N returns could make a total of p or more
 	Value   Refusal = 5  // not one value for each column, or a value outside its column
@@ -34,7 +34,7 @@ const (
 
 var words = [...]string{
 	Kind:    "sheet or circuit: an unknown kind, or its body is cut off",
-	Limit:   "a count, top, constant, number of servers, server number or N outside its limits",
+	Limit:   "a count, top, constant, number of servers, server number, N, or number or length of stored messages outside its limits",
 	Wire:    "circuit: a wire not yet made, or an entry that does not exist",
 	Wrap:    "so many returns could make a total of p or more",
 	Value:   "not one value for each column, or a value outside its column",

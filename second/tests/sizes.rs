@@ -54,8 +54,8 @@ fn by_hand() {
     let choices = [128, 256, 256, 1025, 256, 384, 5765, 3102, 1024];
     assert_eq!(row(&[18, 2].repeat(128)), choices);
     let numbers = [[19, 24].repeat(10), vec![19, 5]].concat();
-    let most = [11, 256, 11, 1248, 245, 256, 7008, 3014, 128];
-    assert_eq!(row(&numbers), most);
+    let without_tops = [11, 256, 11, 1248, 245, 256, 7008, 3014, 128];
+    assert_eq!(row(&numbers), without_tops);
     let most = [6, 256, 6, 1275, 250, 262, 7161, 3054, 255];
     assert_eq!(row(&largest_sheet()), most);
     let most = [86, 256, 86, 1194, 171, 341, 6991, 2422, 1024];

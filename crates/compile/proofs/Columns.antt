@@ -16,7 +16,7 @@ use Rattle.rules.specs.Circuit.{Step, constant, entry, add, scale, test, stepBy
 use Rattle.rules.specs.Circuit.{bitAdds, bitSum, topSums, topSteps, columnSteps, wiresOf, circuitFrom, circuitOf, wiresIn}
 use Rattle.rules.specs.Circuit.{constantsOf, addsOf, scalesOf, gatesOf, testsOf}
 use Rattle.rules.specs.CircuitReader.{sheetCircuit}
-use Rattle.rules.specs.Sizes.{weighed, columnSize}
+use Rattle.rules.specs.Sizes.{sizeByKind, columnSize}
 use Rattle.rules.proofs.Circuits.Size.{column-size}
 use Rattle.columns.proofs.Sums.{Total}
 use Rattle.compile.specs.Writing.{restSteps}
@@ -58,19 +58,19 @@ top-is n e w b q r long first second =
 
 -- how many bytes a column's steps have, by the table of body lengths
 pub choice-size : (n : ℕ) → columnSize document01 (choice n) ≡ 21 * n + 3
-unfolding columnSize weighed entriesOf constantsOf addsOf scalesOf gatesOf testsOf
+unfolding columnSize sizeByKind entriesOf constantsOf addsOf scalesOf gatesOf testsOf
 choice-size n = omega arith
 
 pub number-size : (n : ℕ) → columnSize document01 (number n) ≡ 28 * n + 13
-unfolding columnSize weighed entriesOf constantsOf addsOf scalesOf gatesOf testsOf
+unfolding columnSize sizeByKind entriesOf constantsOf addsOf scalesOf gatesOf testsOf
 number-size n = omega arith
 
 pub top-size : (n b : ℕ) → b ≡ bitLength n → columnSize document01 (top n) ≡ 56 * b + 26
-unfolding columnSize weighed entriesOf constantsOf addsOf scalesOf gatesOf testsOf
+unfolding columnSize sizeByKind entriesOf constantsOf addsOf scalesOf gatesOf testsOf
 top-size n b e = omega arith
 
 pub yes-no-size : columnSize document01 yesNo ≡ 16
-unfolding columnSize weighed entriesOf constantsOf addsOf scalesOf gatesOf testsOf
+unfolding columnSize sizeByKind entriesOf constantsOf addsOf scalesOf gatesOf testsOf
 yes-no-size = refl
 
 -- ---- sums over columns

@@ -69,7 +69,8 @@ module _ {s : List ℕ} {c : Cursor} (h : Stands s c) (r : Step) (e : r ≡ step
 
   pub wrote-next : {out now next : List ℕ} {from wire at end moved : ℕ} → Wrote s out from (c .index) wire now at
       → moved ≡ wiresOf (fromCode (r .column))
-      → Put now at (columnSize document01 (fromCode (r .column))) (bytes (columnSteps document01 (c .entry) wire (fromCode (r .column)))) next end
+      → Put now at (columnSize document01 (fromCode (r .column)))
+      (bytes (columnSteps document01 (c .entry) wire (fromCode (r .column)))) next end
       → Wrote s out from (r .next .index) (wire + moved) next end
   wrote-next {moved = moved} w y p =
       let n : moved ≡ wiresOf (getD cs (c .index) yesNo) = y ∙ ap wiresOf (column-seen h r e) in

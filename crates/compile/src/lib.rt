@@ -173,7 +173,8 @@ fn put_top(out: &mut [u8], at: usize, n: u32, b: u32, e: u32, w: u32) -> usize
 
 // The steps of a column, whose first entry is `e`.
 fn put_column(out: &mut [u8], at: usize, column: Column, e: u32, w: u32) -> usize
-    requires { ⌜ (at + columnSize document01 (fromCode column) ≤ length (now out)) × InLimits (fromCode column) × (e < 16384) × (w < 16384) ⌝ }
+    requires { ⌜ (at + columnSize document01 (fromCode column) ≤ length (now out)) × InLimits (fromCode column)
+        × (e < 16384) × (w < 16384) ⌝ }
     ensures { λ r. ⌜ Put (now (out .entry)) at (columnSize document01 (fromCode column))
         (circuitBytes document01 (columnSteps document01 e w (fromCode column))) (now (out .exit)) r ⌝ }
 {

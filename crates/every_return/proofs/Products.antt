@@ -1,28 +1,26 @@
 -- How many lists there are, column by column: a column more in front or behind multiplies, and no column has no value, so the
--- first columns never have more lists than all. Assumes that columns are within their limits, where it is said.
+-- first columns never have more lists than all. Assumes nothing.
 use mathlib.Core.Path.{_≡_, refl, ap, _∙_}
 use mathlib.Core.List.{List, [], _∷_}
-use Prim.Native.Nat.{ℕ, zero, suc, _*_, _^_, _≤_, _<_}
+use Prim.Native.Nat.{ℕ, zero, suc, _*_, _≤_, _<_}
 use native.Mathlib.Decide.{decLe}
 use native.Mathlib.Nat.{mul-pos, le-mul-of-pos-right}
 use native.Mathlib.Omega.{arith}
 use borrow.Author.Tests.{le-leb, lt-leb}
 use lib.ListN.{length, getD, take, drop}
+use lib.Pow.{pow-pos}
 use Rattle.algebra.specs.Lists.{All, all[], all∷}
+use Rattle.words.proofs.Below.{all-drop}
 use Rattle.rules.specs.Columns.{Column, yesNo, choice, number, top, valuesOf}
 use Rattle.rules.specs.EveryReturn.{listsIn, mostLists}
 use Rattle.rules.proofs.Circuits.Limits.{InLimits}
 use Rattle.every_return.specs.Listing.{countedUp}
 
-power-pos : (n : ℕ) → 0 < 2 ^ n
-power-pos zero = omega arith
-power-pos (suc n) = omega (arith, power-pos n)
-
 pub values-pos : (c : Column) → InLimits c → 0 < valuesOf c
 unfolding valuesOf
 values-pos yesNo h = omega arith
 values-pos (choice n) h = omega (arith, h .0)
-values-pos (number n) h = power-pos n
+values-pos (number n) h = pow-pos n
 values-pos (top n) h = omega arith
 
 lists-pos : (cs : List Column) → All InLimits cs → 0 < listsIn cs
@@ -52,13 +50,8 @@ lists-split cs zero = omega arith
 lists-split [] (suc k) = omega arith
 lists-split (c ∷ cs) (suc k) = omega (arith, ap (λ (t : ℕ). valuesOf c * t) (lists-split cs k))
 
-drop-all : {P : Column → Type 0} (k : ℕ) {cs : List Column} → All P cs → All P (drop k cs)
-drop-all zero h = h
-drop-all (suc k) all[] = all[]
-drop-all (suc k) (all∷ h hs) = drop-all k hs
-
 pub from-pos : (cs : List Column) (k : ℕ) → All InLimits cs → 0 < listsIn (drop k cs)
-from-pos cs k h = lists-pos (drop k cs) (drop-all k h)
+from-pos cs k h = lists-pos (drop k cs) (all-drop InLimits k h)
 
 -- the first columns have no more lists than all
 pub lists-most : (cs : List Column) (k : ℕ) → All InLimits cs → listsIn (take k cs) ≤ listsIn cs

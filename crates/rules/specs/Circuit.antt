@@ -1,4 +1,5 @@
--- Document 01, "Sheet and circuit": steps, their bytes, and the circuit of a sheet.
+-- Document 01, "Sheet and circuit", and document 02, "A column with a top of its own": steps, their bytes, and the circuit of
+-- a sheet.
 -- Assumes nothing.
 use mathlib.Core.List.{List, [], _∷_, _++_}
 use Prim.Native.Nat.{ℕ, zero, suc, _+_, _-_, _*_, _^_}

@@ -1,4 +1,5 @@
--- Document 01, "Sheet and circuit": columns, and the reading of a sheet. Each kind of column is one case of each function.
+-- Document 01, "Sheet and circuit", and document 02, "A column with a top of its own": columns, and the reading of a sheet.
+-- Each kind of column is one case of each function.
 -- Assumes nothing.
 use mathlib.Core.Bool.{Bool, cond, _&&_, not}
 use mathlib.Core.List.{List, [], _∷_, _++_, map}
@@ -41,6 +42,13 @@ columnBody k =
     (cond (eqb k 18) (some 1)
     (cond (eqb k 19) (some 1)
     (cond (eqb k 20) (some 4) none)))
+
+-- the bytes of a column, its kind byte too
+unfoldable pub recordSize : Column → ℕ
+recordSize yesNo = 1
+recordSize (choice n) = 2
+recordSize (number n) = 2
+recordSize (top n) = 5
 
 unfoldable pub columnOf : ℕ → List ℕ → Outcome Column
 columnOf k body =

@@ -1,7 +1,8 @@
 -- Document 01 as definitions, in the order of the paper: settings, columns, circuit, run, values, a return, judging,
--- messages, one server, its table, joining, recount; room told from the sheet, messages stored by place; the ledger of whole
--- runs, and what is promised of whole runs and of returns that making wrote; the examples. (Making names the size of a share
--- from Judging.) Behind the values stands every legal return of a small sheet.
+-- messages, one server, its table, joining, recount; the ledger of whole runs, and what is promised of whole runs and of returns
+-- that making wrote; the examples. (Making names the size of a share from Judging.) Of document 02: columns with a top stand
+-- among the others; behind the values every legal return of a small sheet; behind recount room told from the sheet, and
+-- messages stored by place.
 pub mod Settings
 pub mod Columns
 pub mod Circuit
@@ -24,5 +25,6 @@ pub mod Runs
 pub mod WholeRun
 pub mod Made
 pub mod Examples
+pub mod CallExamples
 pub mod TopExamples
 pub mod TableExamples

@@ -29,7 +29,8 @@ refusedText = 114 ∷ 101 ∷ 102 ∷ 117 ∷ 115 ∷ 101 ∷ 100 ∷ 32 ∷ []
 unfoldable pub refusalText : ℕ → List ℕ
 refusalText n = refusedText ++ decimal n ++ (10 ∷ [])
 
--- "After the first line each holds column (from 1), option (from 0; always 0 for kinds 17 and 19), total."
+-- "After the first line each holds column (from 1), option (from 0; always 0 for kinds 17 and 19), total." Of kind 20
+-- "recount prints it as option 0"
 unfoldable pub lineText : ℕ → ℕ → ℕ → List ℕ
 lineText column option total = decimal column ++ (32 ∷ []) ++ decimal option ++ (32 ∷ []) ++ decimal total ++ (10 ∷ [])
 

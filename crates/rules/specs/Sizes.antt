@@ -53,10 +53,10 @@ sizesOf σ sheet =
     }
 
 -- "found without building it": how many steps of kinds 1 to 6 there are, each times one more than its kind's body length
-unfoldable pub weighed : List ℕ → List ℕ → ℕ
-weighed [] ns = 0
-weighed (l ∷ ls) [] = 0
-weighed (l ∷ ls) (n ∷ ns) = n * suc l + weighed ls ns
+unfoldable pub sizeByKind : List ℕ → List ℕ → ℕ
+sizeByKind [] ns = 0
+sizeByKind (l ∷ ls) [] = 0
+sizeByKind (l ∷ ls) (n ∷ ns) = n * suc l + sizeByKind ls ns
 
 -- the steps of one column, and those of a sheet's circuit, which starts with a constant
 abbrev pub columnKinds : Column → List ℕ
@@ -66,10 +66,10 @@ abbrev pub circuitKinds : List Column → List ℕ
 circuitKinds cs = suc (constantsIn cs) ∷ entriesIn cs ∷ addsIn cs ∷ scalesIn cs ∷ gatesIn cs ∷ testsIn cs ∷ []
 
 unfoldable pub columnSize : Setting → Column → ℕ
-columnSize σ c = weighed (bodyLengths σ) (columnKinds c)
+columnSize σ c = sizeByKind (bodyLengths σ) (columnKinds c)
 
 unfoldable pub circuitSize : Setting → List Column → ℕ
-circuitSize σ cs = weighed (bodyLengths σ) (circuitKinds cs)
+circuitSize σ cs = sizeByKind (bodyLengths σ) (circuitKinds cs)
 
 -- What is promised of a sheet that is read
 pub record ToldFromSheet (σ : Setting) (sheet : List ℕ) : Type 0 where

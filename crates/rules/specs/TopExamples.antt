@@ -16,7 +16,8 @@ use Rattle.rules.specs.Run.{run, onList}
 use Rattle.rules.specs.Values.{encoding}
 use Rattle.rules.specs.Making.{makeRefusal}
 use Rattle.rules.specs.Recount.{recountText}
-use Rattle.rules.specs.Examples.{Row, row, P, σ, same, wide, toOpen, weight}
+use Rattle.rules.specs.Examples.{Row, row, P, σ, same, wide, toOpen}
+use Rattle.rules.specs.CallExamples.{sizesRow}
 
 -- "Column kind 20: a 4-byte top T"; "Hours stop at 200"
 abbrev topped : ℕ → List ℕ
@@ -30,7 +31,7 @@ abbrev longest : ℕ → List ℕ
 longest zero = 17 ∷ []
 longest (suc n) = topped 1 ++ longest n
 
--- the circuit of 20 1, by the request's words: entry v; the two bit checks; v times p - 1, the first bit times 1, their sum,
+-- the circuit of 20 1, by document 02's words: entry v; the two bit checks; v times p - 1, the first bit times 1, their sum,
 -- its test; the constant p - 1, that and v, the second bit times 1, the sum, its test
 abbrev circuitOf1 : List ℕ
 circuitOf1 =
@@ -72,7 +73,7 @@ tops =
     ∷ row "the longest sheet has 426 bytes" (eqb (length (longest 85)) 426 && eqb (sheetFault (longest 85)) 0)
     ∷ row "one entry more: 2" (eqb (sheetFault (longest 85 ++ (17 ∷ []))) 2)
     ∷ row "T = 200: 17 entries, 1 published, 85 wires, 16 multiplications, 18 tests, 479 bytes"
-    (same (weight hours) (1 ∷ 17 ∷ 1 ∷ 85 ∷ 16 ∷ 18 ∷ 479 ∷ 226 ∷ 1024 ∷ []))
+    (same (sizesRow hours) (1 ∷ 17 ∷ 1 ∷ 85 ∷ 16 ∷ 18 ∷ 479 ∷ 226 ∷ 1024 ∷ []))
     ∷ row "the circuit of T = 1, byte by byte" (same (circuitBytes σ (circuitOf σ (columnsOf (topped 1)))) circuitOf1)
     ∷ row "the circuit of T = 200 is read" (eqb (circuitFault σ 17 (circuitBytes σ (circuitOf σ (columnsOf hours)))) 0)
     ∷ row "only v is published" (same (publishedFrom 0 (columnsOf (hours ++ (17 ∷ [])))) (0 ∷ 17 ∷ []))

@@ -1,4 +1,5 @@
--- Document 01, "Sheet and circuit": the legal values of a column and their encoding.
+-- Document 01, "Sheet and circuit", and document 02, "A column with a top of its own": the legal values of a column and their
+-- encoding.
 -- Assumes nothing.
 use mathlib.Core.Path.{_≡_}
 use mathlib.Core.Bool.{Bool, true, false, cond, _&&_}

@@ -15,7 +15,8 @@ use Rattle.records.specs.Records.{read, Says, nothing, more}
 use Rattle.records.proofs.Runs.{says-of-read}
 use Rattle.rules.specs.Columns.{Column, yesNo, within, columnFormat, columnOf}
 use Rattle.rules.specs.Columns.{entriesIn, sheetLimits, limitedSheet, readSheet}
-use Rattle.rules.proofs.Circuits.Limits.{recordSize, column-sized}
+use Rattle.rules.specs.Columns.{recordSize}
+use Rattle.rules.proofs.Circuits.Limits.{column-sized}
 use Rattle.columns.specs.Kinds.{bytesOfKind}
 use Rattle.columns.proofs.ColumnBytes.{kind-size}
 use Rattle.columns.proofs.Sums.{Total, total-append, total-one}

@@ -7,7 +7,7 @@ use lib.ListN.{length, getD, take}
 use Rattle.records.specs.Outcome.{ok}
 use Rattle.rules.specs.Columns.{Column, yesNo, entriesIn, publishedIn, readSheet, columnsOf}
 use Rattle.rules.specs.Circuit.{gatesIn}
-use Rattle.rules.proofs.Circuits.Limits.{recordSize}
+use Rattle.rules.specs.Columns.{recordSize}
 use Rattle.columns.specs.Kinds.{toCode}
 use Rattle.sheet.specs.declared.cursor.Cursor.{Cursor}
 use Rattle.sheet.specs.declared.cursor.Step.{Step}

@@ -1,6 +1,6 @@
 -- The two grids, of messages stored by place and of messages brought back. A place of the run and of the buffer is a block
 -- and a byte in it, so the bytes have places of their own; where all were moved, the buffer begins with what rules say.
--- Assumes that the run has R × W bytes and that there is room for them, where it is said.
+-- Assumes nothing.
 use mathlib.Core.Path.{_≡_, refl, sym, ap, _∙_}
 use mathlib.Core.Bool.{Bool, true, false}
 use mathlib.Core.List.{List, _++_}

@@ -16,7 +16,7 @@ use Rattle.rules.specs.Columns.{Column, yesNo, choice, number, top, largestOf, 
 use Rattle.rules.specs.Columns.{mostReturns}
 use Rattle.rules.specs.Judging.{shareSize}
 use Rattle.rules.specs.Making.{shareLength}
-use Rattle.rules.specs.Sizes.{weighed, sizesOf, circuitSize}
+use Rattle.rules.specs.Sizes.{sizeByKind, sizesOf, circuitSize}
 use Rattle.rules.proofs.Circuits.Limits.{InLimits, limits}
 use Rattle.rules.proofs.Circuits.Refusals.{sheet-fault}
 use Rattle.rules.proofs.Computed.Facts.{document01-facts}
@@ -53,7 +53,7 @@ length-is h k l = simp unary-clauses at (h .rule (suc k) (omega arith) (omega ar
 pub steps-are : (c : Counts)
     → (c .constants + 1) * suc (lengthAt 0) + c .entries * suc (lengthAt 1) + addsMade c * suc (lengthAt 2)
     + scalesMade c * suc (lengthAt 3) + c .gates * suc (lengthAt 4) + c .tests * suc (lengthAt 5) ≡ stepsSize c
-unfolding stepsSize weighed
+unfolding stepsSize sizeByKind
 steps-are c = omega arith
 
 pub adds-most : (c : Counts) → Small 256 c → addsMade c ≤ 768

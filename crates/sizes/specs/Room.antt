@@ -24,7 +24,7 @@ scalesMade c = 2 * c .entries - c .published - c .gates
 -- the bytes of the steps of some columns, and of a constant in front
 unfoldable pub stepsSize : Counts → ℕ
 stepsSize c =
-    rules.weighed (bodyLengths document01)
+    rules.sizeByKind (bodyLengths document01)
     (suc (c .constants) ∷ c .entries ∷ addsMade c ∷ scalesMade c ∷ c .gates ∷ c .tests ∷ [])
 
 -- the wires that the steps of columns make: kinds 1 to 5 make one each

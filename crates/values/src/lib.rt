@@ -120,7 +120,8 @@ fn write_top(out: &mut [u32], at: usize, n: u32, v: u32)
 // The entries of one column from `at`.
 fn encode_column(column: Column, v: u32, out: &mut [u32], at: usize)
     requires { ⌜ (at + entriesOf (fromCode column) ≤ length (now out)) × InLimits (fromCode column) ⌝ }
-    ensures { λ _. ⌜ now (out .exit) ≡ splice (now (out .entry)) at (tabulate (encoded (fromCode column) v) (entriesOf (fromCode column))) ⌝ }
+    ensures { λ _. ⌜ now (out .exit)
+        ≡ splice (now (out .entry)) at (tabulate (encoded (fromCode column) v) (entriesOf (fromCode column))) ⌝ }
 {
     match column {
         Column::YesNo => {

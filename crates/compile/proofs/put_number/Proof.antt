@@ -25,7 +25,10 @@ sub-put-scale : tie.Need-sub-put-scale
 sub-put-scale c = search needs
 
 put-scale-requires : tie.Need-put-scale-requires
-put-scale-requires c κs = let z = number-size (c .before .before .before .before .before .before .before .before .before .before .args .n) in search needs
+put-scale-requires c κs =
+    let a = c .before .before .before .before .before .before .before .before .before .before in
+    let z = number-size (a .args .n) in
+    search needs
 
 add-bit-sum : tie.Need-add-bit-sum
 add-bit-sum c = search needs
@@ -40,7 +43,10 @@ add-bit-sum-3 : tie.Need-add-bit-sum-3
 add-bit-sum-3 c = search needs
 
 bit-sum-requires : tie.Need-bit-sum-requires
-bit-sum-requires c κs = let z = number-size (c .before .before .before .before .before .before .before .before .before .before .before .before .before .before .args .n) in search needs
+bit-sum-requires c κs =
+    let a = c .before .before .before .before .before .before .before .before .before .before .before .before .before .before in
+    let z = number-size (a .args .n) in
+    search needs
 
 same-length : tie.Need-same-length
 same-length c = search needs

@@ -16,6 +16,7 @@ use Rattle.records.specs.Outcome.{Outcome, ok, refused}
 use Rattle.records.specs.Records.{readFrom, Says, nothing, more}
 use Rattle.records.proofs.Runs.{says-of-read}
 use Rattle.rules.specs.Columns.{Column, yesNo, choice, number, top, within, limitedColumn, columnBody, columnOf}
+use Rattle.rules.specs.Columns.{recordSize}
 use Rattle.rules.specs.Columns.{columnFormat, entriesOf, publishedOf, entriesIn, publishedIn, publishedFrom, sheetLimits}
 use Rattle.rules.specs.Columns.{limitedSheet, readSheet}
 use Rattle.rules.specs.Circuit.{wiresOf, gatesOf, testsOf, wiresIn, gatesIn, testsIn}
@@ -48,7 +49,7 @@ pub record Limits (s : List ℕ) (cs : List Column) : Type 0 where
   pub published-below : All (λ e. e < entriesIn cs) (publishedFrom 0 cs)
 
 -- ---- counts of columns within their limits
--- how many columns hold numbers of more than one bit
+-- how many columns are of kinds 19 and 20
 unfoldable pub numbersIn : List Column → ℕ
 numbersIn [] = 0
 numbersIn (yesNo ∷ cs) = numbersIn cs
@@ -112,13 +113,6 @@ within-both low high n h =
 
 pub within-is : (low high n : ℕ) → low ≤ n → n ≤ high → within low high n ≡ true
 within-is low high n h h' = and-true (leb low n) (leb n high) (le-leb low n h) (le-leb n high h')
-
--- the bytes of a column, its kind byte too
-unfoldable pub recordSize : Column → ℕ
-recordSize yesNo = 1
-recordSize (choice n) = 2
-recordSize (number n) = 2
-recordSize (top n) = 5
 
 -- what a record says, by the length of its kind's body: a column within its limits and of that size, or refusal 2
 data Said : Option ℕ → Outcome Column → Type 0 where

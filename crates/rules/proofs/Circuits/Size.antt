@@ -14,8 +14,9 @@ use Rattle.rules.specs.Settings.{Setting, Facts}
 use Rattle.rules.specs.Columns.{Column, yesNo, choice, number, top, bitLength, entriesOf, entriesIn, readSheet}
 use Rattle.rules.specs.Circuit.{Step, constant, entry, add, scale, multiply, test, stepBytes, circuitBytes, bitCheck}
 use Rattle.rules.specs.Circuit.{bitChecks, optionAdds, bitAdds, bitSum, topSums, topSteps, columnSteps, wiresOf, circuitFrom}
-use Rattle.rules.specs.Circuit.{circuitOf, constantsOf, addsOf, scalesOf, gatesOf, testsOf, constantsIn, addsIn, scalesIn, gatesIn, testsIn}
-use Rattle.rules.specs.Sizes.{weighed, columnSize, circuitSize}
+use Rattle.rules.specs.Circuit.{circuitOf, constantsOf, addsOf, scalesOf, gatesOf, testsOf}
+use Rattle.rules.specs.Circuit.{constantsIn, addsIn, scalesIn, gatesIn, testsIn}
+use Rattle.rules.specs.Sizes.{sizeByKind, columnSize, circuitSize}
 use Rattle.rules.proofs.Circuits.BitLength.{BitLength, bit-length}
 use Rattle.rules.proofs.Circuits.Limits.{InLimits, limits, numbersIn}
 
@@ -78,14 +79,14 @@ module _ (σ : Setting) where
 
   -- a column's steps have the bytes that the table of body lengths tells
   pub column-size : (c : Column) (e w : ℕ) → size (columnSteps σ e w c) ≡ columnSize σ c
-  unfolding columnSteps stepSize columnSize weighed entriesOf constantsOf addsOf scalesOf gatesOf testsOf
+  unfolding columnSteps stepSize columnSize sizeByKind entriesOf constantsOf addsOf scalesOf gatesOf testsOf
   column-size yesNo e w = bits-size 1 e w ∙ omega arith
   column-size (choice n) e w = simp (size-append, size-next, size-none, bits-size, options-size) (omega arith)
   column-size (number n) e w = simp (size-append, size-next, size-none, bits-size, weights-size) (omega arith)
   column-size (top n) e w = top-size (bitLength n) n e w ∙ omega arith
 
   from-size : (cs : List Column) (e w : ℕ) → size (circuitFrom σ e w cs) + suc (σ .width) ≡ circuitSize σ cs
-  unfolding circuitFrom circuitSize columnSize weighed entriesIn constantsIn addsIn scalesIn gatesIn testsIn
+  unfolding circuitFrom circuitSize columnSize sizeByKind entriesIn constantsIn addsIn scalesIn gatesIn testsIn
   from-size [] e w = rw size-none (omega arith)
   from-size (c ∷ cs) e w =
       let r = from-size cs (e + entriesOf c) (w + wiresOf c) in
@@ -103,7 +104,7 @@ module _ (σ : Setting) where
     for-four' : σ .width ≡ 4 → 2 * bytes ≤ 45 * entries + 535 * numbers
 
   column-few : (c : Column) → InLimits c → Few (entriesOf c) (numbersIn (c ∷ [])) (columnSize σ c)
-  unfolding columnSize weighed entriesOf constantsOf addsOf scalesOf gatesOf testsOf numbersIn
+  unfolding columnSize sizeByKind entriesOf constantsOf addsOf scalesOf gatesOf testsOf numbersIn
   column-few yesNo h = search arith
   column-few (choice n) h = search arith
   column-few (number n) h = record {

@@ -34,7 +34,7 @@ use Rattle.rules.specs.Server.{totalsMessage, totalsLength, whileIdle, w
 use Rattle.rules.specs.Server.{shareRefusal, oneRefusal, twoRefusal, dropRefusal, closeRefusal}
 use Rattle.rules.specs.Table.{totalsPlace, idsPlace, waitPlace, sharePlace, tableLength, stageIn, tableState}
 use Rattle.rules.specs.Table.{headerSound, countsSound, waitingSound, tableSound, tableFault, openLength}
-use Rattle.rules.specs.Sizes.{greatestUpTo, sizesOf, weighed, columnSize, circuitSize}
+use Rattle.rules.specs.Sizes.{greatestUpTo, sizesOf, sizeByKind, columnSize, circuitSize}
 use Rattle.rules.specs.Columns.{largestIn}
 use Rattle.rules.specs.Circuit.{constantsOf, addsOf, scalesOf, constantsIn, addsIn, scalesIn}
 use Rattle.rules.specs.Table.{openRefusal, openBytes, shareRefused, shareTable, shareBytes, oneRefused, oneTable}
@@ -126,7 +126,7 @@ unfolding ledgerAnswers tableRefusal tableAfter tableAnswer runTable tableAnswer
 part18 = tt
 
 unfoldable pub part19 : Unit {0}
-unfolding closingsFrom firstsFrom secondsFrom largestIn constantsOf addsOf scalesOf constantsIn addsIn scalesIn greatestUpTo sizesOf weighed
+unfolding closingsFrom firstsFrom secondsFrom largestIn constantsOf addsOf scalesOf constantsIn addsIn scalesIn greatestUpTo sizesOf sizeByKind
     columnSize circuitSize lengthWithin bitLength bitSum topSums topSteps twoNumbers
     firstBytes shelved shelfRefusal
 part19 = tt

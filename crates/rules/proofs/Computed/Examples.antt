@@ -2,7 +2,8 @@
 use mathlib.Core.Bool.{true}
 use mathlib.Core.Path.{_≡_, refl}
 use Rattle.algebra.specs.Lists.{every}
-use Rattle.rules.specs.Examples.{marked, unmarked, circuits, sizes, taus, shelves, smallSheets}
+use Rattle.rules.specs.Examples.{marked, unmarked, circuits, taus}
+use Rattle.rules.specs.CallExamples.{sizes, shelves, smallSheets}
 use Rattle.rules.specs.TopExamples.{tops}
 use Rattle.rules.proofs.Computed.Computing.{everything}
 

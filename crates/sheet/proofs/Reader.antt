@@ -4,39 +4,56 @@ use mathlib.Core.Path.{_≡_, refl, sym, ap, _∙_}
 use mathlib.Core.Logic.{_⊎_, inl, inr}
 use mathlib.Core.Bool.{Bool, true, false, cond}
 use mathlib.Core.List.{List, [], _∷_, _++_}
-use Prim.Native.Nat.{ℕ, _+_, _≤_, _<_}
+use Prim.Native.Nat.{ℕ, _+_, _-_, _*_, _/_, _≤_, _<_}
 use native.Mathlib.Omega.{arith}
 use borrow.Author.Tests.{le-leb, lt-leb, leb-true, leb-false}
 use lib.Dec.{leb}
-use lib.ListN.{length-append}
+use lib.ListN.{length, length-append}
 use Rattle.records.specs.Outcome.{ok, refused}
 use Rattle.records.specs.Records.{read}
 use Rattle.rules.specs.Columns.{Column, within, columnFormat}
 use Rattle.rules.specs.Columns.{entriesIn, publishedIn, largestIn, sheetLimits, limitedSheet, readSheet}
 use Rattle.rules.specs.Circuit.{constantsIn, gatesIn, testsIn}
+use Rattle.rules.specs.Columns.{yesNo, choice, number, top, recordSize}
+use Rattle.rules.specs.Circuit.{constantsOf, gatesOf, testsOf}
 use Rattle.columns.specs.declared.Counts.{Counts}
 use Rattle.columns.specs.Counting.{countsOf, Small}
 use Rattle.columns.proofs.Sums.{entries, published, constants, gates, tests, total-append, largest-append}
 use Rattle.sheet.specs.declared.Reading.the-variants as answer
-use Rattle.sheet.specs.Reading.{reading, readingOf, plus, more, limited}
+use Rattle.sheet.specs.Cursor.{bytesIn}
+use Rattle.sheet.specs.Reading.{reading, readingOf, plus, more, withConstants, Countable, limited}
+use Rattle.sheet.proofs.SheetBytes.{records-long}
 
 -- ---- the counts: those of the columns, or both past the limit
 pub none-small : Small 320 (countsOf [])
 unfolding entriesIn publishedIn constantsIn gatesIn testsIn largestIn
 none-small = search arith
 
+-- the counts of columns, but for the constants
+abbrev seen : List Column → Counts
+seen cs =
+    record {
+      columns = length cs;
+      entries = entriesIn cs;
+      published = publishedIn cs;
+      constants = 0;
+      gates = gatesIn cs;
+      tests = testsIn cs;
+      largest = largestIn cs;
+    }
+
 abbrev pub Tracks : Counts → List Column → Type 0
-Tracks c done = (c ≡ countsOf done) ⊎ ((256 < c .entries) × (256 < entriesIn done))
+Tracks c done = (c ≡ seen done) ⊎ ((256 < c .entries) × (256 < entriesIn done))
 
 pub tracks-none : Tracks (countsOf []) []
+unfolding constantsIn
 tracks-none = inl refl
 
-counts-next : (done : List Column) (c : Column) → countsOf (done ++ (c ∷ [])) ≡ plus (countsOf done) (countsOf (c ∷ []))
+counts-next : (done : List Column) (c : Column) → seen (done ++ (c ∷ [])) ≡ plus (seen done) (countsOf (c ∷ []))
 counts-next done c =
     rw (
       total-append entries done (c ∷ []),
       total-append published done (c ∷ []),
-      total-append constants done (c ∷ []),
       total-append gates done (c ∷ []),
       total-append tests done (c ∷ []),
       largest-append done (c ∷ []),
@@ -59,18 +76,58 @@ tracks-next c done a t = go (leb (c .entries) 256) refl t
         inr (h, omega (arith, all))
     go false e (inr o) = inr (o .0, omega (arith, all))
 
-limited-over : (c : Counts) → 256 < c .entries → limited c ≡ answer.Refused 2
+limited-over : (c : Counts) (n : ℕ) → 256 < c .entries → limited c n ≡ answer.Refused 2
 unfolding limited
-limited-over c h = let low : 1 ≤ c .entries = omega arith in simp (le-leb 1 (c .entries), lt-leb (c .entries) 256)
+limited-over c n h = let low : 1 ≤ c .entries = omega arith in simp (le-leb 1 (c .entries), lt-leb (c .entries) 256)
 
-tracks-limited : (c : Counts) (done : List Column) → Tracks c done → limited c ≡ limited (countsOf done)
-tracks-limited c done (inl q) = ap limited q
-tracks-limited c done (inr o) = limited-over c (o .0) ∙ sym (limited-over (countsOf done) (o .1))
+tracks-limited : (c : Counts) (done : List Column) (n : ℕ) → Tracks c done → limited c n ≡ limited (seen done) n
+tracks-limited c done n (inl q) = ap (λ k. limited k n) q
+tracks-limited c done n (inr o) = limited-over c n (o .0) ∙ sym (limited-over (seen done) n (o .1))
+
+-- ---- the constants
+-- behind its kind byte a column has a byte for each of its sums, and two more for a constant
+column-bodies : (c : Column) → recordSize c + gatesOf c ≡ 1 + testsOf c + 2 * constantsOf c
+unfolding recordSize gatesOf testsOf constantsOf
+column-bodies yesNo = refl
+column-bodies (choice n) = omega arith
+column-bodies (number n) = omega arith
+column-bodies (top n) = omega arith
+
+column-sums : (c : Column) → gatesOf c ≤ testsOf c
+unfolding gatesOf testsOf
+column-sums yesNo = omega arith
+column-sums (choice n) = omega arith
+column-sums (number n) = omega arith
+column-sums (top n) = omega arith
+
+bodies-are : (cs : List Column) → bytesIn cs + gatesIn cs ≡ length cs + testsIn cs + 2 * constantsIn cs
+unfolding bytesIn gatesIn testsIn constantsIn
+bodies-are [] = refl
+bodies-are (c ∷ cs) = omega (arith, column-bodies c, bodies-are cs)
+
+sums-some : (cs : List Column) → gatesIn cs ≤ testsIn cs
+unfolding gatesIn testsIn
+sums-some [] = omega arith
+sums-some (c ∷ cs) = omega (arith, column-sums c, sums-some cs)
+
+counts-whole : (cs : List Column) → withConstants (seen cs) (bytesIn cs) ≡ countsOf cs
+counts-whole cs =
+    let e : (bytesIn cs - length cs - (testsIn cs - gatesIn cs)) / 2 ≡ constantsIn cs
+    = omega (arith, bodies-are cs, sums-some cs) in
+    rw e refl
+
+pub tracks-countable : (c : Counts) (done : List Column) (n : ℕ) → n ≡ bytesIn done → Tracks c done → Countable c n
+tracks-countable c done n e (inl q) =
+    rw q (record {
+      sums = λ h. sums-some done;
+      bodies = λ h. omega (arith, bodies-are done, sums-some done);
+    })
+tracks-countable c done n e (inr o) = record { sums = λ h. absurd (omega (arith, o .0)); bodies = λ h. absurd (omega (arith, o .0)) }
 
 -- ---- the answer
-limits-reading : (cs : List Column) → reading (sheetLimits cs) ≡ limited (countsOf cs)
+limits-reading : (cs : List Column) → reading (sheetLimits cs) ≡ limited (seen cs) (bytesIn cs)
 unfolding reading sheetLimits limited
-limits-reading cs = go (within 1 256 (entriesIn cs))
+limits-reading cs = rw (counts-whole cs) (go (within 1 256 (entriesIn cs)))
   where
     go : (b : Bool) → reading (cond b (ok cs) (refused 2)) ≡ cond b (answer.Counts (countsOf cs)) (answer.Refused 2)
     go true = refl
@@ -81,6 +138,8 @@ module _ (s : List ℕ) where
   unfolding readingOf reading readSheet limitedSheet
   answer-refused n e = rw e
 
-  pub answer-limited : (c : Counts) (done : List Column) → Tracks c done → read columnFormat s ≡ ok done → readingOf s ≡ limited c
+  pub answer-limited : (c : Counts) (done : List Column) → Tracks c done → read columnFormat s ≡ ok done
+      → readingOf s ≡ limited c (length s)
   unfolding readingOf readSheet limitedSheet
-  answer-limited c done t e = rw e (limits-reading done ∙ sym (tracks-limited c done t))
+  answer-limited c done t e =
+      rw (e, records-long s done e) (limits-reading done ∙ sym (tracks-limited c done (bytesIn done) t))

@@ -123,3 +123,7 @@ read-is (refused n) cs h = let z : _≡_ {A = ℕ} 0 1 = cc in absurd (omega ari
 pub placed : (s : List ℕ) (cs : List Column) → readSheet s ≡ ok cs → Placed s cs
 unfolding readSheet
 placed s cs h = says-placed (says-of-read columnFormat s cs (read-is (read columnFormat s) cs h))
+
+-- a sheet whose records are read is as long as they are
+pub records-long : (s : List ℕ) (cs : List Column) → read columnFormat s ≡ ok cs → length s ≡ bytesIn cs
+records-long s cs e = says-placed (says-of-read columnFormat s cs e) .long

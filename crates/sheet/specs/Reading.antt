@@ -2,7 +2,7 @@
 -- Assumes nothing.
 use mathlib.Core.Bool.{cond}
 use mathlib.Core.List.{List}
-use Prim.Native.Nat.{ℕ, _+_, max}
+use Prim.Native.Nat.{ℕ, _+_, _-_, _/_, _≤_, max}
 use lib.Dec.{leb}
 use Rattle.records.specs.Outcome.{Outcome, ok, refused}
 use Rattle.rules.specs.Columns.{Column, within, readSheet}
@@ -19,14 +19,14 @@ unfoldable pub readingOf : List ℕ → Reading
 readingOf s = reading (readSheet s)
 
 -- ---- the parts of the reader
--- the counts of two runs of columns
+-- the counts of two runs of columns, but for the constants of the second
 abbrev pub plus : Counts → Counts → Counts
 plus c d =
     record {
       columns = c .columns + d .columns;
       entries = c .entries + d .entries;
       published = c .published + d .published;
-      constants = c .constants + d .constants;
+      constants = c .constants;
       gates = c .gates + d .gates;
       tests = c .tests + d .tests;
       largest = max (c .largest) (d .largest);
@@ -36,6 +36,25 @@ plus c d =
 unfoldable pub more : Counts → Counts → Counts
 more c d = cond (leb (c .entries) 256) (plus c d) c
 
+-- the counts of a sheet of so many bytes with its constants: behind its kind byte a column has a byte for each of its sums, and
+-- two more for a constant
+abbrev pub withConstants : Counts → ℕ → Counts
+withConstants c bytes =
+    record {
+      columns = c .columns;
+      entries = c .entries;
+      published = c .published;
+      constants = (bytes - c .columns - (c .tests - c .gates)) / 2;
+      gates = c .gates;
+      tests = c .tests;
+      largest = c .largest;
+    }
+
+-- so it has, where the limit is kept
+pub record Countable (c : Counts) (bytes : ℕ) : Type 0 where
+  pub sums : c .entries ≤ 256 → c .gates ≤ c .tests
+  pub bodies : c .entries ≤ 256 → c .columns + (c .tests - c .gates) ≤ bytes
+
 -- the total limit, last
-unfoldable pub limited : Counts → Reading
-limited c = cond (within 1 256 (c .entries)) (answer.Counts c) (answer.Refused 2)
+unfoldable pub limited : Counts → ℕ → Reading
+limited c bytes = cond (within 1 256 (c .entries)) (answer.Counts (withConstants c bytes)) (answer.Refused 2)

@@ -3,7 +3,7 @@
 ghost use mathlib.Core.Path.{_≡_};
 ghost use Prim.Native.Nat.{max};
 ghost use Rattle.columns.specs.Counting.{Small};
-ghost use Rattle.sheet.specs.Reading.{more, limited, readingOf};
+ghost use Rattle.sheet.specs.Reading.{more, Countable, limited, readingOf};
 
 pub mod cursor;
 pub mod returns;
@@ -29,7 +29,7 @@ fn larger(a: u32, b: u32) -> u32
     if a < b { b } else { a }
 }
 
-// One column more. Past the limit of entries nothing is counted any more.
+// One column more, but for its constants. Past the limit of entries nothing is counted any more.
 fn with(c: Counts, d: Counts) -> Counts
     requires { ⌜ Small 320 c × Small 64 d ⌝ }
     ensures { λ r. ⌜ (r ≡ more c d) × Small 320 r ⌝ }
@@ -41,16 +41,18 @@ fn with(c: Counts, d: Counts) -> Counts
         columns: c.columns + d.columns,
         entries: c.entries + d.entries,
         published: c.published + d.published,
-        constants: c.constants + d.constants,
+        constants: c.constants,
         gates: c.gates + d.gates,
         tests: c.tests + d.tests,
         largest: larger(c.largest, d.largest),
     }
 }
 
-// The total limit, last.
-fn limit(c: Counts) -> Reading
-    ensures { λ r. ⌜ r ≡ limited c ⌝ }
+// The total limit, last; then the constants, which need no count of their own: behind its kind byte a column has a byte for each
+// of its sums, and two more for a constant.
+fn limit(c: Counts, bytes: usize) -> Reading
+    requires { ⌜ Countable c bytes ⌝ }
+    ensures { λ r. ⌜ r ≡ limited c bytes ⌝ }
 {
     if c.entries < 1 {
         return Reading::Refused(2);
@@ -58,7 +60,15 @@ fn limit(c: Counts) -> Reading
     if 256 < c.entries {
         return Reading::Refused(2);
     }
-    Reading::Counts(c)
+    Reading::Counts(Counts {
+        columns: c.columns,
+        entries: c.entries,
+        published: c.published,
+        constants: (bytes - c.columns - (c.tests - c.gates)) / 2,
+        gates: c.gates,
+        tests: c.tests,
+        largest: c.largest,
+    })
 }
 
 // What a sheet comes to, or the number of its first fault. A yes/no has its own branch: else the place of each column waits
@@ -96,5 +106,5 @@ pub fn read(s: &[u8]) -> Reading
     if fault != 0 {
         return Reading::Refused(fault);
     }
-    limit(counts)
+    limit(counts, s.len())
 }

@@ -1,4 +1,6 @@
--- `sheet::limit` meets its contract: each answer is that of the two tests that led there. Assumes nothing.
+-- `sheet::limit` meets its contract: each answer is that of the two tests that led there; where both passed the constants can be
+-- told. Assumes nothing.
+use native.Mathlib.Omega.{arith}
 use borrow.Author.Tests.{lt-leb, le-leb}
 use Rattle.sheet.specs.Reading.{limited}
 use Rattle.sheet.proofs.limit.Statement.{statement}
@@ -12,9 +14,29 @@ returns-2 : tie.Need-returns-2
 unfolding limited
 returns-2 c = simp (le-leb 1 _ (c .before .before .if1 .left), lt-leb _ _ (c .if2 .taken))
 
+sub-t4 : tie.Need-sub-t4
+sub-t4 c =
+    let i = c .before in
+    let p = i .before .before .before .before .pre in
+    omega (arith, p .sums (i .if2 .left), p .bodies (i .if2 .left))
+
+sub-t5 : tie.Need-sub-t5
+sub-t5 c =
+    let i = c .before .before in
+    let p = i .before .before .before .before .pre in
+    omega (arith, p .sums (i .if2 .left), p .bodies (i .if2 .left))
+
+sub-t6 : tie.Need-sub-t6
+sub-t6 c =
+    let i = c .before .before in
+    let p = i .before .before .before .before .pre in
+    omega (arith, p .sums (i .if2 .left), p .bodies (i .if2 .left))
+
 returns-3 : tie.Need-returns-3
 unfolding limited
-returns-3 c = simp (le-leb 1 _ (c .before .before .if1 .left), le-leb _ _ (c .if2 .left))
+returns-3 c =
+    let i = c .before .before in
+    simp (le-leb 1 _ (i .before .before .if1 .left), le-leb _ _ (i .if2 .left))
 
 pub limit-spec : {M : Type 1} → statement M
-limit-spec = tie.close (tie.spec returns returns-2 returns-3)
+limit-spec = tie.close (tie.spec returns returns-2 sub-t4 sub-t5 sub-t6 returns-3)

@@ -23,8 +23,9 @@ use Rattle.columns.proofs.ColumnBytes.{kind-unknown, kind-known, yes-no-body, y
 use Rattle.columns.proofs.Taken.{column-small, taken, outside}
 use Rattle.sheet.specs.declared.Reading.{Reading}
 use Rattle.sheet.specs.declared.Reading.the-variants as answer
-use Rattle.sheet.specs.Reading.{limited, readingOf}
-use Rattle.sheet.proofs.Reader.{none-small, Tracks, tracks-none, tracks-next, answer-refused, answer-limited}
+use Rattle.sheet.specs.Reading.{Countable, limited, readingOf}
+use Rattle.sheet.proofs.Reader.{none-small, Tracks, tracks-none, tracks-next, tracks-countable, answer-refused, answer-limited}
+use Rattle.sheet.proofs.SheetBytes.{records-long}
 use Rattle.sheet.proofs.read.Statement.{statement}
 use Rattle.sheet.proofs.read.Tie as tie
 
@@ -37,11 +38,11 @@ abbrev μ-columns : tie.MeasureT-columns
 μ-columns s counts₀ at₀ counts at = length s - at
 
 -- what is known where the loop is left: no fault and the limits to go, or the first fault
-abbrev Left : Reading → Reading → ℕ → Type 0
-Left all end fault = ((fault ≡ 0) × (all ≡ end)) ⊎ ((fault ≡ 0 → ⊥) × (all ≡ answer.Refused fault))
+abbrev Left : Type 0 → Reading → Reading → ℕ → Type 0
+Left known all end fault = ((fault ≡ 0) × (all ≡ end) × known) ⊎ ((fault ≡ 0 → ⊥) × (all ≡ answer.Refused fault))
 
-faulty : (all end : Reading) (f n : ℕ) → f ≡ n → (n ≡ 0 → ⊥) → all ≡ answer.Refused n → Left all end f
-faulty all end f n e z q = rw e (inr (z, q))
+faulty : (known : Type 0) (all end : Reading) (f n : ℕ) → f ≡ n → (n ≡ 0 → ⊥) → all ≡ answer.Refused n → Left known all end f
+faulty known all end f n e z q = rw e (inr (z, q))
 
 -- a yes/no at place i
 yes-no-read : (s : List ℕ) (i : ℕ) (done : List Column) → i < length s → getD s i 0 ≡ 17
@@ -96,7 +97,9 @@ module _ (s : List ℕ) (i : ℕ) (done : List Column) (h : i < length s) (m : �
           ∙ ap (λ (n : ℕ). readFrom columnFormat (drop n s) 0 (done ++ (fromCode c ∷ []))) q
 
 outcome : (c : tie.Joined1 Inv-columns μ-columns)
-    → Left (readingOf (c .before .before .before .before .args .s .now)) (limited (c .before .columns .counts)) (c .if1 .fault)
+    → let s = c .before .before .before .before .args .s .now in
+    let k = c .before .columns .counts in
+    Left (Countable k (length s)) (readingOf s) (limited k (length s)) (c .if1 .fault)
 outcome c =
     let l = c .before in
     let s = l .before .before .before .args .s .now in
@@ -105,21 +108,25 @@ outcome c =
     let d = l .columns .inv .2 .0 in
     let v = l .columns .inv .2 .2 in
     let a = readingOf s in
-    let z = limited k in
+    let z = limited k (length s) in
+    let f = faulty (Countable k (length s)) in
     ⊎-elim
-    (λ w. inl (w .1, answer-limited s k d (l .columns .inv .2 .1) (v ∙ at-end columnFormat s i d (omega arith))))
+    (λ w.
+    let t = l .columns .inv .2 .1 in
+    let e = v ∙ at-end columnFormat s i d (omega arith) in
+    inl (w .1, answer-limited s k d t e, tracks-countable k d (length s) (records-long s d e) t))
     (⊎-elim
     (λ w.
-    faulty a z _ 1 (w .5) (λ x. omega arith)
+    f a z _ 1 (w .5) (λ x. omega arith)
     (answer-refused s 1 (v ∙ size-zero s i d (omega arith) _ (w .3 .ensures) (w .4 .taken))))
     (⊎-elim
     (λ w.
-    faulty a z _ 1 (w .6) (λ x. omega arith)
+    f a z _ 1 (w .6) (λ x. omega arith)
     (answer-refused s 1 (v ∙ cut s i d (omega arith) _ (w .3 .ensures) (w .4 .left) (w .5 .taken))))
     (λ w.
     let n = w .9 .given .0 .0 in
     let r = refuse s i d (omega arith) _ (w .3 .ensures) (w .4 .left) (w .5 .left) n (sym (w .7 .ensures) ∙ w .9 .given .1) in
-    faulty a z _ n (w .11) (r .1) (answer-refused s n (v ∙ r .0)))))
+    f a z _ n (w .11) (r .1) (answer-refused s n (v ∙ r .0)))))
     (c .if1 .came)
 
 none-requires : tie.Need-none-requires Inv-columns μ-columns
@@ -238,7 +245,8 @@ returns : tie.Need-returns Inv-columns μ-columns
 returns c = ⊎-elim (λ w. absurd (c .if5 .taken (w .0))) (λ w. sym (w .1)) (outcome (c .before))
 
 limit-requires : tie.Need-limit-requires Inv-columns μ-columns
-limit-requires c κs = search needs
+limit-requires c κs =
+    ⊎-elim (λ w. w .2) (λ w. absurd (w .0 (c .if5 .left))) (outcome (c .before))
 
 returns-2 : tie.Need-returns-2 Inv-columns μ-columns
 returns-2 c =

@@ -1,5 +1,6 @@
 -- `sheet::limit` meets its contract: each answer is that of the two tests that led there; where both passed the constants can be
 -- told. Assumes nothing.
+use mathlib.Core.Path.{refl}
 use native.Mathlib.Omega.{arith}
 use borrow.Author.Tests.{lt-leb, le-leb}
 use Rattle.sheet.specs.Reading.{limited}
@@ -36,7 +37,7 @@ returns-3 : tie.Need-returns-3
 unfolding limited
 returns-3 c =
     let i = c .before .before in
-    simp (le-leb 1 _ (i .before .before .if1 .left), le-leb _ _ (i .if2 .left))
+    simp (le-leb 1 _ (i .before .before .if1 .left), le-leb _ _ (i .if2 .left)) refl
 
 pub limit-spec : {M : Type 1} → statement M
 limit-spec = tie.close (tie.spec returns returns-2 sub-t4 sub-t5 sub-t6 returns-3)

@@ -5,6 +5,7 @@ use mathlib.Core.Path.{_≡_, refl, sym, ap, ap₂, _∙_}
 use mathlib.Core.Logic.{inl, inr}
 use mathlib.Core.Bool.{Bool, true, false, cond, false≢true}
 use mathlib.Core.List.{List, [], _∷_, _++_, map}
+use mathlib.Core.Option.{Option, some, none}
 use Prim.Native.Nat.{ℕ, zero, suc}
 use native.Mathlib.Omega.{arith}
 use borrow.Author.Tests.{ne-eqb, eqb-true}
@@ -12,22 +13,21 @@ use lib.Dec.{eqb}
 use lib.ListN.{length, take}
 use Rattle.algebra.specs.Lists.{In}
 use Rattle.rules.specs.Settings.{document01}
-use Rattle.rules.specs.Server.{Opened, whileIdle, whileOne, whileTwo, whileWaiting}
+use Rattle.rules.specs.Server.{Opened, whileOpen}
 use Rattle.rules.specs.Server.{shareRefusal, oneRefusal, twoRefusal, dropRefusal, closeRefusal}
 use Rattle.rules.specs.Ledger.{Call, share, roundOne, roundTwo, drop, close, Answer, refused, wrote, judged, done, Ledger}
-use Rattle.rules.specs.Ledger.{Progress, isIdle, waitsOne, waitsTwo, isClosed, Decision, sumsNoted, decideWaiting}
+use Rattle.rules.specs.Ledger.{Progress, isOpen, isClosed, Pending, Decided, Decision, decideAs}
 use Rattle.rules.specs.Ledger as ledger
 use Rattle.rules.specs.Ledger.{ledgerStage, ledgerState, refusalOf, ledgerAfter, ledgerStep, ledgerSays, closingMessage}
 use Rattle.rules.specs.Ledger.{runLedger, ledgerAnswers}
+use Rattle.rules.specs.Table.{Lent}
 use Rattle.rules.specs.WholeRun.{joinedIn, handedIn}
 use Rattle.calls.specs.Calls.{CCall, pool-share, pool-round-one, pool-round-two, pool-drop, pool-close, callOf, answerOf}
 use Rattle.calls.specs.Servers.{roundsIn, closingsIn, over}
 
 -- whether a ledger is closed
 abbrev pub closedIn : Progress → Bool
-closedIn isIdle = false
-closedIn (waitsOne n) = false
-closedIn (waitsTwo n d e) = false
+closedIn (isOpen ws) = false
 closedIn isClosed = true
 
 -- the number that an answer shows
@@ -43,25 +43,25 @@ number-shown (suc f) x e = rw (ne-eqb (suc f) 0 (λ z. omega arith)) refl
 
 abbrev returned : CCall → ℕ
 returned (pool-share T m r s out w a T' out' w') = a
-returned (pool-round-one T joined out w a T' out' w') = a
-returned (pool-round-two T joined v a T' v') = a
-returned (pool-drop T a T') = a
+returned (pool-round-one T id joined out w a T' out' w') = a
+returned (pool-round-two T id joined v a T' v') = a
+returned (pool-drop T id a T') = a
 returned (pool-close T out w a T' out' w') = a
 
 returned-shown : (c : CCall) → refusalIn (answerOf c) ≡ returned c
 returned-shown (pool-share T m r s out w a T' out' w') = number-shown a _ refl
-returned-shown (pool-round-one T joined out w a T' out' w') = number-shown a _ refl
-returned-shown (pool-round-two T joined v a T' v') = number-shown a _ refl
-returned-shown (pool-drop T a T') = number-shown a done refl
+returned-shown (pool-round-one T id joined out w a T' out' w') = number-shown a _ refl
+returned-shown (pool-round-two T id joined v a T' v') = number-shown a _ refl
+returned-shown (pool-drop T id a T') = number-shown a done refl
 returned-shown (pool-close T out w a T' out' w') = number-shown a _ refl
 
 module _ (o : Opened) where
   not-refused : (l : Ledger) (c : Call) → refusalIn (ledger.answerOf document01 o l c) ≡ 0
   unfolding ledger.answerOf
   not-refused l (share m r s room) = refl
-  not-refused l (roundOne joined room) = refl
-  not-refused l (roundTwo joined) = refl
-  not-refused l drop = refl
+  not-refused l (roundOne id joined room) = refl
+  not-refused l (roundTwo id joined) = refl
+  not-refused l (drop id) = refl
   not-refused l (close room) = refl
 
   -- the first answer of a list, and the others
@@ -94,9 +94,9 @@ module _ (o : Opened) where
   rounds-by : (c : CCall) (f : ℕ) → returned c ≡ f → roundsIn c ≡ cond (eqb f 0) (joinedIn document01 o (callOf c)) []
   unfolding joinedIn
   rounds-by (pool-share T m r s out w a T' out' w') f e = nothing-else (eqb f 0)
-  rounds-by (pool-round-one T joined out w a T' out' w') f e = ap (λ (x : ℕ). cond (eqb x 0) (joined ∷ []) []) e
-  rounds-by (pool-round-two T joined v a T' v') f e = ap (λ (x : ℕ). cond (eqb x 0) (joined ∷ []) []) e
-  rounds-by (pool-drop T a T') f e = nothing-else (eqb f 0)
+  rounds-by (pool-round-one T id joined out w a T' out' w') f e = ap (λ (x : ℕ). cond (eqb x 0) (joined ∷ []) []) e
+  rounds-by (pool-round-two T id joined v a T' v') f e = ap (λ (x : ℕ). cond (eqb x 0) (joined ∷ []) []) e
+  rounds-by (pool-drop T id a T') f e = nothing-else (eqb f 0)
   rounds-by (pool-close T out w a T' out' w') f e = nothing-else (eqb f 0)
 
   pub rounds-same : (l : Ledger) (cs : List CCall) → Same l cs → over roundsIn cs ≡ handedIn document01 o l (map callOf cs)
@@ -109,11 +109,11 @@ module _ (o : Opened) where
   -- a closed ledger refuses every call
   closed-refuses : (l : Ledger) (c : Call) → l .progress ≡ isClosed → refusalOf document01 o l c ≡ 11
   unfolding refusalOf shareRefusal oneRefusal twoRefusal dropRefusal closeRefusal ledgerState ledgerStage
-      whileIdle whileOne whileTwo whileWaiting
+      whileOpen
   closed-refuses l (share m r s room) e = rw e refl
-  closed-refuses l (roundOne joined room) e = rw e refl
-  closed-refuses l (roundTwo joined) e = rw e refl
-  closed-refuses l drop e = rw e refl
+  closed-refuses l (roundOne id joined room) e = rw e refl
+  closed-refuses l (roundTwo id joined) e = rw e refl
+  closed-refuses l (drop id) e = rw e refl
   closed-refuses l (close room) e = rw e refl
 
   stays-closed : (l : Ledger) (cs : List Call) → l .progress ≡ isClosed → runLedger document01 o l cs ≡ l
@@ -123,7 +123,7 @@ module _ (o : Opened) where
       ap (λ (f : ℕ). runLedger document01 o (ledgerStep document01 o l c f) cs) (closed-refuses l c e) ∙ stays-closed l cs e
 
   -- a close that returned 0: its bytes are the closing message, and the ledger stays closed behind it
-  closed-here : (l : Ledger) (T out : List ℕ) (w a : ℕ) (T' out' : List ℕ) (w' : ℕ) (cs : List CCall)
+  closed-here : (l : Ledger) (T : Lent) (out : List ℕ) (w a : ℕ) (T' : Lent) (out' : List ℕ) (w' : ℕ) (cs : List CCall)
       → Same l (pool-close T out w a T' out' w' ∷ cs) → a ≡ 0
       → (runLedger document01 o l (map callOf (pool-close T out w a T' out' w' ∷ cs)) .progress ≡ isClosed)
       × (take w' out' ≡ closingMessage document01 o (runLedger document01 o l (map callOf (pool-close T out w a T' out' w' ∷ cs))))
@@ -152,14 +152,14 @@ module _ (o : Opened) where
   closings-same l (pool-share T x r s out w a T' out' w' ∷ cs) e m h =
       let c = pool-share T x r s out w a T' out' w' in
       closings-same (next l c) cs (others-same l c cs e) m h
-  closings-same l (pool-round-one T joined out w a T' out' w' ∷ cs) e m h =
-      let c = pool-round-one T joined out w a T' out' w' in
+  closings-same l (pool-round-one T id joined out w a T' out' w' ∷ cs) e m h =
+      let c = pool-round-one T id joined out w a T' out' w' in
       closings-same (next l c) cs (others-same l c cs e) m h
-  closings-same l (pool-round-two T joined v a T' v' ∷ cs) e m h =
-      let c = pool-round-two T joined v a T' v' in
+  closings-same l (pool-round-two T id joined v a T' v' ∷ cs) e m h =
+      let c = pool-round-two T id joined v a T' v' in
       closings-same (next l c) cs (others-same l c cs e) m h
-  closings-same l (pool-drop T a T' ∷ cs) e m h =
-      let c = pool-drop T a T' in
+  closings-same l (pool-drop T id a T' ∷ cs) e m h =
+      let c = pool-drop T id a T' in
       closings-same (next l c) cs (others-same l c cs e) m h
   closings-same l (pool-close T out w a T' out' w' ∷ cs) e m h =
       let c = pool-close T out w a T' out' w' in
@@ -186,19 +186,11 @@ module _ (o : Opened) where
   either-open true x y h k = h
   either-open false x y h k = k
 
-  sums-open : (p : Progress) (d e : ℕ) → closedIn p ≡ false → closedIn (sumsNoted document01 o p d e) ≡ false
-  unfolding sumsNoted
-  sums-open isIdle d e h = refl
-  sums-open (waitsOne n) d e h = refl
-  sums-open (waitsTwo n x y) d e h = refl
-  sums-open isClosed d e h = h
-
-  decided-open : (l : Ledger) (p : Progress) (d : Decision) → Open l → Open (decideWaiting document01 o l p d)
-  unfolding decideWaiting
-  decided-open l isIdle d h = h
-  decided-open l (waitsOne n) d h = refl
-  decided-open l (waitsTwo n x y) d h = refl
-  decided-open l isClosed d h = h
+  decided-open : (id : ℕ) (w : Option Pending) (ws : List Pending) (ds : List Decided) (d : Decision)
+      → Open (decideAs document01 o id w ws ds d)
+  unfolding decideAs
+  decided-open id none ws ds d = refl
+  decided-open id (some w) ws ds d = refl
 
   pub closed-wrote : (l : Ledger) (cs : List CCall) → Same l cs → Open l
       → closedIn (runLedger document01 o l (map callOf cs) .progress) ≡ true
@@ -208,18 +200,18 @@ module _ (o : Opened) where
   closed-wrote l (pool-share T x r s out w a T' out' w' ∷ cs) e h k =
       let c = pool-share T x r s out w a T' out' w' in
       closed-wrote (next l c) cs (others-same l c cs e) (either-open (eqb (refusalOf document01 o l (callOf c)) 0) _ l refl h) k
-  closed-wrote l (pool-round-one T joined out w a T' out' w' ∷ cs) e h k =
-      let c = pool-round-one T joined out w a T' out' w' in
+  closed-wrote l (pool-round-one T id joined out w a T' out' w' ∷ cs) e h k =
+      let c = pool-round-one T id joined out w a T' out' w' in
       closed-wrote (next l c) cs (others-same l c cs e)
-      (either-open (eqb (refusalOf document01 o l (callOf c)) 0) _ l (sums-open (l .progress) _ _ h) h) k
-  closed-wrote l (pool-round-two T joined v a T' v' ∷ cs) e h k =
-      let c = pool-round-two T joined v a T' v' in
+      (either-open (eqb (refusalOf document01 o l (callOf c)) 0) _ l refl h) k
+  closed-wrote l (pool-round-two T id joined v a T' v' ∷ cs) e h k =
+      let c = pool-round-two T id joined v a T' v' in
       closed-wrote (next l c) cs (others-same l c cs e)
-      (either-open (eqb (refusalOf document01 o l (callOf c)) 0) _ l (decided-open l (l .progress) _ h) h) k
-  closed-wrote l (pool-drop T a T' ∷ cs) e h k =
-      let c = pool-drop T a T' in
+      (either-open (eqb (refusalOf document01 o l (callOf c)) 0) _ l (decided-open id _ _ _ _) h) k
+  closed-wrote l (pool-drop T id a T' ∷ cs) e h k =
+      let c = pool-drop T id a T' in
       closed-wrote (next l c) cs (others-same l c cs e)
-      (either-open (eqb (refusalOf document01 o l (callOf c)) 0) _ l (decided-open l (l .progress) _ h) h) k
+      (either-open (eqb (refusalOf document01 o l (callOf c)) 0) _ l (decided-open id _ _ _ _) h) k
   closed-wrote l (pool-close T out w a T' out' w' ∷ cs) e h k =
       let c = pool-close T out w a T' out' w' in
       go (eqb a 0) refl (λ z. closed-wrote (next l c) cs (others-same l c cs e) z k)

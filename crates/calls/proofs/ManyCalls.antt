@@ -6,51 +6,54 @@ use mathlib.Core.List.{List, [], _∷_, map}
 use Prim.Native.Nat.{ℕ}
 use lib.ListN.{length}
 use Rattle.algebra.specs.Lists.{All, all[], all∷}
-use Rattle.records.specs.Answers.{onlyIf}
 use Rattle.rules.specs.Settings.{document01}
 use Rattle.rules.specs.Ledger.{Answer, empty, ledgerAnswers}
-use Rattle.rules.specs.Runs.{openedTable, runTable, tableAnswers}
+use Rattle.rules.specs.Table.{Lent, openedTable}
+use Rattle.rules.specs.Runs.{runTable, tableAnswers}
 use Rattle.rules.proofs.Computed.Facts.{document01-facts}
 use Rattle.rules.proofs.Circuits.Refusals.{sheet-limits}
 use Rattle.rules.proofs.Tables.Run.{answers-same}
-use Rattle.rules.proofs.Tables.Opens.{opening, open-facts, opened-beside}
+use Rattle.rules.proofs.Histories.Opening.{opening}
+use Rattle.rules.proofs.Tables.Opens.{open-facts, opened-beside}
+use Rattle.waiting.specs.Changes.{unlessRefused}
 use Rattle.calls.specs.Calls.{CCall, callOf, answerOf, LeavesRest, Linked, none, next, Log, Serves, openedWith, Tells}
 use Rattle.calls.proofs.OneCall.{steps}
 
-answers-by-table : {T last : List ℕ} {cs : List CCall} → Linked T cs last
+answers-by-table : {T last : Lent} {cs : List CCall} → Linked T cs last
     → map answerOf cs ≡ tableAnswers document01 T (map callOf cs)
 unfolding tableAnswers
 answers-by-table none = refl
 answers-by-table {T = T} {last = last} {cs = c ∷ cs} (next t k l) =
     let s = steps c k in
     ap₂ (λ (a : Answer) (r : List Answer). a ∷ r) (s .says)
-    (answers-by-table l ∙ ap (λ (x : List ℕ). tableAnswers document01 x (map callOf cs)) (s .leaves))
-    ∙ ap (λ (x : List ℕ). tableAnswers document01 x (callOf c ∷ map callOf cs)) t
+    (answers-by-table l ∙ ap (λ (x : Lent). tableAnswers document01 x (map callOf cs)) (s .leaves))
+    ∙ ap (λ (x : Lent). tableAnswers document01 x (callOf c ∷ map callOf cs)) t
 
-last-by-table : {T last : List ℕ} {cs : List CCall} → Linked T cs last → last ≡ runTable document01 T (map callOf cs)
+last-by-table : {T last : Lent} {cs : List CCall} → Linked T cs last → last ≡ runTable document01 T (map callOf cs)
 unfolding runTable
 last-by-table none = refl
 last-by-table {T = T} {last = last} {cs = c ∷ cs} (next t k l) =
     last-by-table l
-    ∙ ap (λ (x : List ℕ). runTable document01 x (map callOf cs)) (steps c k .leaves)
-    ∙ ap (λ (x : List ℕ). runTable document01 x (callOf c ∷ map callOf cs)) t
+    ∙ ap (λ (x : Lent). runTable document01 x (map callOf cs)) (steps c k .leaves)
+    ∙ ap (λ (x : Lent). runTable document01 x (callOf c ∷ map callOf cs)) t
 
-rest-left : {T last : List ℕ} {cs : List CCall} → Linked T cs last → All LeavesRest cs
+rest-left : {T last : Lent} {cs : List CCall} → Linked T cs last → All LeavesRest cs
 rest-left none = all[]
 rest-left {cs = c ∷ cs} (next t k l) = all∷ (steps c k .rest) (rest-left l)
 
 module _ (servers own : ℕ) (sheet : List ℕ) (returns : ℕ) (log : Log) (s : Serves servers own sheet returns log) where
   opened-is : log .opened ≡ openedTable document01 servers own sheet returns (log .buffer)
-  unfolding onlyIf
-  opened-is = s .opens .out-is ∙ rw (← s .opens .answer-is) refl
+  unfolding unlessRefused
+  opened-is = s .opens .table-is ∙ rw (← s .opens .answer-is) refl
 
   by-ledger : tableAnswers document01 (log .opened) (map callOf (log .calls))
       ≡ ledgerAnswers document01 (openedWith servers own sheet returns) empty (map callOf (log .calls))
   by-ledger =
       let opens = sym (s .opens .answer-is) in
-      let known = opening document01 servers own sheet returns (length (log .buffer)) opens in
+      let B : Lent = log .buffer in
+      let known = opening document01 servers own sheet returns (length (B .bytes)) (length (B .slots)) (length (B .elements)) opens in
       let many = sheet-limits sheet (known .no-fault) .published-count in
-      ap (λ (x : List ℕ). tableAnswers document01 x (map callOf (log .calls))) opened-is
+      ap (λ (x : Lent). tableAnswers document01 x (map callOf (log .calls))) opened-is
       ∙ answers-same document01 document01-facts (openedWith servers own sheet returns) sheet
       (open-facts document01 document01-facts servers own sheet returns (log .buffer) opens) many
       (map callOf (log .calls)) _ empty (opened-beside document01 document01-facts servers own sheet returns (log .buffer) opens)

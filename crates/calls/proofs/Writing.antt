@@ -12,6 +12,8 @@ use lib.Seq.{take-at, drop-at}
 use Rattle.words.specs.Bytes.{splice}
 use Rattle.records.specs.Answers.{onlyIf, ifDone, Writes}
 use Rattle.rules.specs.Ledger.{Answer, refused, wrote}
+use Rattle.rules.specs.Table.{Lent}
+use Rattle.waiting.specs.Changes.{unlessRefused}
 use Rattle.pool_server.specs.Calls.{Leaves}
 use Rattle.calls.specs.Calls.{Untouched}
 
@@ -23,10 +25,14 @@ answer-same f x y h = go (eqb f 0) refl
     go true e = h (eqb-true f 0 e)
     go false e = refl
 
--- a table and a number behind a pointer, after a refusal
-pub table-kept : (f : ℕ) (new T T' : List ℕ) → Leaves f new T T' → (f ≡ 0 → ⊥) → T' ≡ T
-unfolding onlyIf
+-- a table, a buffer and a number behind a pointer, after a refusal
+pub table-kept : (f : ℕ) (new T T' : Lent) → Leaves f new T T' → (f ≡ 0 → ⊥) → T' ≡ T
+unfolding unlessRefused
 table-kept f new T T' l z = l ∙ rw (ne-eqb f 0 z) refl
+
+bytes-kept : (f : ℕ) (new out out' : List ℕ) → out' ≡ onlyIf f new out → (f ≡ 0 → ⊥) → out' ≡ out
+unfolding onlyIf
+bytes-kept f new out out' e z = e ∙ rw (ne-eqb f 0 z) refl
 
 pub number-kept : (f new old x : ℕ) → x ≡ ifDone f new old → (f ≡ 0 → ⊥) → x ≡ old
 unfolding ifDone
@@ -57,11 +63,10 @@ module _ (f : ℕ) (bytes : List ℕ) (n : ℕ) (out : List ℕ) (w a : ℕ) (ou
       ∙ answer-same f (wrote (take w' out')) (wrote bytes) (λ z. ap wrote (reads z))
 
   -- what it does not touch
-  pub untouched : (new T T' : List ℕ) → Leaves f new T T' → Untouched T out w a T' out' w'
-  unfolding onlyIf
+  pub untouched : (new T T' : Lent) → Leaves f new T T' → Untouched T out w a T' out' w'
   untouched new T T' l = record {
     at-refusal = λ h.
         let z : f ≡ 0 → ⊥ = λ q. h (W .answer-is ∙ q) in
-        (table-kept f new T T' l z, table-kept f _ out out' (W .out-is) z, number-kept f n w w' (W .written-is) z);
+        (table-kept f new T T' l z, bytes-kept f _ out out' (W .out-is) z, number-kept f n w w' (W .written-is) z);
     past-written = λ h. past (sym (W .answer-is) ∙ h);
   }

@@ -32,17 +32,17 @@ pub record Servers : Type 0 where
 -- the joined messages of the round calls that returned 0
 abbrev pub roundsIn : CCall → List (List ℕ)
 roundsIn (pool-share T m r s out w a T' out' w') = []
-roundsIn (pool-round-one T joined out w a T' out' w') = cond (eqb a 0) (joined ∷ []) []
-roundsIn (pool-round-two T joined v a T' v') = cond (eqb a 0) (joined ∷ []) []
-roundsIn (pool-drop T a T') = []
+roundsIn (pool-round-one T id joined out w a T' out' w') = cond (eqb a 0) (joined ∷ []) []
+roundsIn (pool-round-two T id joined v a T' v') = cond (eqb a 0) (joined ∷ []) []
+roundsIn (pool-drop T id a T') = []
 roundsIn (pool-close T out w a T' out' w') = []
 
 -- the bytes that pool_close wrote where it returned 0
 abbrev pub closingsIn : CCall → List (List ℕ)
 closingsIn (pool-share T m r s out w a T' out' w') = []
-closingsIn (pool-round-one T joined out w a T' out' w') = []
-closingsIn (pool-round-two T joined v a T' v') = []
-closingsIn (pool-drop T a T') = []
+closingsIn (pool-round-one T id joined out w a T' out' w') = []
+closingsIn (pool-round-two T id joined v a T' v') = []
+closingsIn (pool-drop T id a T') = []
 closingsIn (pool-close T out w a T' out' w') = cond (eqb a 0) (take w' out' ∷ []) []
 
 unfoldable pub over : (CCall → List (List ℕ)) → List CCall → List (List ℕ)

@@ -1,11 +1,10 @@
--- A part of a buffer lent to be filled, and the whole list put together from its pieces. Assumes nothing.
+-- The whole list put together from its pieces. Assumes nothing.
 use mathlib.Core.Path.{_≡_, refl, sym, ap, _∙_}
 use mathlib.Core.List.{List, [], _∷_, _++_, append-assoc}
-use Prim.Native.Nat.{ℕ, suc, _+_, _-_, _≤_}
+use Prim.Native.Nat.{ℕ, suc, _+_, _≤_}
 use native.Mathlib.Nat.{zero-add}
 use native.Mathlib.Omega.{arith}
-use borrow.Rule.Slice.PartMut.{putMid, post-is}
-use lib.ListN.{length, take, drop, length-append}
+use lib.ListN.{length, length-append}
 use Rattle.algebra.specs.Lists.{tabulate}
 use Rattle.algebra.proofs.Tables.{length-tabulate, tabulate-getD}
 use Rattle.words.specs.Bytes.{splice}
@@ -20,13 +19,6 @@ use Rattle.rules.specs.Making.{whole}
 use Rattle.rules.proofs.Returns.Whole.{length-whole}
 use Rattle.walk.specs.Walks.{members}
 use Rattle.client.specs.Pieces.{hValues}
-
--- what is put back where a part was lent
-pub part-put : (a e : ℕ) (s ys : List ℕ) → a ≤ e → e ≤ length s → length ys ≡ e - a → putMid a (e - a) s ys ≡ splice s a ys
-unfolding splice
-part-put a e s ys h k l =
-    let q : a + length ys ≡ e = omega arith in
-    rw (q, post-is a e s h) (sym (append-assoc (take a s) ys (drop e s)))
 
 -- ---- four runs one after another, from the front
 pub on : (s ys zs : List ℕ) (n : ℕ) → length ys ≡ n → n ≤ length s → splice (splice s 0 ys) n zs ≡ splice s 0 (ys ++ zs)

@@ -1,4 +1,3 @@
 -- Laws of dropping and closing.
-pub mod Stages
 pub mod Dropping
 pub mod Closing

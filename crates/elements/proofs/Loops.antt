@@ -9,8 +9,8 @@ use native.Mathlib.Nat.{mul-le-mul-left}
 use native.Mathlib.Numerals.{add-one}
 use native.Mathlib.Omega.{arith}
 use borrow.Author.Tests.{lt-ltb, le-ltb}
-use lib.ListN.{length, getD, take, drop, length-drop}
-use lib.Seq.{take-suc, length-take-le, drop-drop}
+use lib.ListN.{length, getD, take, drop, length-drop, drop-of-length-le}
+use lib.Seq.{take-suc, length-take-le, drop-drop, drop-cons}
 use Rattle.algebra.specs.Lists.{every}
 use Rattle.words.specs.Bytes.{valueOf, bytesOf, bytesOfAll, part, splice, elementsOf, allBelow}
 use Rattle.words.proofs.Splice.{splice-none}
@@ -49,25 +49,43 @@ below-none : (p : ℕ) → allBelow p [] ≡ true
 unfolding allBelow every
 below-none p = refl
 
--- the elements from place i, where f says whether those before are below p
+-- the run xs, where f says whether those before it are below p: its first member, or its end
+module _ (p : ℕ) (f : Bool) (xs : List ℕ) where
+  step-next : (x : ℕ) (ys : List ℕ) → xs ≡ x ∷ ys → x < p → (f && allBelow p xs) ≡ (f && allBelow p ys)
+  step-next x ys e h = ap (λ (l : List ℕ). f && allBelow p l) e ∙ ap (_&&_ f) (below-first p x ys h)
+
+  step-not : (x : ℕ) (ys : List ℕ) → xs ≡ x ∷ ys → p ≤ x → (f && allBelow p xs) ≡ false
+  step-not x ys e h =
+      ap (λ (l : List ℕ). f && allBelow p l) e ∙ ap (_&&_ f) (below-not p x ys h) ∙ and-false f
+
+  step-end : xs ≡ [] → (f && allBelow p xs) ≡ f
+  step-end e = ap (λ (l : List ℕ). f && allBelow p l) e ∙ ap (_&&_ f) (below-none p) ∙ and-true f
+
+-- the elements from byte i
 module _ (w : ℕ) (pos : 0 < w) (p : ℕ) (s : List ℕ) (i : ℕ) (f : Bool) where
   front : w ≤ length s - i → elementsOf w (drop i s) ≡ valueOf (part i w s) ∷ elementsOf w (drop (i + w) s)
   front h = elements-next w pos (drop i s) (rw length-drop h) ∙ rw (drop-drop w i s)
 
   pub test-next : w ≤ length s - i → valueOf (part i w s) < p
       → (f && allBelow p (elementsOf w (drop i s))) ≡ (f && allBelow p (elementsOf w (drop (i + w) s)))
-  test-next h b =
-      ap (λ (l : List ℕ). f && allBelow p l) (front h)
-      ∙ ap (_&&_ f) (below-first p (valueOf (part i w s)) (elementsOf w (drop (i + w) s)) b)
+  test-next h = step-next p f (elementsOf w (drop i s)) _ _ (front h)
 
   pub test-not : w ≤ length s - i → p ≤ valueOf (part i w s) → (f && allBelow p (elementsOf w (drop i s))) ≡ false
-  test-not h b =
-      ap (λ (l : List ℕ). f && allBelow p l) (front h)
-      ∙ ap (_&&_ f) (below-not p (valueOf (part i w s)) (elementsOf w (drop (i + w) s)) b)
-      ∙ and-false f
+  test-not h = step-not p f (elementsOf w (drop i s)) _ _ (front h)
 
   pub test-end : length s - i < w → (f && allBelow p (elementsOf w (drop i s))) ≡ f
-  test-end h =
-      ap (λ (l : List ℕ). f && allBelow p l) (elements-end w pos (drop i s) (rw length-drop h))
-      ∙ ap (_&&_ f) (below-none p)
-      ∙ and-true f
+  test-end h = step-end p f (elementsOf w (drop i s)) (elements-end w pos (drop i s) (rw length-drop h))
+
+-- the numbers from place i
+module _ (p : ℕ) (xs : List ℕ) (i : ℕ) (f : Bool) where
+  behind : i < length xs → drop i xs ≡ getD xs i 0 ∷ drop (i + 1) xs
+  behind h = rw (add-one, drop-cons xs i 0)
+
+  pub number-next : i < length xs → getD xs i 0 < p → (f && allBelow p (drop i xs)) ≡ (f && allBelow p (drop (i + 1) xs))
+  number-next h = step-next p f (drop i xs) _ _ (behind h)
+
+  pub number-not : i < length xs → p ≤ getD xs i 0 → (f && allBelow p (drop i xs)) ≡ false
+  number-not h = step-not p f (drop i xs) _ _ (behind h)
+
+  pub number-end : length xs ≤ i → (f && allBelow p (drop i xs)) ≡ f
+  number-end h = step-end p f (drop i xs) (drop-of-length-le xs h)

@@ -51,3 +51,18 @@ pub fn below(s: &[u8], bound: u32) -> bool
     }
     below
 }
+
+// Whether each of a run of numbers is below `bound`. The loop looks at all of them: so it takes several in a turn.
+pub fn all_below(xs: &[u32], bound: u32) -> bool
+    ensures { λ r. ⌜ r ≡ allBelow bound (now (xs .entry)) ⌝ }
+{
+    let mut i: usize = 0;
+    let mut below = true;
+    while i < xs.len() {
+        if bound <= xs[i] {
+            below = false;
+        }
+        i += 1;
+    }
+    below
+}

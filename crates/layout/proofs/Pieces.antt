@@ -1,46 +1,29 @@
--- What is written piece after piece: cleared bytes, the header of a fresh table, a return noted among those decided, the
--- closing message. A piece goes where the one before ends (`grow`). Assumes that the pieces lie within the buffer.
-use mathlib.Core.Path.{_≡_, refl, sym, ap, _∙_}
+-- What is written piece after piece: the header of a fresh table, a return noted among those decided, the closing message.
+-- A piece goes where the one before ends (`grow`). Assumes that the pieces lie within the buffer.
+use mathlib.Core.Path.{_≡_, refl}
 use mathlib.Core.List.{List, [], _∷_, _++_}
-use Prim.Native.Nat.{ℕ, _+_, _*_, _-_, _≤_, _<_}
+use Prim.Native.Nat.{ℕ, _+_, _*_, _-_, _≤_}
 use native.Mathlib.Omega.{arith}
-use lib.ListN.{length, getD, set, take, drop, replicate, length-append, length-replicate, getD-replicate}
-use lib.Seq.{take-all}
+use lib.ListN.{length, set, take, drop, length-append}
 use Rattle.words.specs.Bytes.{bytesOf, part, splice}
 use Rattle.words.proofs.Numbers.{length-bytes}
-use Rattle.words.proofs.Loops.{sets-splice, grow, copy-next}
+use Rattle.words.proofs.Loops.{sets-splice, grow}
 use Rattle.totals_message.specs.Totals.{totalsHeader}
 use Rattle.totals_message.proofs.Writing.{length-totals-header}
 use Rattle.layout.specs.Places.{totalsAt, idsAt}
 use Rattle.layout.specs.Writing.{startBytes, noted, closingBytes}
 use Rattle.layout.specs.declared.Table.{Table}
 
--- ---- cleared bytes
-module _ (s : List ℕ) (a n i : ℕ) where
-  pub clear-next : a + n ≤ length s → i < n
-      → set (splice s a (take i (replicate n 0))) (a + i) 0 ≡ splice s a (take (i + 1) (replicate n 0))
-  clear-next h k =
-      let zeros : List ℕ = replicate n 0 in
-      let l : length zeros ≡ n = length-replicate n 0 in
-      let e : getD zeros i 0 ≡ 0 = getD-replicate n i 0 0 k in
-      ap (λ (v : ℕ). set (splice s a (take i zeros)) (a + i) v) (sym e) ∙ copy-next s a zeros i (omega arith) (omega arith)
-
-  pub clear-all : n ≤ i → splice s a (take i (replicate n 0)) ≡ splice s a (replicate n 0)
-  clear-all h =
-      let zeros : List ℕ = replicate n 0 in
-      let l : length zeros ≡ n = length-replicate n 0 in
-      ap (splice s a) (take-all i zeros (omega arith))
-
 -- ---- the header of a fresh table
 pub start-written : (s : List ℕ) (servers own returns n : ℕ) → 12 ≤ length s
     → splice
     (splice
     (splice
-    (splice (set (set (set (set s 0 1) 1 0) 2 servers) 3 own) 4 (bytesOf 2 returns)) 6 (bytesOf 2 0)) 8 (bytesOf 2 0)) 10 (bytesOf 2 n)
+    (splice (set (set (set (set s 0 2) 1 0) 2 servers) 3 own) 4 (bytesOf 2 returns)) 6 (bytesOf 2 0)) 8 (bytesOf 2 0)) 10 (bytesOf 2 n)
     ≡ splice s 0 (startBytes servers own returns n)
 unfolding startBytes
 start-written s servers own returns n h =
-    let first : List ℕ = 1 ∷ 0 ∷ servers ∷ own ∷ [] in
+    let first : List ℕ = 2 ∷ 0 ∷ servers ∷ own ∷ [] in
     let six : length (first ++ bytesOf 2 returns) ≡ 6 = simp length-bytes in
     let eight : length (first ++ bytesOf 2 returns ++ bytesOf 2 0) ≡ 8 = simp (length-append, length-bytes) in
     let ten : length (first ++ bytesOf 2 returns ++ bytesOf 2 0 ++ bytesOf 2 0) ≡ 10 = simp (length-append, length-bytes) in

@@ -4,9 +4,12 @@ use mathlib.Core.Path.{_≡_, refl}
 use mathlib.Core.List.{List}
 use Prim.Native.Nat.{ℕ}
 use Rattle.rules.specs.Settings.{document01}
-use Rattle.rules.specs.Columns.{Column, publishedIn}
-use Rattle.rules.specs.Table.{totalsPlace, idsPlace, waitPlace}
-use Rattle.layout.specs.Places.{totalsAt, idsAt, waitAt}
+use Rattle.rules.specs.Columns.{Column, entriesIn, publishedIn}
+use Rattle.rules.specs.Judging.{shareSize}
+use Rattle.rules.specs.Circuit.{gatesIn}
+use Rattle.rules.specs.WaitingList.{placeSize}
+use Rattle.rules.specs.Table.{totalsPlace, idsPlace, tableLength}
+use Rattle.layout.specs.Places.{totalsAt, idsAt, lengthAt, placeSizeOf}
 
 module _ (n : ℕ) (cs : List Column) (returns : ℕ) where
   pub totals-place : totalsPlace document01 n cs returns ≡ totalsAt n
@@ -17,6 +20,10 @@ module _ (n : ℕ) (cs : List Column) (returns : ℕ) where
   unfolding idsPlace
   ids-place = refl
 
-  pub wait-place : waitPlace document01 n cs returns ≡ waitAt n (publishedIn cs) returns
-  unfolding waitPlace
-  wait-place = refl
+  pub table-length : tableLength document01 n cs returns ≡ lengthAt n (publishedIn cs) returns
+  unfolding tableLength
+  table-length = refl
+
+pub place-size : (cs : List Column) → placeSize cs ≡ placeSizeOf (entriesIn cs) (gatesIn cs)
+unfolding shareSize
+place-size cs = refl

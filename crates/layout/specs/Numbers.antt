@@ -29,7 +29,7 @@ tableOf T =
 
 -- the numbers of a table whose header and sheet are sound
 pub record Limited (k : Table) : Type 0 where
-  pub stage-most : k .stage ≤ 3
+  pub stage-most : k .stage ≤ 1
   pub servers-some : 2 ≤ k .servers
   pub servers-few : k .servers ≤ 8
   pub own-one : k .own < k .servers

@@ -1,7 +1,8 @@
--- The places of a table by plain numbers: the length n of the sheet, the published entries and N. Behind the ids decided
--- stands the return that waits. They are rules' places at document 01's setting (proofs/Positions).
+-- The places of a table by plain numbers: the length n of the sheet, the published entries and N; and the numbers of a place in
+-- the run of numbers. They are rules' places at document 01's setting (proofs/Positions).
 -- Assumes nothing.
 use Prim.Native.Nat.{ℕ, _+_, _*_, _≤_}
+use Rattle.limits.specs.Sheets.{sizeOf}
 
 abbrev pub totalsAt : ℕ → ℕ
 totalsAt n = 12 + n
@@ -9,8 +10,12 @@ totalsAt n = 12 + n
 abbrev pub idsAt : ℕ → ℕ → ℕ
 idsAt n published = 12 + n + 4 * published
 
-abbrev pub waitAt : ℕ → ℕ → ℕ → ℕ
-waitAt n published returns = 12 + n + 4 * published + 4 * returns
+abbrev pub lengthAt : ℕ → ℕ → ℕ → ℕ
+lengthAt n published returns = 12 + n + 4 * published + 4 * returns
+
+-- rules' placeSize: the elements of a share, and two numbers more
+abbrev pub placeSizeOf : ℕ → ℕ → ℕ
+placeSizeOf entries gates = sizeOf entries gates + 2
 
 -- the numbers of a sheet that is read, and of N
 pub record Small (n published returns : ℕ) : Type 0 where

@@ -5,14 +5,14 @@ use Prim.Native.Nat.{ℕ, _+_, _*_, _≤_, _<_}
 use lib.ListN.{length}
 use Rattle.words.specs.Bytes.{bytesOf, part, splice}
 use Rattle.totals_message.specs.Totals.{totalsHeader}
-use Rattle.layout.specs.Places.{totalsAt, idsAt, waitAt}
+use Rattle.layout.specs.Places.{totalsAt, idsAt, lengthAt}
 use Rattle.layout.specs.Numbers.{Limited}
 use Rattle.layout.specs.declared.Table.{Table}
 
 -- the header of a fresh table
 unfoldable pub startBytes : ℕ → ℕ → ℕ → ℕ → List ℕ
 startBytes servers own returns n =
-    (1 ∷ 0 ∷ servers ∷ own ∷ []) ++ bytesOf 2 returns ++ bytesOf 2 0 ++ bytesOf 2 0 ++ bytesOf 2 n
+    (2 ∷ 0 ∷ servers ∷ own ∷ []) ++ bytesOf 2 returns ++ bytesOf 2 0 ++ bytesOf 2 0 ++ bytesOf 2 n
 
 -- a table with the counts and the id of one return more that is decided
 unfoldable pub noted : Table → ℕ → ℕ → List ℕ → List ℕ
@@ -25,7 +25,7 @@ noted k accepted id t =
 -- a return more can be decided
 pub record Decidable (t : List ℕ) (k : Table) : Type 0 where
   pub limited : Limited k
-  pub ids-long : waitAt (k .sheet) (k .published) (k .returns) ≤ length t
+  pub ids-long : lengthAt (k .sheet) (k .published) (k .returns) ≤ length t
   pub some-room : k .decided < k .returns
   pub accepted-few : k .accepted ≤ k .decided
 

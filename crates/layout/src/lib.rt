@@ -1,16 +1,15 @@
-// A server's table in lent bytes, but for the return that waits: the numbers that it says, its places by them, the header of a
-// fresh table and the closing message. The contracts cite specs/.
+// The bytes of a server's table: the numbers that they say, their places, the header of a fresh table and the closing
+// message. The contracts cite specs/.
 pub mod places;
 pub mod writing;
 
+// The first byte of a table.
+pub const TABLE: u8 = 2;
+
 // The stages of a table.
-pub const IDLE: u8 = 0;
+pub const OPEN: u8 = 0;
 
-pub const AWAITS_ONE: u8 = 1;
-
-pub const AWAITS_TWO: u8 = 2;
-
-pub const CLOSED: u8 = 3;
+pub const CLOSED: u8 = 1;
 
 // What a table says: its header, and what its sheet comes to.
 pub struct Table {

@@ -1,9 +1,9 @@
-// The places of a table up to the return that waits: by what it says, and by plain numbers for a table that is not yet written.
+// The places of a table: by what it says, and by plain numbers for a table that is not yet written.
 ghost use mathlib.Core.Path.{_≡_};
 ghost use Prim.Native.Nat.{_+_, _≤_};
 ghost use lib.ListN.{length};
 ghost use Rattle.words.specs.Bytes.{part};
-ghost use Rattle.layout.specs.Places.{totalsAt, idsAt, waitAt, Small};
+ghost use Rattle.layout.specs.Places.{totalsAt, idsAt, lengthAt, placeSizeOf, Small};
 ghost use Rattle.limits.specs.Sheets.{sizeOf};
 ghost use Rattle.layout.specs.Numbers.{Limited};
 use crate::Table;
@@ -17,10 +17,10 @@ pub fn sheet_part<'a>(t: &'a [u8], n: usize) -> &'a [u8]
     &t[12..end]
 }
 
-// Behind sheet, totals and ids decided: the return that waits.
-pub fn wait_at(n: usize, published: usize, returns: u32) -> usize
+// The bytes of a table: its header, its sheet, the totals and room for N ids.
+pub fn table_length(n: usize, published: usize, returns: u32) -> usize
     requires { ⌜ Small n published returns ⌝ }
-    ensures { λ r. ⌜ r ≡ waitAt n published returns ⌝ }
+    ensures { λ r. ⌜ r ≡ lengthAt n published returns ⌝ }
 {
     12 + n + 4 * published + 4 * (returns as usize)
 }
@@ -42,12 +42,12 @@ impl Table {
         self.totals_place() + 4 * self.published
     }
 
-    // Then the return that waits.
-    pub fn wait_place(self) -> usize
+    // Where it ends.
+    pub fn length(self) -> usize
         requires { ⌜ Limited self ⌝ }
-        ensures { λ r. ⌜ r ≡ waitAt (self .sheet) (self .published) (self .returns) ⌝ }
+        ensures { λ r. ⌜ r ≡ lengthAt (self .sheet) (self .published) (self .returns) ⌝ }
     {
-        wait_at(self.sheet, self.published, self.returns)
+        table_length(self.sheet, self.published, self.returns)
     }
 
     // The elements of a share.
@@ -56,5 +56,13 @@ impl Table {
         ensures { λ r. ⌜ r ≡ sizeOf (self .entries) (self .gates) ⌝ }
     {
         limits::share_size(self.entries, self.gates)
+    }
+
+    // The numbers of a place: the elements of a share, and two more.
+    pub fn place_size(self) -> usize
+        requires { ⌜ Limited self ⌝ }
+        ensures { λ r. ⌜ r ≡ placeSizeOf (self .entries) (self .gates) ⌝ }
+    {
+        self.share_size() + 2
     }
 }

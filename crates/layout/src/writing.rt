@@ -4,7 +4,8 @@ ghost use Prim.Native.Nat.{_+_, _≤_};
 ghost use lib.ListN.{length, replicate};
 ghost use Rattle.words.specs.Bytes.{splice};
 ghost use Rattle.layout.specs.Writing.{startBytes, noted, Decidable, closingBytes, Closable};
-use crate::IDLE;
+use crate::OPEN;
+use crate::TABLE;
 use crate::Table;
 
 // Clears n bytes from `at`.
@@ -24,8 +25,8 @@ pub fn write_start(t: &mut [u8], servers: u8, own: u8, returns: u32, n: u32)
     requires { ⌜ 12 ≤ length (now t) ⌝ }
     ensures { λ _. ⌜ now (t .exit) ≡ splice (now (t .entry)) 0 (startBytes servers own returns n) ⌝ }
 {
-    t[0] = 1;
-    t[1] = IDLE;
+    t[0] = TABLE;
+    t[1] = OPEN;
     t[2] = servers;
     t[3] = own;
     words::write_u16(t, 4, returns);

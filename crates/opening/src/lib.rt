@@ -1,47 +1,82 @@
-// Opening a server's table. The definitions that the contracts cite are those of the crate rules, at document 01's
-// setting, and of specs/. A refusal leaves the buffer as it was.
+// Opening a server's table. The definitions that the contracts cite are those of the crate rules, at document 01's setting, and
+// of specs/. A refusal leaves what is lent as it was.
 ghost use mathlib.Core.Path.{_≡_};
-ghost use Rattle.records.specs.Answers.{answered};
-ghost use Rattle.rules.specs.Settings.{document01};
-ghost use Rattle.rules.specs.Table.{openRefusal, openLength};
 ghost use Rattle.words.specs.Bytes.{splice};
+ghost use Rattle.rules.specs.Settings.{document01};
+ghost use Rattle.rules.specs.Table.{openRefusal};
 ghost use Rattle.opening.specs.Calls.{Opens};
-ghost use Rattle.opening.specs.Fresh.{freshBytes, Roomy};
+ghost use Rattle.opening.specs.Fresh.{sizeFor, roomBy, roomFor, freshBytes, Roomy};
+use layout::places::table_length;
 use layout::writing::clear;
 use layout::writing::write_start;
 use limits::share_size;
-use records::Written;
 use sheet::Reading;
 use sheet::returns::returns_refusal;
-use waiting::places::table_length;
+use waiting::writing::erase;
 
-// What opening answers, where the table's buffer holds so many bytes.
-fn open_checked(servers: u32, own: u32, sheet: &[u8], returns: u32, room: usize) -> Written
-    ensures { λ r. ⌜ r ≡ answered (openRefusal document01 servers own (now (sheet .entry)) returns room)
-        (openLength document01 (now (sheet .entry)) returns) ⌝ }
+// What a table takes besides its records.
+pub struct Size {
+    pub bytes: usize,
+    pub numbers: usize,
+}
+
+// The room that a table takes, or the number of the refusal.
+pub enum Room {
+    For(Size),
+    Refused(u32),
+}
+
+// Whether so many bytes, records and numbers have room for a table: it takes eight records.
+fn has_room(size: Size, room: usize, records: usize, numbers: usize) -> bool
+    ensures { λ r. ⌜ r ≡ roomFor size room records numbers ⌝ }
+{
+    if room < size.bytes {
+        return false;
+    }
+    if records != 8 {
+        return false;
+    }
+    size.numbers <= numbers
+}
+
+// The room that opening takes, where so many bytes, records and numbers are lent.
+fn open_checked(
+    servers: u32,
+    own: u32,
+    sheet: &[u8],
+    returns: u32,
+    room: usize,
+    records: usize,
+    numbers: usize,
+) -> Room
+    ensures { λ r. ⌜ r ≡ roomBy (openRefusal document01 servers own (now (sheet .entry)) returns room records numbers)
+        (sizeFor (now (sheet .entry)) returns) ⌝ }
 {
     if servers < limits::MIN_SERVERS {
-        return Written::Refused(2);
+        return Room::Refused(2);
     }
     if limits::MAX_SERVERS < servers {
-        return Written::Refused(2);
+        return Room::Refused(2);
     }
     if servers <= own {
-        return Written::Refused(2);
+        return Room::Refused(2);
     }
     match sheet::read(sheet) {
-        Reading::Refused(fault) => Written::Refused(fault),
+        Reading::Refused(fault) => Room::Refused(fault),
         Reading::Counts(counts) => {
             let fault = returns_refusal(sheet, returns);
             if fault != 0 {
-                return Written::Refused(fault);
+                return Room::Refused(fault);
             }
-            let share = share_size(counts.entries, counts.gates);
-            let size = table_length(sheet.len(), counts.published, returns, share);
-            if room < size {
-                return Written::Refused(14);
+            let place = share_size(counts.entries, counts.gates) + 2;
+            let size = Size {
+                bytes: table_length(sheet.len(), counts.published, returns),
+                numbers: place * 8,
+            };
+            if !has_room(size, room, records, numbers) {
+                return Room::Refused(14);
             }
-            Written::Done(size)
+            Room::For(size)
         }
     }
 }
@@ -57,15 +92,35 @@ fn write_fresh(table: &mut [u8], servers: u8, own: u8, sheet: &[u8], returns: u3
     clear(table, end, size - end);
 }
 
-// Opens a table in a buffer, from its start.
-pub fn open(servers: u32, own: u32, sheet: &[u8], returns: u32, table: &mut [u8]) -> Written
-    ensures { λ r. ⌜ Opens servers own (now (sheet .entry)) returns (now (table .entry)) r (now (table .exit)) ⌝ }
+// Opens a table in the bytes and numbers that are lent, from their start.
+pub fn open(
+    servers: u32,
+    own: u32,
+    sheet: &[u8],
+    returns: u32,
+    table: &mut [u8],
+    records: usize,
+    numbers: &mut [u32],
+    written: &mut usize,
+) -> u32
+    ensures { λ r. ⌜ Opens servers own (now (sheet .entry)) returns (now (table .entry)) records (now (numbers .entry))
+        (now (written .entry)) r (now (table .exit)) (now (numbers .exit)) (now (written .exit)) ⌝ }
 {
-    match open_checked(servers, own, sheet, returns, table.len()) {
-        Written::Refused(fault) => Written::Refused(fault),
-        Written::Done(size) => {
-            write_fresh(table, servers as u8, own as u8, sheet, returns, size);
-            Written::Done(size)
+    match open_checked(
+        servers,
+        own,
+        sheet,
+        returns,
+        table.len(),
+        records,
+        numbers.len(),
+    ) {
+        Room::Refused(fault) => fault,
+        Room::For(size) => {
+            write_fresh(table, servers as u8, own as u8, sheet, returns, size.bytes);
+            erase(numbers, 0, size.numbers);
+            *written = size.bytes;
+            0
         }
     }
 }

@@ -1,1 +1,3 @@
-pub mod Verdicts
+-- What the C functions' promises need of the calls': eight records or none.
+pub mod Eight
+pub mod Facts

@@ -1,9 +1,11 @@
-// The C functions of a server, on its table: each hands its arguments to one call and its answer to the host, and has no
-// rules of its own.
+// The C functions of a server, on its table of three lent parts: bytes, the waiting list, and the run of numbers. Each copies
+// the eight records, hands everything to one call, and writes back the one record that the call changed; none has rules of
+// its own.
 // include/pool.h tells a host how to use them. Each takes any arguments and returns 0 or the number of the refusal; the
 // promises (specs/Calls) are equalities with rules' definitions at document 01's setting.
+ghost use Rattle.waiting.specs.Changes.{lent};
 ghost use Rattle.pool_server.specs.Calls.{Opens, TakesShare, TakesOne, Decides, Drops, Closes};
-use round_two::Verdict;
+use slots::Slot;
 
 #[no_mangle]
 pub extern "C" fn pool_open(
@@ -12,71 +14,117 @@ pub extern "C" fn pool_open(
     sheet: &[u8],
     returns: u32,
     table: &mut [u8],
+    slots: &mut [Slot],
+    elements: &mut [u32],
     written: &mut usize,
 ) -> u32
-    ensures { λ a. ⌜ Opens servers own (now (sheet .entry)) returns (now (table .entry)) (now (written .entry))
-        a (now (table .exit)) (now (written .exit)) ⌝ }
+    ensures { λ a. ⌜ Opens servers own (now (sheet .entry)) returns
+        (lent (now (table .entry)) (now (slots .entry)) (now (elements .entry))) (now (written .entry))
+        a (lent (now (table .exit)) (now (slots .exit)) (now (elements .exit))) (now (written .exit)) ⌝ }
 {
-    records::hand_back(opening::open(servers, own, sheet, returns, table), written)
+    let records = slots.len();
+    let refusal = opening::open(
+        servers,
+        own,
+        sheet,
+        returns,
+        table,
+        records,
+        elements,
+        written,
+    );
+    slots::clear(slots, refusal);
+    refusal
 }
 
 #[no_mangle]
 pub extern "C" fn pool_share(
-    table: &mut [u8],
+    table: &[u8],
+    slots: &mut [Slot],
+    elements: &mut [u32],
     message: &[u8],
     r: u64,
     s: u64,
     out: &mut [u8],
     written: &mut usize,
 ) -> u32
-    ensures { λ a. ⌜ TakesShare (now (table .entry)) (now (message .entry)) r s (now (out .entry)) (now (written .entry))
-        a (now (table .exit)) (now (out .exit)) (now (written .exit)) ⌝ }
+    ensures { λ a. ⌜ TakesShare (lent (now (table .entry)) (now (slots .entry)) (now (elements .entry)))
+        (now (message .entry)) r s (now (out .entry)) (now (written .entry))
+        a (lent (now (table .entry)) (now (slots .exit)) (now (elements .exit))) (now (out .exit)) (now (written .exit)) ⌝ }
 {
-    records::hand_back(shares::share(table, message, r, s, out), written)
+    let list = slots::copied(slots);
+    let change = shares::share(table, list, elements, message, r, s, out, written);
+    slots::apply(slots, change);
+    change.refusal
 }
 
 #[no_mangle]
 pub extern "C" fn pool_round_one(
-    table: &mut [u8],
+    table: &[u8],
+    slots: &mut [Slot],
+    elements: &[u32],
+    id: u32,
     joined: &[u8],
     out: &mut [u8],
     written: &mut usize,
 ) -> u32
-    ensures { λ a. ⌜ TakesOne (now (table .entry)) (now (joined .entry)) (now (out .entry)) (now (written .entry))
-        a (now (table .exit)) (now (out .exit)) (now (written .exit)) ⌝ }
+    ensures { λ a. ⌜ TakesOne (lent (now (table .entry)) (now (slots .entry)) (now (elements .entry)))
+        id (now (joined .entry)) (now (out .entry)) (now (written .entry))
+        a (lent (now (table .entry)) (now (slots .exit)) (now (elements .entry))) (now (out .exit)) (now (written .exit)) ⌝ }
 {
-    records::hand_back(round_one::round_one(table, joined, out), written)
+    let list = slots::copied(slots);
+    let change = round_one::round_one(table, list, elements, id, joined, out, written);
+    slots::apply(slots, change);
+    change.refusal
 }
 
 #[no_mangle]
-pub extern "C" fn pool_round_two(table: &mut [u8], joined: &[u8], accepted: &mut u32) -> u32
-    ensures { λ a. ⌜ Decides (now (table .entry)) (now (joined .entry)) (now (accepted .entry))
-        a (now (table .exit)) (now (accepted .exit)) ⌝ }
+pub extern "C" fn pool_round_two(
+    table: &mut [u8],
+    slots: &mut [Slot],
+    elements: &mut [u32],
+    id: u32,
+    joined: &[u8],
+    accepted: &mut u32,
+) -> u32
+    ensures { λ a. ⌜ Decides (lent (now (table .entry)) (now (slots .entry)) (now (elements .entry)))
+        id (now (joined .entry)) (now (accepted .entry))
+        a (lent (now (table .exit)) (now (slots .exit)) (now (elements .exit))) (now (accepted .exit)) ⌝ }
 {
-    match round_two::round_two(table, joined) {
-        Verdict::Refused(refusal) => refusal,
-        Verdict::Accepted => {
-            *accepted = 1;
-            0
-        }
-        Verdict::Rejected => {
-            *accepted = 0;
-            0
-        }
-    }
+    let list = slots::copied(slots);
+    let change = round_two::round_two(table, list, elements, id, joined, accepted);
+    slots::apply(slots, change);
+    change.refusal
 }
 
 #[no_mangle]
-pub extern "C" fn pool_drop(table: &mut [u8]) -> u32
-    ensures { λ a. ⌜ Drops (now (table .entry)) a (now (table .exit)) ⌝ }
+pub extern "C" fn pool_drop(
+    table: &mut [u8],
+    slots: &mut [Slot],
+    elements: &mut [u32],
+    id: u32,
+) -> u32
+    ensures { λ a. ⌜ Drops (lent (now (table .entry)) (now (slots .entry)) (now (elements .entry))) id
+        a (lent (now (table .exit)) (now (slots .exit)) (now (elements .exit))) ⌝ }
 {
-    closing::drop(table)
+    let list = slots::copied(slots);
+    let change = closing::drop(table, list, elements, id);
+    slots::apply(slots, change);
+    change.refusal
 }
 
 #[no_mangle]
-pub extern "C" fn pool_close(table: &mut [u8], out: &mut [u8], written: &mut usize) -> u32
-    ensures { λ a. ⌜ Closes (now (table .entry)) (now (out .entry)) (now (written .entry))
-        a (now (table .exit)) (now (out .exit)) (now (written .exit)) ⌝ }
+pub extern "C" fn pool_close(
+    table: &mut [u8],
+    slots: &[Slot],
+    elements: &[u32],
+    out: &mut [u8],
+    written: &mut usize,
+) -> u32
+    ensures { λ a. ⌜ Closes (lent (now (table .entry)) (now (slots .entry)) (now (elements .entry)))
+        (now (out .entry)) (now (written .entry))
+        a (lent (now (table .exit)) (now (slots .entry)) (now (elements .entry))) (now (out .exit)) (now (written .exit)) ⌝ }
 {
-    records::hand_back(closing::close(table, out), written)
+    let list = slots::copied(slots);
+    closing::close(table, list, elements, out, written)
 }

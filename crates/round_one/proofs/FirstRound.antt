@@ -1,161 +1,148 @@
--- Round one: the refusal, the table and the message in the numbers of code are those of rules. Assumes nothing.
-use mathlib.Core.Path.{_≡_, refl, sym, _∙_}
-use mathlib.Core.Bool.{false}
+-- Round one: the refusal, the record and the message in the numbers of code are those of rules, for the return that the id names.
+-- A call that names none is refused 11 (`one-refusal` of the crate rounds). Assumes nothing.
+use mathlib.Core.Path.{_≡_, refl, sym, ap, _∙_}
+use mathlib.Core.Bool.{false, cond, _&&_}
 use mathlib.Core.List.{List}
-use Prim.Native.Nat.{ℕ, zero, suc, _≤_, _<_}
+use Prim.Native.Nat.{ℕ, _≤_, _<_}
 use native.Mathlib.Omega.{arith}
 use borrow.Author.Tests.{le-leb, lt-leb, leb-true, ne-eqb}
 use lib.Dec.{eqb, leb}
 use lib.ListN.{length}
 use Rattle.words.specs.Bytes.{splice}
-use Rattle.records.specs.Answers.{answered, onlyIf}
-use Rattle.records.specs.declared.Written.the-variants as answer
+use Rattle.records.specs.Answers.{onlyIf, ifDone}
+use Rattle.records.specs.Outcome.{orElse}
 use Rattle.records.proofs.Outcome.{or-none, or-first, or-zero}
+use Rattle.slots.specs.declared.Slot.{Slot}
+use Rattle.slots.specs.Slots.{applied}
 use Rattle.rules.specs.Settings.{document01}
 use Rattle.rules.specs.Columns.{check}
-use Rattle.rules.specs.Messages.{roundFault, roundMessage, firstSum, secondSum}
+use Rattle.rules.specs.Messages.{roundFault, roundMessage}
 use Rattle.rules.specs.Server as rules
-use Rattle.rules.specs.Server.{whileOne, oneRefusal}
-use Rattle.rules.specs.Server.{messageOne, messageTwo, sigmaIn, summed}
-use Rattle.rules.specs.Table.{stageByte, serversIn, ownIn, openedIn, waitingIn, stageIn, tableState, tableFault}
-use Rattle.rules.specs.Table.{oneRefused, oneTable, oneBytes}
-use Rattle.rules.proofs.Circuits.Limits.{within-is}
+use Rattle.rules.specs.Server.{oneRefusal, messageOne, messageTwo, summed}
+use Rattle.rules.specs.WaitingList.{waitingAt, placeOf}
+use Rattle.rules.specs.Table.{Lent, serversIn, ownIn, openedIn, tableState, tableSound, waitingUnder}
+use Rattle.rules.specs.Table.{oneRefused, oneTaken, oneTable, oneBytes}
 use Rattle.steps.proofs.Parts.{check-holds}
 use Rattle.round_message.proofs.Rounds.{rounds-summable}
 use Rattle.layout.specs.Numbers.{tableOf}
 use Rattle.layout.specs.declared.Table.{Table}
-use Rattle.table.specs.Reading.{foundIn, Sound}
-use Rattle.table.specs.declared.Found.the-variants as found
-use Rattle.table.proofs.Answers.{unsound}
 use Rattle.waiting.specs.declared.Waiting.{Waiting}
-use Rattle.waiting.specs.Held.{waitsIn}
-use Rattle.waiting.specs.Writing.{summedAs}
-use Rattle.waiting.proofs.Written.{summed-is}
-use Rattle.rounds.specs.Waits.{Waits, sigmaAt}
-use Rattle.round_one.specs.One.{oneJoinedFault, oneFaultAt, OneReady}
+use Rattle.waiting.specs.Held.{heldAt}
+use Rattle.waiting.specs.Changes.{refusedBy, recordsAt, lent}
+use Rattle.waiting.proofs.Changes.{refused-changes, done-changes}
+use Rattle.rounds.specs.Waits.{slotIn, numbersIn, heldIn}
+use Rattle.rounds.specs.Named.{waitsAs, namedIn}
+use Rattle.rounds.specs.declared.named.Named.the-variants as answer
+use Rattle.rounds.proofs.Holding.{sharing, sigma-is}
+use Rattle.rounds.proofs.Naming.{one-refusal, not-found, Names}
+use Rattle.round_one.specs.One.{oneFaultAt, summedSlot, messageAt, OneReady}
 use Rattle.round_one.specs.Calls.{RoundOne}
-use Rattle.rounds.proofs.Holding.{waits-in, stageOf, sound-fault}
 
--- ---- the refusal
-joined-at : (T joined : List ℕ)
-    → roundFault document01 (tableOf T .servers) 34 (waitsIn T .id) (tableOf T .own)
-    (roundMessage document01 34 (waitsIn T .id) (tableOf T .own) (waitsIn T .d) (waitsIn T .e)) joined
-    ≡ oneJoinedFault T joined
-unfolding oneJoinedFault messageOne tableOf waitsIn
-joined-at T joined = refl
-
-module _ (T joined : List ℕ) (k : Table) (w : Waiting) (s : k ≡ tableOf T) (q : w ≡ waitsIn T) (f : ℕ)
-    (e : f ≡ roundFault document01 (k .servers) 34 (w .id) (k .own)
-    (roundMessage document01 34 (w .id) (k .own) (w .d) (w .e)) joined) where
-  joined-is : f ≡ oneJoinedFault T joined
-  joined-is = rw (s, q, joined-at T joined) at e
-
-  pub one-joined : (room : ℕ) → (f ≡ 0 → ⊥) → f ≡ oneFaultAt T joined room
+-- ---- the checks, in their order
+module _ (k : Table) (w : Waiting) (joined : List ℕ) (f : ℕ)
+    (e : f
+    ≡ roundFault document01 (k .servers) 34 (w .id) (k .own) (roundMessage document01 34 (w .id) (k .own) (w .d) (w .e)) joined) where
+  pub one-joined : (room : ℕ) → (f ≡ 0 → ⊥) → f ≡ oneFaultAt k w joined room
   unfolding oneFaultAt
-  one-joined room n = rw (← joined-is) (sym (or-first f _ n))
+  one-joined room n = rw (← e) (sym (or-first f _ n))
 
-  pub one-short : (room : ℕ) → f ≡ 0 → room < 14 → 14 ≡ oneFaultAt T joined room
+  pub one-short : (room : ℕ) → f ≡ 0 → room < 14 → 14 ≡ oneFaultAt k w joined room
   unfolding oneFaultAt
-  one-short room z h = rw (← joined-is, z, lt-leb 14 room h, or-none)
+  one-short room z h = rw (← e, z, lt-leb 14 room h, or-none)
 
-  pub one-none : (room : ℕ) → f ≡ 0 → 14 ≤ room → 0 ≡ oneFaultAt T joined room
+  pub one-none : (room : ℕ) → f ≡ 0 → 14 ≤ room → 0 ≡ oneFaultAt k w joined room
   unfolding oneFaultAt
-  one-none room z h = rw (← joined-is, z, le-leb 14 room h, or-none)
+  one-none room z h = rw (← e, z, le-leb 14 room h, or-none)
 
--- where there is none
-ready-at : (T joined : List ℕ) (w : Waiting) (room : ℕ) → Waits T (tableOf T) → w ≡ waitsIn T → oneFaultAt T joined room ≡ 0
-    → OneReady T joined (tableOf T) w room
-unfolding oneFaultAt oneJoinedFault tableOf
-ready-at T joined w room v q e =
-    let b = or-zero (oneJoinedFault T joined) (check (leb 14 room) 14) e in
-    record {
-      waits = v;
-      says = q;
-      summable = rounds-summable (serversIn document01 T) 34 (waitingIn document01 T .id) (ownIn document01 T)
-          (messageOne document01 (openedIn document01 T) (waitingIn document01 T)) joined (b .0);
-      enough = leb-true 14 room (check-holds (leb 14 room) 13 (b .1));
-    }
+module _ (T : Lent) (id : ℕ) (joined : List ℕ) where
+  -- what rules checks of the return
+  abbrev checked : ℕ → rules.Waiting → ℕ
+  checked room u =
+      orElse
+      (roundFault document01 (serversIn document01 (T .bytes)) 34 (u .id) (ownIn document01 (T .bytes))
+      (messageOne document01 (openedIn document01 (T .bytes)) u) joined) (check (leb 14 room) 14)
 
--- ---- the table and the message
-table-at : (T joined : List ℕ)
-    → summedAs (tableOf T) (firstSum document01 (tableOf T .servers) joined) (secondSum document01 (tableOf T .servers) joined) T
-    ≡ oneTable document01 T joined
-unfolding oneTable summed tableOf
-table-at T joined = summed-is T _ _
+  refused-is : (room : ℕ)
+      → oneRefused document01 T id joined room
+      ≡ cond (tableSound document01 T && waitsAs T id 1) (checked room (waitingUnder document01 T id)) 11
+  unfolding oneRefused oneRefusal tableState
+  refused-is room = one-refusal T id (checked room)
 
-bytes-at : (T joined : List ℕ)
-    → roundMessage document01 35 (waitsIn T .id) (tableOf T .own)
-    (sigmaAt T (firstSum document01 (tableOf T .servers) joined) (secondSum document01 (tableOf T .servers) joined)) (waitsIn T .tau)
-    ≡ oneBytes document01 T joined
-unfolding oneBytes messageTwo sigmaIn sigmaAt summed waitsIn tableOf
-bytes-at T joined = refl
+  fault-at : (j room : ℕ) → j ≡ placeOf id (T .slots)
+      → checked room (waitingUnder document01 T id) ≡ oneFaultAt (tableOf (T .bytes)) (heldIn T j) joined room
+  unfolding messageOne tableOf heldAt waitingAt oneFaultAt
+  fault-at j room e = rw e
 
-module _ (T joined : List ℕ) (k : Table) (s : k ≡ tableOf T) (d e : ℕ) (ed : d ≡ firstSum document01 (k .servers) joined)
-    (ee : e ≡ secondSum document01 (k .servers) joined) where
-  one-table-at : summedAs k d e T ≡ oneTable document01 T joined
-  one-table-at = rw (ed, ee, s) (table-at T joined)
+  slot-at : (j : ℕ) → j ≡ placeOf id (T .slots)
+      → lent (T .bytes) (applied (T .slots) (recordsAt j (summedSlot (tableOf (T .bytes)) (slotIn T j) joined))) (T .elements)
+      ≡ oneTable document01 T id joined
+  unfolding summedSlot applied oneTable summed waitingAt tableOf
+  slot-at j e = rw e
 
-  pub one-table : (T' : List ℕ) → T' ≡ summedAs k d e T → T' ≡ oneTable document01 T joined
-  one-table T' h = h ∙ one-table-at
+  bytes-at : (j : ℕ) → j ≡ placeOf id (T .slots)
+      → messageAt (tableOf (T .bytes)) (heldIn T j) (numbersIn T j) joined ≡ oneBytes document01 T id joined
+  unfolding messageAt oneBytes messageTwo summed waitingAt heldAt tableOf
+  bytes-at j e =
+      rw e
+      (ap (λ (x : ℕ). roundMessage document01 35 (waitingUnder document01 T id .id) (ownIn document01 (T .bytes)) x
+      (waitingUnder document01 T id .tau))
+      (sigma-is (T .bytes) (numbersIn T (placeOf id (T .slots))) (tableOf (T .bytes)) (oneTaken document01 T id joined) refl refl))
 
-  pub one-bytes : (w : Waiting) → w ≡ waitsIn T
-      → roundMessage document01 35 (w .id) (k .own) (sigmaAt T d e) (w .tau) ≡ oneBytes document01 T joined
-  one-bytes w q = rw (ed, ee, s, q) (bytes-at T joined)
+  -- ---- the call
+  module _ (out : List ℕ) (written : ℕ) where
+    refused-by : (f : ℕ) → oneRefused document01 T id joined (length out) ≡ f → (f ≡ 0 → ⊥)
+        → RoundOne T id joined out written (refusedBy f) out written
+    unfolding onlyIf ifDone
+    refused-by f e n =
+        let r : eqb f 0 ≡ false = ne-eqb f 0 n in
+        record {
+          changes = refused-changes (oneRefused document01 T id joined (length out)) (oneTable document01 T id joined) T f e n;
+          out-is = rw (e, r);
+          written-is = rw (e, r);
+        }
 
--- ---- the stage
-stage-not : (b : ℕ) (w : rules.Waiting) (f : rules.Waiting → ℕ) → (b ≡ 1 → ⊥) → whileOne (stageOf b w) f ≡ 11
-unfolding whileOne
-stage-not zero w f h = refl
-stage-not (suc zero) w f h = absurd (h refl)
-stage-not (suc (suc zero)) w f h = refl
-stage-not (suc (suc (suc b))) w f h =
-    rw (
-      ne-eqb (suc (suc (suc b))) 0 (λ z. omega arith),
-      ne-eqb (suc (suc (suc b))) 1 (λ z. omega arith),
-      ne-eqb (suc (suc (suc b))) 2 (λ z. omega arith),
-    )
+    pub first-unnamed : (m : ℕ) → namedIn T id 1 ≡ answer.Refused m → RoundOne T id joined out written (refusedBy m) out written
+    first-unnamed m e =
+        let b = not-found T id 1 m e in
+        refused-by m (refused-is (length out) ∙ rw (b .0, b .1)) (λ z. omega (arith, b .1))
 
-module _ (T joined : List ℕ) (room : ℕ) (fault : tableFault document01 T ≡ 0) where
-  other-at : (tableOf T .stage ≡ 1 → ⊥) → oneRefused document01 T joined room ≡ 11
-  unfolding oneRefused oneRefusal tableState stageIn tableOf
-  other-at h = rw (fault, or-none) (stage-not (stageByte document01 T) (waitingIn document01 T) _ h)
+    module _ (k : Table) (j : ℕ) (w : Waiting) (n : Names T id 1 k j w) (f : ℕ) (e : f ≡ oneFaultAt k w joined (length out)) where
+      fault-is : oneRefused document01 T id joined (length out) ≡ f
+      fault-is =
+          let s = n .waits .sound .says in
+          refused-is (length out)
+          ∙ rw (n .stands) (fault-at j (length out) (n .place-is) ∙ sym (rw (s, n .says) at e))
 
-  refusal-at : tableOf T .stage ≡ 1 → oneRefused document01 T joined room ≡ oneFaultAt T joined room
-  unfolding oneRefused oneRefusal tableState stageIn tableOf oneFaultAt oneJoinedFault whileOne
-  refusal-at h = rw (fault, or-none, h)
+      pub first-refused : (f ≡ 0 → ⊥) → RoundOne T id joined out written (refusedBy f) out written
+      first-refused = refused-by f fault-is
 
--- ---- the call
-module _ (T joined out : List ℕ) where
-  refused-by : (f : ℕ) → oneRefused document01 T joined (length out) ≡ f → (f ≡ 0 → ⊥) → RoundOne T joined out (answer.Refused f) T out
-  unfolding answered onlyIf
-  refused-by f e n =
-      let r : eqb f 0 ≡ false = ne-eqb f 0 n in
-      record { answer-is = rw (e, r); table-is = rw (e, r); out-is = rw (e, r) }
+      module _ (z : f ≡ 0) (ns : List ℕ) (m : ns ≡ numbersIn T j) where
+        pub first-ready : OneReady k w ns joined (length out)
+        unfolding oneFaultAt
+        first-ready =
+            let joins =
+            roundFault document01 (k .servers) 34 (w .id) (k .own)
+            (roundMessage document01 34 (w .id) (k .own) (w .d) (w .e)) joined in
+            let b = or-zero joins (check (leb 14 (length out)) 14) (sym e ∙ z) in
+            record {
+              sharing = sharing T k j (n .waits) ns m w (n .says);
+              summable = rounds-summable (k .servers) 34 (w .id) (k .own) _ joined (b .0);
+              enough = leb-true 14 (length out) (check-holds (leb 14 (length out)) 13 (b .1));
+            }
 
-  pub first-unsound : (n : ℕ) → foundIn T ≡ found.Refused n → RoundOne T joined out (answer.Refused n) T out
-  unfolding oneRefused
-  first-unsound n e = let u = unsound T n e in refused-by n (rw (u .0) (or-first n _ (u .1))) (u .1)
-
-  module _ (k : Table) (s : Sound T k) where
-    pub first-stage : (k .stage ≡ 1 → ⊥) → RoundOne T joined out (answer.Refused 11) T out
-    first-stage h = refused-by 11 (other-at T joined (length out) (sound-fault T k s) (rw (s .says) at h)) (λ z. omega arith)
-
-    module _ (h : k .stage ≡ 1) (f : ℕ) (e : f ≡ oneFaultAt T joined (length out)) where
-      refused-is : oneRefused document01 T joined (length out) ≡ f
-      refused-is = refusal-at T joined (length out) (sound-fault T k s) (rw (s .says) at h) ∙ sym e
-
-      pub first-refused : (f ≡ 0 → ⊥) → RoundOne T joined out (answer.Refused f) T out
-      first-refused = refused-by f refused-is
-
-      pub first-done : (T' out' : List ℕ) → f ≡ 0 → T' ≡ oneTable document01 T joined
-          → out' ≡ splice out 0 (oneBytes document01 T joined) → RoundOne T joined out (answer.Done 14) T' out'
-      unfolding answered onlyIf
-      first-done T' out' z t o =
-          let r : oneRefused document01 T joined (length out) ≡ 0 = refused-is ∙ z in
-          record { answer-is = rw r; table-is = t ∙ rw r; out-is = o ∙ rw r }
-
-      pub first-ready : (w : Waiting) → Waits T k → w ≡ waitsIn T → f ≡ 0 → OneReady T joined k w (length out)
-      first-ready w v q z = rw (s .says) (ready-at T joined w (length out) (rw (s .says) at v) q (sym e ∙ z))
-
-    pub first-waits : k .stage ≡ 1 → Waits T k
-    first-waits h = waits-in T k s (within-is 1 2 (k .stage) (omega arith) (omega arith))
+        pub first-done : (x y : Slot) (out' : List ℕ) → x ≡ slotIn T j → y ≡ summedSlot k x joined
+            → out' ≡ splice out 0 (messageAt k w ns joined) → RoundOne T id joined out written (recordsAt j y) out' 14
+        unfolding onlyIf ifDone
+        first-done x y out' p q o =
+            let refusal = oneRefused document01 T id joined (length out) in
+            let none : refusal ≡ 0 = fault-is ∙ z in
+            let s = n .waits .sound in
+            let t : lent (T .bytes) (applied (T .slots) (recordsAt j y)) (T .elements) ≡ oneTable document01 T id joined
+            = rw (q, p, s .says) (slot-at j (n .place-is)) in
+            record {
+              changes =
+                  done-changes refusal (oneTable document01 T id joined) T j y (T .bytes) (T .elements) none
+                  (omega (arith, n .waits .within, s .eight)) t;
+              out-is = o ∙ rw (none, s .says, n .says, m) (ap (splice out 0) (bytes-at j (n .place-is)));
+              written-is = rw none;
+            }

@@ -1,16 +1,19 @@
--- What round one comes to: its answer, and what the table and the buffer hold then. A refusal leaves both.
+-- What round one comes to on the table T: what it does to the list of records, and what the buffer and the number behind
+-- `written` hold then. The bytes and the numbers of the table are as they were, and a refusal leaves all.
 -- Assumes nothing.
 use mathlib.Core.Path.{_≡_}
 use mathlib.Core.List.{List}
 use Prim.Native.Nat.{ℕ}
 use lib.ListN.{length}
 use Rattle.words.specs.Bytes.{splice}
-use Rattle.records.specs.Answers.{answered, onlyIf}
-use Rattle.records.specs.declared.Written.{Written}
+use Rattle.records.specs.Answers.{onlyIf, ifDone}
+use Rattle.slots.specs.declared.Change.{Change}
 use Rattle.rules.specs.Settings.{document01}
-use Rattle.rules.specs.Table.{oneRefused, oneTable, oneBytes}
+use Rattle.rules.specs.Table.{Lent, oneRefused, oneTable, oneBytes}
+use Rattle.waiting.specs.Changes.{Changes}
 
-pub record RoundOne (T joined out : List ℕ) (a : Written) (T' out' : List ℕ) : Type 0 where
-  pub answer-is : a ≡ answered (oneRefused document01 T joined (length out)) 14
-  pub table-is : T' ≡ onlyIf (oneRefused document01 T joined (length out)) (oneTable document01 T joined) T
-  pub out-is : out' ≡ onlyIf (oneRefused document01 T joined (length out)) (splice out 0 (oneBytes document01 T joined)) out
+pub record RoundOne (T : Lent) (id : ℕ) (joined out : List ℕ) (written : ℕ) (c : Change) (out' : List ℕ) (written' : ℕ)
+    : Type 0 where
+  pub changes : Changes (oneRefused document01 T id joined (length out)) (oneTable document01 T id joined) T c (T .bytes) (T .elements)
+  pub out-is : out' ≡ onlyIf (oneRefused document01 T id joined (length out)) (splice out 0 (oneBytes document01 T id joined)) out
+  pub written-is : written' ≡ ifDone (oneRefused document01 T id joined (length out)) 14 written

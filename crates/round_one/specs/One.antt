@@ -1,34 +1,45 @@
--- Round one on a table whose return awaits it: the refusal, and what is asked for where there is none.
+-- Round one of a return that awaits it, by what its record says: the refusal, the record after it and the message, and what is
+-- asked for where nothing is refused.
 -- Assumes nothing.
-use mathlib.Core.Path.{_≡_}
 use mathlib.Core.List.{List}
 use Prim.Native.Nat.{ℕ, _≤_}
 use lib.Dec.{leb}
 use Rattle.records.specs.Outcome.{orElse}
+use Rattle.slots.specs.declared.Slot.{Slot}
 use Rattle.rules.specs.Settings.{document01}
 use Rattle.rules.specs.Columns.{check}
-use Rattle.rules.specs.Messages.{roundFault}
-use Rattle.rules.specs.Server.{messageOne}
-use Rattle.rules.specs.Table.{serversIn, ownIn, openedIn, waitingIn}
+use Rattle.rules.specs.Messages.{roundFault, roundMessage, firstSum, secondSum}
 use Rattle.round_message.specs.Rounds.{Summable}
 use Rattle.layout.specs.declared.Table.{Table}
 use Rattle.waiting.specs.declared.Waiting.{Waiting}
-use Rattle.waiting.specs.Held.{waitsIn}
-use Rattle.rounds.specs.Waits.{Waits}
+use Rattle.rounds.specs.Waits.{Sharing, sigmaAt}
 
--- "12": the messages of round one, of which the own one is that of the return that waits
-unfoldable pub oneJoinedFault : List ℕ → List ℕ → ℕ
-oneJoinedFault T joined =
-    roundFault document01 (serversIn document01 T) 34 (waitingIn document01 T .id) (ownIn document01 T)
-    (messageOne document01 (openedIn document01 T) (waitingIn document01 T)) joined
+-- "12, 14": rules' oneRefusal in that stage
+unfoldable pub oneFaultAt : Table → Waiting → List ℕ → ℕ → ℕ
+oneFaultAt k w joined room =
+    orElse
+    (roundFault document01 (k .servers) 34 (w .id) (k .own) (roundMessage document01 34 (w .id) (k .own) (w .d) (w .e)) joined)
+    (check (leb 14 room) 14)
 
--- "12, 14": rules' oneRefusal at that stage
-unfoldable pub oneFaultAt : List ℕ → List ℕ → ℕ → ℕ
-oneFaultAt T joined room = orElse (oneJoinedFault T joined) (check (leb 14 room) 14)
+-- the record with the sums, which awaits round two
+unfoldable pub summedSlot : Table → Slot → List ℕ → Slot
+summedSlot k x joined = record {
+  id = x .id;
+  stage = 2;
+  r = x .r;
+  s = x .s;
+  d = firstSum document01 (k .servers) joined;
+  e = secondSum document01 (k .servers) joined;
+}
 
--- the joined messages can be summed, and there is room for the message
-pub record OneReady (T joined : List ℕ) (k : Table) (w : Waiting) (room : ℕ) : Type 0 where
-  pub waits : Waits T k
-  pub says : w ≡ waitsIn T
+-- the own message of round two, with the sums: rules' oneBytes
+unfoldable pub messageAt : Table → Waiting → List ℕ → List ℕ → List ℕ
+messageAt k w ns joined =
+    roundMessage document01 35 (w .id) (k .own)
+    (sigmaAt k ns (w .rh) (firstSum document01 (k .servers) joined) (secondSum document01 (k .servers) joined)) (w .tau)
+
+-- the numbers are elements, the joined messages can be summed, and there is room for the message
+pub record OneReady (k : Table) (w : Waiting) (ns joined : List ℕ) (room : ℕ) : Type 0 where
+  pub sharing : Sharing k ns (w .rh) (w .d) (w .e)
   pub summable : Summable (k .servers) joined
   pub enough : 14 ≤ room

@@ -1,159 +1,174 @@
--- Round two: the refusal, the verdict and the table in the numbers of code are those of rules. Assumes nothing.
+-- Round two: the refusal, the verdict and the table in the numbers of code are those of rules, for the return that the id names.
+-- A call that names none is refused 11 (`two-refusal` of the crate rounds). Assumes nothing.
 use mathlib.Core.Path.{_≡_, refl, sym, ap, _∙_}
-use mathlib.Core.Bool.{Bool, true, false}
+use mathlib.Core.Bool.{Bool, true, false, cond, _&&_}
 use mathlib.Core.List.{List}
-use Prim.Native.Nat.{ℕ, zero, suc}
+use Prim.Native.Nat.{ℕ, _≤_}
 use native.Mathlib.Omega.{arith}
 use borrow.Author.Tests.{ne-eqb}
 use lib.Dec.{eqb}
-use Rattle.records.specs.Answers.{onlyIf}
-use Rattle.records.proofs.Outcome.{or-none, or-first}
+use Rattle.records.specs.Answers.{ifDone}
+use Rattle.slots.specs.declared.Change.{Change}
+use Rattle.slots.specs.Slots.{freeSlot, applied}
 use Rattle.rules.specs.Settings.{document01}
 use Rattle.rules.specs.Messages.{roundFault, roundMessage, firstSum, secondSum, bothZero}
 use Rattle.rules.specs.Server as rules
-use Rattle.rules.specs.Server.{whileTwo, twoRefusal, messageTwo, sigmaIn}
-use Rattle.rules.specs.Table.{stageByte, serversIn, ownIn, openedIn, waitingIn, stageIn, tableState, tableFault}
-use Rattle.rules.specs.Table.{decidedTable, twoRefused, twoVerdict, twoTable}
-use Rattle.rules.proofs.Circuits.Limits.{within-is}
+use Rattle.rules.specs.Server.{twoRefusal, messageTwo}
+use Rattle.rules.specs.WaitingList.{waitingAt, placeOf}
+use Rattle.rules.specs.Table.{Lent, serversIn, ownIn, openedIn, tableState, tableSound, waitingUnder}
+use Rattle.rules.specs.Table.{addedBytes, decidedBytes, decidedTable, twoRefused, twoVerdict, twoTable}
+use Rattle.round_message.specs.Rounds.{Summable}
 use Rattle.round_message.proofs.Rounds.{rounds-summable}
 use Rattle.layout.specs.Numbers.{tableOf}
 use Rattle.layout.specs.declared.Table.{Table}
-use Rattle.table.specs.Reading.{foundIn, Sound}
-use Rattle.table.specs.declared.Found.the-variants as found
-use Rattle.table.proofs.Answers.{unsound}
 use Rattle.waiting.specs.declared.Waiting.{Waiting}
-use Rattle.waiting.specs.Held.{waitsIn}
-use Rattle.waiting.specs.Writing.{decidedAs}
-use Rattle.waiting.proofs.Written.{decided-is}
-use Rattle.rounds.specs.Waits.{Waits, sigmaAt}
+use Rattle.waiting.specs.Held.{heldAt}
+use Rattle.waiting.specs.Changes.{refusedBy, recordsAt, lent}
+use Rattle.waiting.proofs.Changes.{refused-changes, done-changes}
+use Rattle.table.specs.Deciding.{Decided}
+use Rattle.table.proofs.Decided.{placed, decided-is}
+use Rattle.rounds.specs.Waits.{numbersIn, heldIn, shareIn}
+use Rattle.rounds.specs.Named.{waitsAs, namedIn}
 use Rattle.rounds.specs.Totals.{withPublished}
-use Rattle.round_two.specs.Two.{twoFaultAt, TwoReady}
-use Rattle.round_two.specs.Calls.{verdictOf, RoundTwo}
-use Rattle.round_two.specs.declared.Verdict.the-variants as answer
-use Rattle.rounds.proofs.Holding.{waits-in, stageOf, sound-fault}
-
--- ---- the refusal
-joined-at : (T joined : List ℕ)
-    → roundFault document01 (tableOf T .servers) 35 (waitsIn T .id) (tableOf T .own)
-    (roundMessage document01 35 (waitsIn T .id) (tableOf T .own) (sigmaAt T (waitsIn T .d) (waitsIn T .e)) (waitsIn T .tau)) joined
-    ≡ twoFaultAt T joined
-unfolding twoFaultAt messageTwo sigmaIn sigmaAt tableOf waitsIn
-joined-at T joined = refl
-
-pub two-joined : (T joined : List ℕ) (k : Table) (w : Waiting) (x f : ℕ) → k ≡ tableOf T → w ≡ waitsIn T → x ≡ sigmaAt T (w .d) (w .e)
-    → f ≡ roundFault document01 (k .servers) 35 (w .id) (k .own) (roundMessage document01 35 (w .id) (k .own) x (w .tau)) joined
-    → f ≡ twoFaultAt T joined
-two-joined T joined k w x f s q g e = rw (g, s, q, joined-at T joined) at e
+use Rattle.rounds.specs.declared.named.Named.the-variants as answer
+use Rattle.rounds.proofs.Holding.{share-is, sigma-is, adds}
+use Rattle.rounds.proofs.AddedColumns.{added-is}
+use Rattle.rounds.proofs.Naming.{two-refusal, not-found, Names}
+use Rattle.round_two.specs.Two.{twoFaultAt, Settles, addedIf}
+use Rattle.round_two.specs.Calls.{RoundTwo}
 
 -- ---- the verdict
 module _ (servers : ℕ) (joined : List ℕ) (x : ℕ) (e : x ≡ firstSum document01 servers joined) where
-  pub zero-not : (x ≡ 0 → ⊥) → false ≡ bothZero document01 servers joined
+  pub first-not : (x ≡ 0 → ⊥) → _≡_ {A = ℕ} 0 (cond (bothZero document01 servers joined) 1 0)
   unfolding bothZero
-  zero-not n = rw (← e, ne-eqb x 0 n)
+  first-not n = rw (← e, ne-eqb x 0 n)
 
-  pub zero-both : x ≡ 0 → (y : ℕ) → y ≡ secondSum document01 servers joined → eqb y 0 ≡ bothZero document01 servers joined
-  unfolding bothZero
-  zero-both z y g = rw (← e, ← g, z)
+  module _ (z : x ≡ 0) (y : ℕ) (g : y ≡ secondSum document01 servers joined) where
+    pub second-not : (y ≡ 0 → ⊥) → _≡_ {A = ℕ} 0 (cond (bothZero document01 servers joined) 1 0)
+    unfolding bothZero
+    second-not n = rw (← e, ← g, z, ne-eqb y 0 n)
 
--- ---- what the verdict does to the table
-verdict-at : (T joined : List ℕ) → bothZero document01 (tableOf T .servers) joined ≡ twoVerdict document01 T joined
-unfolding twoVerdict tableOf
-verdict-at T joined = refl
+    pub both-zero : y ≡ 0 → _≡_ {A = ℕ} 1 (cond (bothZero document01 servers joined) 1 0)
+    unfolding bothZero
+    both-zero w = rw (← e, ← g, z, w)
 
-module _ (T joined : List ℕ) (k : Table) (id : ℕ) (r : TwoReady T joined k id) where
-  decided-to : (t : List ℕ) (accepted : ℕ) → decidedAs k accepted id t ≡ decidedTable document01 T accepted t
-  decided-to t accepted = decided-is T t k accepted id (r .waits .sound .says) (r .says)
+-- ---- the bytes before the return is decided
+module _ (accepted : ℕ) (k : Table) (j : ℕ) (es t : List ℕ) where
+  pub added-none : accepted ≡ 0 → addedIf accepted k j es t ≡ t
+  unfolding addedIf
+  added-none e = rw e
 
-  verdict-is : bothZero document01 (k .servers) joined ≡ twoVerdict document01 T joined
-  verdict-is = rw (r .waits .sound .says) (verdict-at T joined)
+  pub added-some : (accepted ≡ 0 → ⊥) → addedIf accepted k j es t ≡ withPublished t (shareIn k j es)
+  unfolding addedIf
+  added-some n = rw (ne-eqb accepted 0 n)
 
-  module _ (b : Bool) (e : b ≡ bothZero document01 (k .servers) joined) where
-    pub settled-accepted : (t t' : List ℕ) (n : ℕ) → b ≡ true → t ≡ withPublished T → t' ≡ decidedAs k n id t → n ≡ 1
-        → (true ≡ twoVerdict document01 T joined) × (t' ≡ twoTable document01 T joined)
-    unfolding twoTable withPublished
-    settled-accepted t t' n h p q one =
-        let v : twoVerdict document01 T joined ≡ true = sym (e ∙ verdict-is) ∙ h in
-        (sym v, q ∙ decided-to t n ∙ rw (v, p, one))
+module _ (T : Lent) (id : ℕ) (joined : List ℕ) where
+  -- ---- the refusal: what rules checks of the return
+  abbrev checked : rules.Waiting → ℕ
+  checked u =
+      roundFault document01 (serversIn document01 (T .bytes)) 35 (u .id) (ownIn document01 (T .bytes))
+      (messageTwo document01 (openedIn document01 (T .bytes)) u) joined
 
-    pub settled-rejected : (t' : List ℕ) (n : ℕ) → b ≡ false → t' ≡ decidedAs k n id T → n ≡ 0
-        → (false ≡ twoVerdict document01 T joined) × (t' ≡ twoTable document01 T joined)
-    unfolding twoTable
-    settled-rejected t' n h q none =
-        let v : twoVerdict document01 T joined ≡ false = sym (e ∙ verdict-is) ∙ h in
-        (sym v, q ∙ decided-to T n ∙ rw (v, none))
+  refused-is : twoRefused document01 T id joined
+      ≡ cond (tableSound document01 T && waitsAs T id 2) (checked (waitingUnder document01 T id)) 11
+  unfolding twoRefused twoRefusal tableState
+  refused-is = two-refusal T id checked
 
--- ---- the stage
-stage-not : (b : ℕ) (w : rules.Waiting) (f : rules.Waiting → ℕ) → (b ≡ 2 → ⊥) → whileTwo (stageOf b w) f ≡ 11
-unfolding whileTwo
-stage-not zero w f h = refl
-stage-not (suc zero) w f h = refl
-stage-not (suc (suc zero)) w f h = absurd (h refl)
-stage-not (suc (suc (suc b))) w f h =
-    rw (
-      ne-eqb (suc (suc (suc b))) 0 (λ z. omega arith),
-      ne-eqb (suc (suc (suc b))) 1 (λ z. omega arith),
-      ne-eqb (suc (suc (suc b))) 2 (λ z. omega arith),
-    )
+  fault-at : (j : ℕ) → j ≡ placeOf id (T .slots)
+      → checked (waitingUnder document01 T id) ≡ twoFaultAt (tableOf (T .bytes)) (heldIn T j) (numbersIn T j) joined
+  unfolding messageTwo tableOf heldAt waitingAt twoFaultAt
+  fault-at j e =
+      let u = waitingUnder document01 T id in
+      rw e
+      (ap (λ (x : ℕ). roundFault document01 (serversIn document01 (T .bytes)) 35 (u .id) (ownIn document01 (T .bytes))
+      (roundMessage document01 35 (u .id) (ownIn document01 (T .bytes)) x (u .tau)) joined)
+      (sym (sigma-is (T .bytes) (numbersIn T (placeOf id (T .slots))) (tableOf (T .bytes)) u refl refl)))
 
-module _ (T joined : List ℕ) (fault : tableFault document01 T ≡ 0) where
-  other-at : (tableOf T .stage ≡ 2 → ⊥) → twoRefused document01 T joined ≡ 11
-  unfolding twoRefused twoRefusal tableState stageIn tableOf
-  other-at h = rw (fault, or-none) (stage-not (stageByte document01 T) (waitingIn document01 T) _ h)
+  -- ---- the verdict, and what it does to the table
+  verdict-at : bothZero document01 (tableOf (T .bytes) .servers) joined ≡ twoVerdict document01 T joined
+  unfolding twoVerdict tableOf
+  verdict-at = refl
 
-  refusal-at : tableOf T .stage ≡ 2 → twoRefused document01 T joined ≡ twoFaultAt T joined
-  unfolding twoRefused twoRefusal tableState stageIn tableOf twoFaultAt whileTwo
-  refusal-at h = rw (fault, or-none, h)
+  module _ (k : Table) (j : ℕ) (w : Waiting) (n : Names T id 2 k j w) (a : ℕ)
+      (v : a ≡ cond (bothZero document01 (k .servers) joined) 1 0) where
+    verdict-is : a ≡ cond (twoVerdict document01 T joined) 1 0
+    verdict-is = v ∙ rw (n .waits .sound .says, verdict-at)
 
-ready-at : (T joined : List ℕ) (w : Waiting) → Waits T (tableOf T) → w ≡ waitsIn T → twoFaultAt T joined ≡ 0
-    → TwoReady T joined (tableOf T) (w .id)
-unfolding twoFaultAt tableOf waitsIn
-ready-at T joined w v q e =
-    record {
-      waits = v;
-      says = ap (λ (u : Waiting). u .id) q;
-      summable = rounds-summable (serversIn document01 T) 35 (waitingIn document01 T .id) (ownIn document01 T)
-          (messageTwo document01 (openedIn document01 T) (waitingIn document01 T)) joined e;
-    }
+    verdict-most : a ≤ 1
+    verdict-most = go (twoVerdict document01 T joined) verdict-is
+      where
+        go : (b : Bool) → a ≡ cond b 1 0 → a ≤ 1
+        go true e = omega arith
+        go false e = omega arith
 
--- ---- the call
-module _ (T joined : List ℕ) where
-  refused-by : (f : ℕ) → twoRefused document01 T joined ≡ f → (f ≡ 0 → ⊥) → RoundTwo T joined (answer.Refused f) T
-  unfolding verdictOf onlyIf
-  refused-by f e n =
-      let r : eqb f 0 ≡ false = ne-eqb f 0 n in
-      record { answer-is = rw (e, r); table-is = rw (e, r) }
+    table-is : decidedTable document01 T id (decidedBytes document01 T a id (addedIf a k j (T .elements) (T .bytes)))
+        ≡ twoTable document01 T id joined
+    unfolding twoTable addedIf
+    table-is = go (twoVerdict document01 T joined) verdict-is
+      where
+        go : (b : Bool) → a ≡ cond b 1 0
+            → decidedTable document01 T id
+            (decidedBytes document01 T a id (cond (eqb a 0) (T .bytes) (withPublished (T .bytes) (shareIn k j (T .elements)))))
+            ≡ decidedTable document01 T id
+            (cond b (decidedBytes document01 T 1 id (addedBytes document01 T id)) (decidedBytes document01 T 0 id (T .bytes)))
+        go true e = rw (e, share-is T k (n .waits .sound .says) j, added-is T id j (n .place-is))
+        go false e = rw e
 
-  pub second-unsound : (n : ℕ) → foundIn T ≡ found.Refused n → RoundTwo T joined (answer.Refused n) T
-  unfolding twoRefused
-  second-unsound n e = let u = unsound T n e in refused-by n (rw (u .0) (or-first n _ (u .1))) (u .1)
+    pub second-settles : Settles (T .bytes) (T .elements) k j a
+    second-settles =
+        let s = n .waits in
+        record {
+          adds = adds T k j s (shareIn k j (T .elements)) (share-is T k (s .sound .says) j);
+          placed = placed T k (s .sound) j (s .within) (s .not-free) (T .bytes) refl a verdict-most;
+        }
 
-  module _ (k : Table) (s : Sound T k) where
-    pub second-stage : (k .stage ≡ 2 → ⊥) → RoundTwo T joined (answer.Refused 11) T
-    second-stage h = refused-by 11 (other-at T joined (sound-fault T k s) (rw (s .says) at h)) (λ z. omega arith)
+  -- ---- the call
+  module _ (accepted : ℕ) where
+    refused-by : (f : ℕ) → twoRefused document01 T id joined ≡ f → (f ≡ 0 → ⊥)
+        → RoundTwo T id joined accepted (refusedBy f) (T .bytes) (T .elements) accepted
+    unfolding ifDone
+    refused-by f e n =
+        let r : eqb f 0 ≡ false = ne-eqb f 0 n in
+        record {
+          changes = refused-changes (twoRefused document01 T id joined) (twoTable document01 T id joined) T f e n;
+          accepted-is = rw (e, r);
+        }
 
-    pub second-waits : k .stage ≡ 2 → Waits T k
-    second-waits h = waits-in T k s (within-is 1 2 (k .stage) (omega arith) (omega arith))
+    pub second-unnamed : (m : ℕ) → namedIn T id 2 ≡ answer.Refused m
+        → RoundTwo T id joined accepted (refusedBy m) (T .bytes) (T .elements) accepted
+    second-unnamed m e =
+        let b = not-found T id 2 m e in
+        refused-by m (refused-is ∙ rw (b .0, b .1)) (λ z. omega (arith, b .1))
 
-    module _ (h : k .stage ≡ 2) (f : ℕ) (e : f ≡ twoFaultAt T joined) where
-      refused-is : twoRefused document01 T joined ≡ f
-      refused-is = refusal-at T joined (sound-fault T k s) (rw (s .says) at h) ∙ sym e
+    module _ (k : Table) (j : ℕ) (w : Waiting) (n : Names T id 2 k j w) (ns : List ℕ) (m : ns ≡ numbersIn T j) (f : ℕ)
+        (e : f ≡ twoFaultAt k w ns joined) where
+      fault-is : twoRefused document01 T id joined ≡ f
+      fault-is =
+          let s = n .waits .sound .says in
+          refused-is ∙ rw (n .stands) (fault-at j (n .place-is) ∙ sym (rw (s, n .says, m) at e))
 
-      pub second-refused : (f ≡ 0 → ⊥) → RoundTwo T joined (answer.Refused f) T
-      second-refused = refused-by f refused-is
+      pub second-refused : (f ≡ 0 → ⊥) → RoundTwo T id joined accepted (refusedBy f) (T .bytes) (T .elements) accepted
+      second-refused = refused-by f fault-is
 
-      pub second-ready : (w : Waiting) → w ≡ waitsIn T → f ≡ 0 → TwoReady T joined k (w .id)
-      second-ready w q z = rw (s .says) (ready-at T joined w (rw (s .says) at (second-waits h)) q (sym e ∙ z))
+      module _ (z : f ≡ 0) where
+        pub second-summable : Summable (k .servers) joined
+        unfolding twoFaultAt
+        second-summable = rounds-summable (k .servers) 35 (w .id) (k .own) _ joined (sym e ∙ z)
 
-      pub second-accepted : (T' : List ℕ) → f ≡ 0 → true ≡ twoVerdict document01 T joined → T' ≡ twoTable document01 T joined
-          → RoundTwo T joined answer.Accepted T'
-      unfolding verdictOf onlyIf
-      second-accepted T' z v t =
-          let r : twoRefused document01 T joined ≡ 0 = refused-is ∙ z in
-          record { answer-is = rw (r, ← v); table-is = t ∙ rw r }
-
-      pub second-rejected : (T' : List ℕ) → f ≡ 0 → false ≡ twoVerdict document01 T joined → T' ≡ twoTable document01 T joined
-          → RoundTwo T joined answer.Rejected T'
-      unfolding verdictOf onlyIf
-      second-rejected T' z v t =
-          let r : twoRefused document01 T joined ≡ 0 = refused-is ∙ z in
-          record { answer-is = rw (r, ← v); table-is = t ∙ rw r }
+        pub second-done : (a : ℕ) → a ≡ cond (bothZero document01 (k .servers) joined) 1 0 → (c : Change) (t es : List ℕ)
+            → Decided k j a id (addedIf a k j (T .elements) (T .bytes)) (T .elements) c t es → RoundTwo T id joined accepted c t es a
+        unfolding ifDone
+        second-done a v c t es d =
+            let refusal = twoRefused document01 T id joined in
+            let none : refusal ≡ 0 = fault-is ∙ z in
+            let s = n .waits .sound in
+            let q = decided-is T k s a id (addedIf a k j (T .elements) (T .bytes)) j (n .place-is) c t es d in
+            let l : lent t (applied (T .slots) (recordsAt j freeSlot)) es ≡ twoTable document01 T id joined
+            = rw (d .frees) at (q ∙ table-is k j w n a v) in
+            record {
+              changes =
+                  rw (d .frees)
+                  (done-changes refusal (twoTable document01 T id joined) T j freeSlot t es none
+                  (omega (arith, n .waits .within, s .eight)) l);
+              accepted-is = verdict-is k j w n a v ∙ rw none;
+            }

@@ -1,20 +1,17 @@
--- What round two comes to: its verdict, and what the table holds then. A refusal leaves it.
+-- What round two comes to on the table T: what it does to the list of records, the bytes and the numbers that it leaves, and
+-- the verdict behind `accepted`. A refusal leaves all.
 -- Assumes nothing.
 use mathlib.Core.Path.{_≡_}
-use mathlib.Core.Bool.{Bool, cond}
+use mathlib.Core.Bool.{cond}
 use mathlib.Core.List.{List}
 use Prim.Native.Nat.{ℕ}
-use lib.Dec.{eqb}
-use Rattle.records.specs.Answers.{onlyIf}
+use Rattle.records.specs.Answers.{ifDone}
+use Rattle.slots.specs.declared.Change.{Change}
 use Rattle.rules.specs.Settings.{document01}
-use Rattle.rules.specs.Table.{twoRefused, twoVerdict, twoTable}
-use Rattle.round_two.specs.declared.Verdict.{Verdict}
-use Rattle.round_two.specs.declared.Verdict.the-variants as answer
+use Rattle.rules.specs.Table.{Lent, twoRefused, twoVerdict, twoTable}
+use Rattle.waiting.specs.Changes.{Changes}
 
--- the verdict, or the refusal where its number is not 0
-unfoldable pub verdictOf : ℕ → Bool → Verdict
-verdictOf refusal accepted = cond (eqb refusal 0) (cond accepted answer.Accepted answer.Rejected) (answer.Refused refusal)
-
-pub record RoundTwo (T joined : List ℕ) (v : Verdict) (T' : List ℕ) : Type 0 where
-  pub answer-is : v ≡ verdictOf (twoRefused document01 T joined) (twoVerdict document01 T joined)
-  pub table-is : T' ≡ onlyIf (twoRefused document01 T joined) (twoTable document01 T joined) T
+pub record RoundTwo (T : Lent) (id : ℕ) (joined : List ℕ) (accepted : ℕ) (c : Change) (t' es' : List ℕ) (accepted' : ℕ)
+    : Type 0 where
+  pub changes : Changes (twoRefused document01 T id joined) (twoTable document01 T id joined) T c t' es'
+  pub accepted-is : accepted' ≡ ifDone (twoRefused document01 T id joined) (cond (twoVerdict document01 T joined) 1 0) accepted

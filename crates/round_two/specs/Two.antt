@@ -1,24 +1,28 @@
--- Round two on a table whose return awaits it: the refusal, and what is asked for where there is none.
+-- Round two of a return that awaits it, by what its record says: the refusal, and what is asked for and done where there is none.
 -- Assumes nothing.
-use mathlib.Core.Path.{_≡_}
+use mathlib.Core.Bool.{cond}
 use mathlib.Core.List.{List}
 use Prim.Native.Nat.{ℕ}
+use lib.Dec.{eqb}
 use Rattle.rules.specs.Settings.{document01}
-use Rattle.rules.specs.Messages.{roundFault}
-use Rattle.rules.specs.Server.{messageTwo}
-use Rattle.rules.specs.Table.{serversIn, ownIn, openedIn, waitingIn}
-use Rattle.round_message.specs.Rounds.{Summable}
+use Rattle.rules.specs.Messages.{roundFault, roundMessage}
 use Rattle.layout.specs.declared.Table.{Table}
-use Rattle.rounds.specs.Waits.{Waits}
+use Rattle.waiting.specs.declared.Waiting.{Waiting}
+use Rattle.table.specs.Deciding.{Placed}
+use Rattle.rounds.specs.Waits.{shareIn, sigmaAt}
+use Rattle.rounds.specs.Totals.{Adds, withPublished}
 
--- "12": rules' twoRefusal at that stage
-unfoldable pub twoFaultAt : List ℕ → List ℕ → ℕ
-twoFaultAt T joined =
-    roundFault document01 (serversIn document01 T) 35 (waitingIn document01 T .id) (ownIn document01 T)
-    (messageTwo document01 (openedIn document01 T) (waitingIn document01 T)) joined
+-- "12": rules' twoRefusal in that stage
+unfoldable pub twoFaultAt : Table → Waiting → List ℕ → List ℕ → ℕ
+twoFaultAt k w ns joined =
+    roundFault document01 (k .servers) 35 (w .id) (k .own)
+    (roundMessage document01 35 (w .id) (k .own) (sigmaAt k ns (w .rh) (w .d) (w .e)) (w .tau)) joined
 
--- the joined messages can be summed
-pub record TwoReady (T joined : List ℕ) (k : Table) (id : ℕ) : Type 0 where
-  pub waits : Waits T k
-  pub says : id ≡ waitingIn document01 T .id
-  pub summable : Summable (k .servers) joined
+-- the return at place j can be decided, and the published entries of its share can be added
+pub record Settles (t es : List ℕ) (k : Table) (j accepted : ℕ) : Type 0 where
+  pub adds : Adds t k (shareIn k j es)
+  pub placed : Placed t k es j accepted
+
+-- the bytes t, where the return is accepted with the published entries of its share added
+unfoldable pub addedIf : ℕ → Table → ℕ → List ℕ → List ℕ → List ℕ
+addedIf accepted k j es t = cond (eqb accepted 0) t (withPublished t (shareIn k j es))

@@ -1,86 +1,95 @@
-// Round two on a server's table: the refusal, the verdict, and what it does to the table. The definitions that the
-// contracts cite are those of the crate rules, at document 01's setting, and of specs/. A refusal leaves the table as
-// it was.
+// Round two on a server's table: the refusal, the verdict, and what it does to the table. The definitions that the contracts cite
+// are those of the crate rules, at document 01's setting, and of specs/. A refusal leaves the table as it was.
 ghost use mathlib.Core.Path.{_≡_};
+ghost use mathlib.Core.Bool.{cond};
 ghost use Rattle.rules.specs.Settings.{document01};
 ghost use Rattle.rules.specs.Messages.{bothZero};
-ghost use Rattle.rules.specs.Table.{twoVerdict, twoTable};
 ghost use Rattle.round_message.specs.Rounds.{Summable};
-ghost use Rattle.waiting.specs.Held.{waitsIn};
-ghost use Rattle.rounds.specs.Waits.{Waits};
-ghost use Rattle.round_two.specs.Two.{twoFaultAt, TwoReady};
+ghost use Rattle.waiting.specs.Changes.{lent};
+ghost use Rattle.table.specs.Deciding.{Decided};
+ghost use Rattle.rounds.specs.Waits.{Sharing};
+ghost use Rattle.round_two.specs.Two.{twoFaultAt, Settles, addedIf};
 ghost use Rattle.round_two.specs.Calls.{RoundTwo};
-use layout::AWAITS_TWO;
 use layout::Table;
 use rounds::adding::add_published;
+use rounds::named::Named;
+use rounds::named::find;
+use rounds::named::numbers_at;
+use rounds::named::share_at;
 use rounds::own::own_refusal;
 use rounds::own::sigma_of;
-use table::Found;
-use table::read;
+use slots::Change;
+use slots::Slot;
+use table::deciding::decide;
+use waiting::AWAITS_TWO;
 use waiting::Waiting;
-use waiting::writing::decide;
-
-// The verdict on a return, or the number of the refusal.
-pub enum Verdict {
-    Accepted,
-    Rejected,
-    Refused(u32),
-}
+use waiting::writing::refused;
 
 // The refusal by the joined messages: 12, or 0 for none.
-fn two_refusal(t: &[u8], joined: &[u8], k: Table, w: Waiting) -> u32
-    requires { ⌜ Waits (now t) k × (w ≡ waitsIn (now t)) ⌝ }
-    ensures { λ r. ⌜ r ≡ twoFaultAt (now (t .entry)) (now (joined .entry)) ⌝ }
+fn two_refusal(joined: &[u8], k: Table, w: Waiting, ns: &[u32]) -> u32
+    requires { ⌜ Sharing k (now ns) (w .rh) (w .d) (w .e) ⌝ }
+    ensures { λ r. ⌜ r ≡ twoFaultAt k w (now (ns .entry)) (now (joined .entry)) ⌝ }
 {
-    let sigma = sigma_of(t, k, w, w.d, w.e);
+    let sigma = sigma_of(k, ns, w.rh, w.d, w.e);
     own_refusal(joined, k.servers, 35, w.id, k.own, sigma, w.tau)
 }
 
-// Whether the return is accepted: both sums are 0.
-fn both_zero(joined: &[u8], servers: u32) -> bool
+// The verdict on a return: 1 where both sums are 0, else 0.
+fn verdict(joined: &[u8], servers: u32) -> u32
     requires { ⌜ Summable servers (now joined) ⌝ }
-    ensures { λ r. ⌜ r ≡ bothZero document01 servers (now (joined .entry)) ⌝ }
+    ensures { λ r. ⌜ r ≡ cond (bothZero document01 servers (now (joined .entry))) 1 0 ⌝ }
 {
     if round_message::first_sum(joined, servers) != 0 {
-        return false;
+        return 0;
     }
-    round_message::second_sum(joined, servers) == 0
+    if round_message::second_sum(joined, servers) != 0 {
+        return 0;
+    }
+    1
 }
 
-// Decides the return that waits: where it is accepted its published entries are added to the totals.
-fn settle(t: &mut [u8], joined: &[u8], k: Table, id: u32) -> bool
-    requires { ⌜ TwoReady (now t) (now joined) k id ⌝ }
-    ensures { λ r. ⌜ (r ≡ twoVerdict document01 (now (t .entry)) (now (joined .entry)))
-        × (now (t .exit) ≡ twoTable document01 (now (t .entry)) (now (joined .entry))) ⌝ }
+// Decides the return at a place, under its id: where it is accepted its published entries are added to the totals.
+fn settle(
+    table: &mut [u8],
+    numbers: &mut [u32],
+    k: Table,
+    at: usize,
+    id: u32,
+    accepted: u32,
+) -> Change
+    requires { ⌜ Settles (now table) (now numbers) k at accepted ⌝ }
+    ensures { λ r. ⌜ Decided k at accepted id (addedIf accepted k at (now (numbers .entry)) (now (table .entry)))
+        (now (numbers .entry)) r (now (table .exit)) (now (numbers .exit)) ⌝ }
 {
-    if both_zero(joined, k.servers) {
-        add_published(t, k);
-        decide(t, k, 1, id);
-        return true;
+    if accepted == 0 {
+        return decide(table, k, numbers, at, accepted, id);
     }
-    decide(t, k, 0, id);
-    false
+    add_published(table, k, share_at(numbers, k, at));
+    decide(table, k, numbers, at, accepted, id)
 }
 
-// Takes the joined messages of round two, and decides the return that waits.
-pub fn round_two(table: &mut [u8], joined: &[u8]) -> Verdict
-    ensures { λ r. ⌜ RoundTwo (now (table .entry)) (now (joined .entry)) r (now (table .exit)) ⌝ }
+// Takes the joined messages of round two for an id, and decides the return.
+pub fn round_two(
+    table: &mut [u8],
+    list: [Slot; 8],
+    numbers: &mut [u32],
+    id: u32,
+    joined: &[u8],
+    accepted: &mut u32,
+) -> Change
+    ensures { λ r. ⌜ RoundTwo (lent (now (table .entry)) list (now (numbers .entry))) id (now (joined .entry))
+        (now (accepted .entry)) r (now (table .exit)) (now (numbers .exit)) (now (accepted .exit)) ⌝ }
 {
-    match read(table) {
-        Found::Refused(fault) => Verdict::Refused(fault),
-        Found::Table(k) => {
-            if k.stage != AWAITS_TWO {
-                return Verdict::Refused(11);
-            }
-            let w = waiting::read(table, k);
-            let refusal = two_refusal(table, joined, k, w);
+    match find(table, list, numbers, id, AWAITS_TWO) {
+        Named::Refused(fault) => refused(fault),
+        Named::At(k, at, w) => {
+            let refusal = two_refusal(joined, k, w, numbers_at(numbers, k, at));
             if refusal != 0 {
-                return Verdict::Refused(refusal);
+                return refused(refusal);
             }
-            if settle(table, joined, k, w.id) {
-                return Verdict::Accepted;
-            }
-            Verdict::Rejected
+            let both = verdict(joined, k.servers);
+            *accepted = both;
+            settle(table, numbers, k, at, id, both)
         }
     }
 }

@@ -1,11 +1,11 @@
--- Words added to words. A run of sums that grows at its end is put next to what is there, and the words behind it are still
+-- Numbers added to words. A run of sums that grows at its end is put next to what is there, and the words behind it are still
 -- those that were there. Assumes that the runs lie within the buffer.
-use mathlib.Core.Path.{_≡_, sym, ap, ap₂, _∙_}
+use mathlib.Core.Path.{_≡_, sym, ap, _∙_}
 use mathlib.Core.List.{List, _++_}
 use Prim.Native.Nat.{ℕ, _+_, _*_, _≤_, _<_}
 use native.Mathlib.Numerals.{add-one}
 use native.Mathlib.Omega.{arith}
-use lib.ListN.{length}
+use lib.ListN.{length, getD}
 use Rattle.algebra.specs.Lists.{tabulate}
 use Rattle.algebra.proofs.Tables.{length-tabulate, tabulate-none, tabulate-next, tabulate-append}
 use Rattle.words.specs.Bytes.{valueOf, bytesOf, bytesOfAll, part, splice}
@@ -49,24 +49,17 @@ module _ (f : ℕ → ℕ) where
     length-run-put i h = length-splice s a (bytesOfAll 4 (tabulate f i)) (omega (arith, length-run i))
 
 -- ---- a turn of the adding
-module _ (s : List ℕ) (to from n i : ℕ) (h : Addable s to from n) (l : i < n) (t : List ℕ)
-    (e : t ≡ splice s to (bytesOfAll 4 (tabulate (wordsAdded s to from) i))) where
-  abbrev f : ℕ → ℕ
-  f = wordsAdded s to from
+module _ (s : List ℕ) (to : ℕ) (xs : List ℕ) (from n i : ℕ) (h : Addable s to xs from n) (l : i < n) (t : List ℕ)
+    (e : t ≡ splice s to (bytesOfAll 4 (tabulate (wordsAdded s to xs from) i))) where
+  to-word : wordAt t (to + 4 * i) ≡ wordAt s (to + 4 * i)
+  to-word = rw e (ap valueOf (run-behind (wordsAdded s to xs from) s to i (to + 4 * i) 4 (omega (arith, h .fits)) (omega arith)))
 
-  pub to-word : wordAt t (to + 4 * i) ≡ wordAt s (to + 4 * i)
-  to-word = rw e (ap valueOf (run-behind f s to i (to + 4 * i) 4 (omega (arith, h .apart, h .fits)) (omega arith)))
+  pub words-below : (x : ℕ) → x ≡ wordAt t (to + 4 * i) → (x < prime) × (getD xs (from + i) 0 < prime)
+  words-below x p = (rw (p ∙ to-word) (h .to-below i l), h .from-below i l)
 
-  pub from-word : wordAt t (from + 4 * i) ≡ wordAt s (from + 4 * i)
-  from-word =
-      rw e (ap valueOf (run-behind f s to i (from + 4 * i) 4 (omega (arith, h .apart, h .fits)) (omega (arith, h .apart))))
-
-  pub words-below : (x y : ℕ) → x ≡ wordAt t (to + 4 * i) → y ≡ wordAt t (from + 4 * i) → (x < prime) × (y < prime)
-  words-below x y p q = (rw (p ∙ to-word) (h .to-below i l), rw (q ∙ from-word) (h .from-below i l))
-
-  pub words-turn : (x y v : ℕ) → x ≡ wordAt t (to + 4 * i) → y ≡ wordAt t (from + 4 * i) → v ≡ residues ._⊕_ x y
-      → splice t (to + 4 * i) (bytesOf 4 v) ≡ splice s to (bytesOfAll 4 (tabulate (wordsAdded s to from) (i + 1)))
+  pub words-turn : (x v : ℕ) → x ≡ wordAt t (to + 4 * i) → v ≡ residues ._⊕_ x (getD xs (from + i) 0)
+      → splice t (to + 4 * i) (bytesOf 4 v) ≡ splice s to (bytesOfAll 4 (tabulate (wordsAdded s to xs from) (i + 1)))
   unfolding wordsAdded
-  words-turn x y v p q r =
-      let g : v ≡ wordsAdded s to from i = r ∙ ap₂ (residues ._⊕_) (p ∙ to-word) (q ∙ from-word) in
-      rw (g, e) (run-next (wordsAdded s to from) s to i (omega (arith, h .apart, h .fits)))
+  words-turn x v p r =
+      let g : v ≡ wordsAdded s to xs from i = r ∙ ap (λ (y : ℕ). residues ._⊕_ y (getD xs (from + i) 0)) (p ∙ to-word) in
+      rw (g, e) (run-next (wordsAdded s to xs from) s to i (omega (arith, h .fits)))

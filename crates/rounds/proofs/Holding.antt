@@ -1,38 +1,41 @@
--- The return that waits in a sound table: its numbers are elements, and sigma is rules'. Assumes nothing.
-use mathlib.Core.Path.{_≡_, sym, _∙_}
-use mathlib.Core.Bool.{Bool, true, false, not, cond, _&&_, _||_}
+-- A return that waits in a record of a sound table: the numbers of its place as the code cuts them out, that they are elements,
+-- and its sigma. The table's laws give what its record keeps to (`waits-at`), and the places are rules'. Assumes nothing.
+use mathlib.Core.Path.{_≡_, refl, sym, _∙_}
+use mathlib.Core.Bool.{false, _&&_}
 use mathlib.Core.List.{List}
-use Prim.Native.Nat.{ℕ, _+_, _-_, _*_, _≤_, _<_}
+use Prim.Native.Nat.{ℕ, _+_, _*_, _≤_, _<_}
 use native.Mathlib.Omega.{arith}
-use lib.Dec.{eqb, lit<}
 use lib.ListN.{length, getD, take, drop}
-use Rattle.algebra.specs.Lists.{tabulate}
+use lib.Seq.{getD-take, take-take}
 use Rattle.algebra.proofs.Members.{and-left, and-right}
-use Rattle.algebra.proofs.Tables.{getD-tabulate}
-use Rattle.words.specs.Bytes.{part, splice, allBelow}
+use Rattle.words.specs.Bytes.{splice, allBelow}
 use Rattle.words.proofs.Splice.{splice-all, length-part}
-use Rattle.words.proofs.Below.{all-of-below}
-use Rattle.field.specs.Residues.{prime, residues}
+use Rattle.words.proofs.Below.{all-of-below, below-of-all, all-take}
+use Rattle.field.specs.Residues.{prime, Elements}
 use Rattle.field.proofs.Below.{member-below}
 use Rattle.rules.specs.Settings.{document01}
-use Rattle.rules.specs.Columns.{within, entriesIn}
+use Rattle.rules.specs.Columns.{entriesIn}
 use Rattle.rules.specs.Circuit.{gatesIn}
-use Rattle.rules.specs.Judging.{allowedPair, firstOnly, aOf, bOf, cOf, sigmaFrom}
+use Rattle.rules.specs.Judging.{aOf, bOf, cOf, shareSize}
 use Rattle.rules.specs.Messages.{roundMessage}
 use Rattle.rules.specs.Server as rules
-use Rattle.rules.specs.Server.{Stage, idle, awaitsOne, awaitsTwo, closed}
-use Rattle.rules.specs.Table.{columnsIn, wordIn, waitingIn, totalsIn, waits}
-use Rattle.rules.specs.Table.{headerSound, countsSound, waitingSound, tableSound, tableFault}
+use Rattle.rules.specs.Server.{sigmaIn}
+use Rattle.rules.specs.WaitingList.{isFree, waitingCount, waitingSound}
+use Rattle.rules.specs.Table.{Lent, columnsIn, columnsAt, totalsIn, openedIn, headerSound, countsSound, tableSound}
 use Rattle.round_message.proofs.Writing.{length-round}
-use Rattle.steps.proofs.Parts.{span}
 use Rattle.limits.specs.Sheets.{sizeOf}
+use Rattle.layout.specs.Places.{placeSizeOf}
 use Rattle.layout.specs.declared.Table.{Table}
 use Rattle.layout.specs.Numbers.{tableOf}
-use Rattle.table.specs.Reading.{Sound}
-use Rattle.waiting.specs.Places.{shareAt}
-use Rattle.waiting.specs.Held.{waitsIn}
+use Rattle.waiting.specs.Held.{heldAt}
 use Rattle.waiting.specs.declared.Waiting.{Waiting}
-use Rattle.rounds.specs.Waits.{Waits, sigmaAt}
+use Rattle.waiting.proofs.Places.{place-within}
+use Rattle.table.specs.Reading.{Sound}
+use Rattle.table.proofs.Answers.{headed-of}
+use Rattle.table.proofs.Waiting as table
+use Rattle.table.proofs.Waiting.{numbers-are}
+use Rattle.rounds.specs.Waits.{slotIn, numbersIn, heldIn, Waits, placeIn, shareIn, InRun, Sharing, sigmaAt}
+use Rattle.rounds.specs.Totals.{Adds}
 
 -- ---- a message written into a buffer of just its length
 pub message-alone : (s m : List ℕ) (kind id own x y : ℕ) → length s ≡ 14 → m ≡ splice s 0 (roundMessage document01 kind id own x y)
@@ -40,86 +43,117 @@ pub message-alone : (s m : List ℕ) (kind id own x y : ℕ) → length s ≡ 14
 message-alone s m kind id own x y h e =
     e ∙ splice-all s (roundMessage document01 kind id own x y) (length-round kind id own x y ∙ sym h)
 
--- ---- the share of the return that waits, as the code cuts it out from p, with z elements: a, b and c stand within it
-pub share-long : (T : List ℕ) (k : Table) (p z : ℕ) → Sound T k → p ≡ shareAt (k .sheet) (k .published) (k .returns)
-    → z ≡ sizeOf (k .entries) (k .gates)
-    → 4 * (k .entries + 3 + (k .gates + k .gates)) + 12 ≤ length (take (p + 4 * z - p) (drop p T))
-share-long T k p z s ep ez =
-    let l : length (part p (4 * z) T) ≡ 4 * z = length-part p (4 * z) T (omega (arith, s .long)) in
-    rw (span p (4 * z) T, l) (omega arith)
+-- ---- the numbers of a place lie within the run
+pub run-fits : (es : List ℕ) (k : Table) (j : ℕ) → InRun es k j → (z : ℕ) → z ≡ placeSizeOf (k .entries) (k .gates)
+    → z * j + z ≤ length es
+run-fits es k j r z e = omega (arith, place-within z j (r .within), r .run-long)
 
--- sigma from the elements
-sigma-at : (T xs : List ℕ) (d e : ℕ) → xs ≡ waitingIn document01 T .elements
-    → sigmaFrom residues (firstOnly residues (tableOf T .own)) d e
-    (getD xs (tableOf T .entries + 3 + (tableOf T .gates + tableOf T .gates)) 0)
-    (getD xs (tableOf T .entries + 3 + (tableOf T .gates + tableOf T .gates) + 1) 0)
-    (getD xs (tableOf T .entries + 3 + (tableOf T .gates + tableOf T .gates) + 2) 0) (waitsIn T .rh)
-    ≡ sigmaAt T d e
-unfolding tableOf waitsIn sigmaAt aOf bOf cOf
-sigma-at T xs d e x =
-    let l = entriesIn (columnsIn document01 T) in
-    let m = gatesIn (columnsIn document01 T) in
+-- the share is their start
+pub share-is : (T : Lent) (k : Table) → k ≡ tableOf (T .bytes) → (j : ℕ)
+    → shareIn k j (T .elements) ≡ take (shareSize (columnsAt document01 T)) (numbersIn T j)
+unfolding tableOf shareSize
+share-is T k e j =
+    let cs = columnsAt document01 T in
+    let n : ℕ = entriesIn cs + (gatesIn cs + gatesIn cs) + 6 in
+    rw e (sym (take-take n (n + 2) (drop ((n + 2) * j) (T .elements)) (omega arith)))
+
+pub size-is : (T : Lent) (k : Table) → k ≡ tableOf (T .bytes) → sizeOf (k .entries) (k .gates) ≡ shareSize (columnsAt document01 T)
+unfolding tableOf shareSize
+size-is T k e = rw e
+
+-- ---- sigma
+sigma-at : (t ns : List ℕ) (w : rules.Waiting) → w .elements ≡ take (shareSize (columnsIn document01 t)) ns
+    → sigmaAt (tableOf t) ns (w .rh) (w .d) (w .e) ≡ sigmaIn document01 (openedIn document01 t) w
+unfolding tableOf sigmaAt sigmaIn aOf bOf cOf shareSize
+sigma-at t ns w x =
+    let l = entriesIn (columnsIn document01 t) in
+    let m = gatesIn (columnsIn document01 t) in
+    let n = l + (m + m) + 6 in
+    let at : (i : ℕ) → i < n → getD (take n ns) i 0 ≡ getD ns i 0 = λ i h. getD-take n ns i 0 h in
     let b : l + 3 + (m + m) + 1 ≡ l + 4 + (m + m) = omega arith in
     let c : l + 3 + (m + m) + 2 ≡ l + 5 + (m + m) = omega arith in
-    rw (x, b, c)
+    rw (
+      x,
+      at (l + 3 + (m + m)) (omega arith),
+      at (l + 4 + (m + m)) (omega arith),
+      at (l + 5 + (m + m)) (omega arith),
+      b,
+      c,
+    )
 
-pub sigma-is : (T xs : List ℕ) (k : Table) (w : Waiting) (d e : ℕ) → k ≡ tableOf T → w ≡ waitsIn T → xs ≡ waitingIn document01 T .elements
-    → sigmaFrom residues (firstOnly residues (k .own)) d e (getD xs (k .entries + 3 + (k .gates + k .gates)) 0)
-    (getD xs (k .entries + 3 + (k .gates + k .gates) + 1) 0) (getD xs (k .entries + 3 + (k .gates + k .gates) + 2) 0) (w .rh)
-    ≡ sigmaAt T d e
-sigma-is T xs k w d e s q x = rw (s, q) (sigma-at T xs d e x)
+pub sigma-is : (t ns : List ℕ) (k : Table) (w : rules.Waiting) → k ≡ tableOf t
+    → w .elements ≡ take (shareSize (columnsIn document01 t)) ns
+    → sigmaAt k ns (w .rh) (w .d) (w .e) ≡ sigmaIn document01 (openedIn document01 t) w
+sigma-is t ns k w e x = rw e (sigma-at t ns w x)
 
--- its numbers, as code has them, are elements
-pub rh-element : (T : List ℕ) (k : Table) (w : Waiting) → Waits T k → w ≡ waitsIn T → w .rh < prime
-unfolding waitsIn
-rh-element T k w h e = rw e (h .rh-below)
-
-pub d-element : (T : List ℕ) (k : Table) (w : Waiting) → Waits T k → w ≡ waitsIn T → w .d < prime
-unfolding waitsIn
-d-element T k w h e = rw e (h .d-below)
-
-pub e-element : (T : List ℕ) (k : Table) (w : Waiting) → Waits T k → w ≡ waitsIn T → w .e < prime
-unfolding waitsIn
-e-element T k w h e = rw e (h .e-below)
-
--- ---- a sound table whose return waits
-waits-at : (T : List ℕ) → Sound T (tableOf T) → within 1 2 (tableOf T .stage) ≡ true → Waits T (tableOf T)
-unfolding tableSound waitingSound tableOf
-waits-at T s w =
-    let W = wordIn document01 T in
-    let pair = allowedPair document01 (columnsIn document01 T) (W 0) (W 1) in
-    let six = allBelow prime (tabulate W 6) in
-    let share = allBelow prime (waitingIn document01 T .elements) in
-    let last = not (waits document01 T) || waitingSound document01 T in
-    let totals = allBelow prime (totalsIn document01 T) in
-    let l : last ≡ true
-    = and-right totals last
-    (and-right (countsSound document01 T) (totals && last)
-    (and-right (headerSound document01 T) (countsSound document01 T && (totals && last)) (s .is-sound))) in
-    let h : pair && (six && share) ≡ true = or-right (waits document01 T) (waitingSound document01 T) w l in
-    let a = all-of-below prime (tabulate W 6) (and-left six share (and-right pair (six && share) h)) in
-    let below : (i : ℕ) → i < 6 → W i < prime
-    = λ i h. rw (getD-tabulate W 6 i 0 h) at (member-below (tabulate W 6) i a) in
+-- ---- what is known of a record that is not free
+pub waits-at : (T : Lent) (k : Table) → Sound T k → (j : ℕ) → j < 8 → isFree (slotIn T j) ≡ false → Waits T k j
+waits-at T k s j h f =
+    let w = table.waits-at T k s j h f in
     record {
       sound = s;
-      waiting = w;
-      d-below = below 2 (lit< tt);
-      e-below = below 3 (lit< tt);
-      rh-below = below 4 (lit< tt);
-      elements-below = and-right six share (and-right pair (six && share) h);
+      within = h;
+      not-free = f;
+      d-below = w .d-below;
+      e-below = w .e-below;
+      numbers-below = w .numbers-below;
     }
-  where
-    or-right : (a b : Bool) → a ≡ true → not a || b ≡ true → b ≡ true
-    or-right true b e h = h
-    or-right false b e h = let z : _≡_ {A = ℕ} 0 1 = cc in absurd (omega arith)
 
-pub waits-in : (T : List ℕ) (k : Table) → Sound T k → within 1 2 (k .stage) ≡ true → Waits T k
-waits-in T k s w = rw (s .says) (waits-at T (rw (s .says) at s) (rw (s .says) at w))
+module _ (T : Lent) (k : Table) (j : ℕ) (w : Waits T k j) where
+  pub in-run : InRun (T .elements) k j
+  in-run = record { limited = w .sound .limited; within = w .within; run-long = w .sound .run-long }
 
--- ---- the stage, from its byte
-abbrev pub stageOf : ℕ → rules.Waiting → Stage
-stageOf b w = cond (eqb b 0) idle (cond (eqb b 1) (awaitsOne w) (cond (eqb b 2) (awaitsTwo w) closed))
+  elements : Elements (numbersIn T j)
+  elements = all-of-below prime (numbersIn T j) (w .numbers-below)
 
-pub sound-fault : (T : List ℕ) (k : Table) → Sound T k → tableFault document01 T ≡ 0
-unfolding tableFault
-sound-fault T k s = rw (s .is-sound)
+  pub numbers-long : length (numbersIn T j) ≡ placeSizeOf (k .entries) (k .gates)
+  numbers-long =
+      let z = placeSizeOf (k .entries) (k .gates) in
+      rw (numbers-are T k (w .sound) j) at
+      (length-part (z * j) z (T .elements) (run-fits (T .elements) k j in-run z refl))
+
+  -- what its record says can be read off, and is what the code reads off
+  module _ (ns : List ℕ) (e : ns ≡ placeIn k j (T .elements)) (z : ℕ) (q : z ≡ sizeOf (k .entries) (k .gates)) where
+    numbers-same : ns ≡ numbersIn T j
+    numbers-same = e ∙ numbers-are T k (w .sound) j
+
+    pub held-asks : (z + 2 ≤ length ns) × (slotIn T j .d < prime) × (slotIn T j .e < prime)
+    held-asks = (rw numbers-same (omega (arith, numbers-long)), w .d-below, w .e-below)
+
+    pub held-is : heldAt (slotIn T j) ns z ≡ heldIn T j
+    held-is = rw (numbers-same, q, size-is T k (w .sound .says))
+
+  -- sigma can be worked out
+  pub sharing : (ns : List ℕ) → ns ≡ numbersIn T j → (u : Waiting) → u ≡ heldIn T j → Sharing k ns (u .rh) (u .d) (u .e)
+  unfolding heldAt
+  sharing ns e u q =
+      rw (e, q)
+      (record {
+        limited = w .sound .limited;
+        long = omega (arith, numbers-long);
+        elements = elements;
+        rh-below = member-below (numbersIn T j) (shareSize (columnsAt document01 T)) elements;
+        d-below = w .d-below;
+        e-below = w .e-below;
+      })
+
+  -- its published entries can be added
+  pub adds : (xs : List ℕ) → xs ≡ take (shareSize (columnsAt document01 T)) (numbersIn T j) → Adds (T .bytes) k xs
+  unfolding tableSound
+  adds xs e =
+      let counts = countsSound document01 (T .bytes) (waitingCount (T .slots)) in
+      let totals = allBelow prime (totalsIn document01 (T .bytes)) in
+      let last = waitingSound document01 (columnsAt document01 T) (T .slots) (T .elements) in
+      let n = shareSize (columnsAt document01 T) in
+      let long : length (take n (numbersIn T j)) ≡ n
+      = length-part 0 n (numbersIn T j) (omega (arith, numbers-long, size-is T k (w .sound .says))) in
+      record {
+        headed = headed-of T k (w .sound);
+        long = w .sound .long;
+        totals-below =
+            and-left totals last
+            (and-right counts (totals && last)
+            (and-right (headerSound document01 (T .bytes)) (counts && (totals && last)) (w .sound .is-sound)));
+        share-long = rw e (omega (arith, long, size-is T k (w .sound .says)));
+        share-below = rw e (below-of-all prime (take n (numbersIn T j)) (all-take (λ a. a < prime) n elements));
+      }

@@ -1,5 +1,6 @@
--- Laws of what the rounds work out from the return that waits, and of adding its published entries.
+-- Laws of what the rounds share: the return that a call names and its refusal, sigma, and the adding of published entries.
 pub mod Holding
+pub mod Naming
 pub mod AddedWords
 pub mod PublishedEntries
 pub mod PublishedSums

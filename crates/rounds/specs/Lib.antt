@@ -1,3 +1,4 @@
 -- What the contracts of this crate cite besides rules and waiting.
 pub mod Waits
+pub mod Named
 pub mod Totals

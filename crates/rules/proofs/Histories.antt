@@ -3,7 +3,10 @@ pub mod MessageBytes
 pub mod ShareBytes
 pub mod ClosingBytes
 pub mod Checks
+pub mod Opening
 pub mod PoolOpened
+pub mod Shuffled
+pub mod Keyed
 pub mod Moves
 pub mod NotesGrow
 pub mod Origins

@@ -9,9 +9,11 @@ pub mod LegalLists
 pub mod Returns
 -- Messages stored by place: every run is brought back
 pub mod Storage
--- Demand 3: the table's bytes tell what the ledger tells
-pub mod Tables
+-- The waiting list: records by their places, and the returns that wait
+pub mod Waiting
 -- Demand 3: the bytes of messages; what a call does to a ledger, and what a history of calls comes to
 pub mod Histories
+-- Demand 3: the table's three parts tell what the ledger tells
+pub mod Tables
 -- Demand 3: verdicts, the same ids, totals; a sound return is handled; the whole claim
 pub mod Runs

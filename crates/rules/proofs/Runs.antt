@@ -1,11 +1,18 @@
--- Demand 3: verdicts, the same ids, totals; a sound return is handled; the whole claim; returns that making wrote.
+-- Demand 3: verdicts, the same ids, totals; a sound return is handled; calls on different returns mixed; refusals; the whole
+-- claim; returns that making wrote.
 pub mod Agreement
 pub mod Verdicts
 pub mod FewReturns
 pub mod SameIds
 pub mod JoinedTotals
 pub mod WholeTotals
+pub mod SoundShare
+pub mod Holding
 pub mod Handled
+pub mod OneReturn
+pub mod Mixed
+pub mod Refusing
+pub mod WithinLimits
 pub mod WholeRuns
 pub mod Delivered
 pub mod EncodedTotals

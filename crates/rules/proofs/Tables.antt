@@ -1,10 +1,12 @@
--- Demand 3: the table's bytes tell what the ledger tells.
+-- Demand 3: the table's three parts tell what the ledger tells.
 pub mod Parts
 pub mod State
 pub mod Sound
 pub mod Writes
+pub mod Listed
 pub mod Invariant
-pub mod WaitBytes
+pub mod Refusals
+pub mod Passed
 pub mod Taken
 pub mod LedgerGrows
 pub mod Decided

@@ -2,6 +2,7 @@
 -- Assumes nothing.
 use mathlib.Core.Bool.{Bool, true, false, cond}
 use mathlib.Core.List.{List, [], _∷_, _++_, map}
+use mathlib.Core.Option.{Option, some, none}
 use Prim.Native.Nat.{ℕ, _%_}
 use lib.Dec.{eqb}
 use lib.ListN.{length, getD}
@@ -9,18 +10,19 @@ use Rattle.algebra.specs.Lists.{sumOver}
 use Rattle.rules.specs.Settings.{Setting}
 use Rattle.rules.specs.Columns.{publishedFrom}
 use Rattle.rules.specs.Messages.{idIn, shareElements, firstSum, secondSum, bothZero}
-use Rattle.rules.specs.Server.{Opened, Waiting, Stage, idle, awaitsOne, awaitsTwo, closed, ServerState, waitingOf}
-use Rattle.rules.specs.Server.{withSums, messageOne, messageTwo, summed, totalsMessage}
+use Rattle.rules.specs.Keyed.{find, without, changed}
+use Rattle.rules.specs.Server.{Opened, Waiting, Wait, awaitsOne, awaitsTwo, Stage, takes, closed, ServerState, waitingOf}
+use Rattle.rules.specs.Server.{withSums, messageOne, messageTwo, totalsMessage}
 use Rattle.rules.specs.Server.{shareRefusal, oneRefusal, twoRefusal, dropRefusal, closeRefusal}
 
--- The calls of a list: a share with r and s, rounds one and two with the joined messages, a drop, a close. `room` is the
--- length of the output buffer that is lent
+-- The calls of a list: a share with r and s, rounds one and two with the joined messages, a drop, a close. "Both rounds and
+-- drop name an id." `room` is the length of the output buffer that is lent
 pub data Call : Type 0 where
-  share : List ℕ → ℕ → ℕ → ℕ → Call
-  roundOne : List ℕ → ℕ → Call
-  roundTwo : List ℕ → Call
-  drop : Call
-  close : ℕ → Call
+  share : (m : List ℕ) (r s room : ℕ) → Call
+  roundOne : (id : ℕ) (joined : List ℕ) (room : ℕ) → Call
+  roundTwo : (id : ℕ) (joined : List ℕ) → Call
+  drop : (id : ℕ) → Call
+  close : (room : ℕ) → Call
 
 -- What a call hands back: its refusal; the message written by a share, round one or close; the verdict of round two;
 -- nothing more for a drop
@@ -37,12 +39,26 @@ pub record Note : Type 0 where
   pub r : ℕ
   pub s : ℕ
 
--- "await round one. Round one: note the sums d and e; await round two."
+-- "In the ledger, too, each id has its own stage": "await round one. Round one: note the sums d and e; await round two."
+pub data Pending : Type 0 where
+  waitsOne : Note → Pending
+  waitsTwo : Note → ℕ → ℕ → Pending
+
+abbrev pub noteIn : Pending → Note
+noteIn (waitsOne n) = n
+noteIn (waitsTwo n d e) = n
+
+abbrev pub pendingId : Pending → ℕ
+pendingId p = noteIn p .id
+
+-- the returns that wait, the latest first; or closed
 pub data Progress : Type 0 where
-  isIdle : Progress
-  waitsOne : Note → Progress
-  waitsTwo : Note → ℕ → ℕ → Progress
+  isOpen : List Pending → Progress
   isClosed : Progress
+
+abbrev pub waiting : Progress → List Pending
+waiting (isOpen ws) = ws
+waiting isClosed = []
 
 -- "A return is decided when accepted, rejected or dropped."
 pub data Decision : Type 0 where
@@ -57,9 +73,9 @@ pub record Ledger : Type 0 where
   pub progress : Progress
   pub decided : List Decided
 
--- "It starts idle and without ids."
+-- "It starts idle and without ids": nothing waits
 abbrev pub empty : Ledger
-empty = record { progress = isIdle; decided = [] }
+empty = record { progress = isOpen []; decided = [] }
 
 abbrev pub isAccepted : Decision → Bool
 isAccepted accepted = true
@@ -97,10 +113,12 @@ module _ (σ : Setting) (o : Opened) where
   abbrev pub noted : Note → Waiting
   noted n = waitingOf σ o (n .id) (n .elements) (n .r) (n .s)
 
+  unfoldable pub ledgerWait : Pending → Wait
+  ledgerWait (waitsOne n) = awaitsOne (noted n)
+  ledgerWait (waitsTwo n d e) = awaitsTwo (withSums (noted n) d e)
+
   unfoldable pub ledgerStage : Progress → Stage
-  ledgerStage isIdle = idle
-  ledgerStage (waitsOne n) = awaitsOne (noted n)
-  ledgerStage (waitsTwo n d e) = awaitsTwo (withSums (noted n) d e)
+  ledgerStage (isOpen ws) = takes (map ledgerWait ws)
   ledgerStage isClosed = closed
 
   unfoldable pub ledgerState : Ledger → ServerState
@@ -115,53 +133,58 @@ module _ (σ : Setting) (o : Opened) where
   -- the refusal of a call, told from the ledger
   unfoldable pub refusalOf : Ledger → Call → ℕ
   refusalOf l (share m r s room) = shareRefusal σ (ledgerState l) m r s room
-  refusalOf l (roundOne joined room) = oneRefusal σ (ledgerState l) joined room
-  refusalOf l (roundTwo joined) = twoRefusal σ (ledgerState l) joined
-  refusalOf l drop = dropRefusal (ledgerState l)
+  refusalOf l (roundOne id joined room) = oneRefusal σ (ledgerState l) id joined room
+  refusalOf l (roundTwo id joined) = twoRefusal σ (ledgerState l) id joined
+  refusalOf l (drop id) = dropRefusal (ledgerState l) id
   refusalOf l (close room) = closeRefusal σ (ledgerState l) room
 
-  -- the return that waits is decided
-  abbrev pub decide : Ledger → Note → Decision → Ledger
-  decide l n d = record { progress = isIdle; decided = l .decided ++ (record { note = n; decision = d } ∷ []) }
+  -- the return that waits under an id is decided
+  unfoldable pub decideAs : ℕ → Option Pending → List Pending → List Decided → Decision → Ledger
+  decideAs id none ws ds d = record { progress = isOpen ws; decided = ds }
+  decideAs id (some w) ws ds d = record {
+    progress = isOpen (without pendingId id ws);
+    decided = ds ++ (record { note = noteIn w; decision = d } ∷ []);
+  }
 
-  unfoldable pub decideWaiting : Ledger → Progress → Decision → Ledger
-  decideWaiting l isIdle d = l
-  decideWaiting l (waitsOne n) d = decide l n d
-  decideWaiting l (waitsTwo n x y) d = decide l n d
-  decideWaiting l isClosed d = l
+  abbrev pub decideWaiting : Ledger → ℕ → Decision → Ledger
+  decideWaiting l id d = decideAs id (find pendingId id (waiting (l .progress))) (waiting (l .progress)) (l .decided) d
 
   abbrev pub noteOf : List ℕ → ℕ → ℕ → Note
   noteOf m r s = record { id = idIn m; elements = shareElements σ m; r = r; s = s }
 
-  unfoldable pub sumsNoted : Progress → ℕ → ℕ → Progress
-  sumsNoted isIdle d e = isIdle
-  sumsNoted (waitsOne n) d e = waitsTwo n d e
-  sumsNoted (waitsTwo n x y) d e = waitsTwo n x y
-  sumsNoted isClosed d e = isClosed
+  unfoldable pub sumsNoted : ℕ → ℕ → Pending → Pending
+  sumsNoted d e (waitsOne n) = waitsTwo n d e
+  sumsNoted d e (waitsTwo n x y) = waitsTwo n x y
 
   -- a call that is not refused
   unfoldable pub ledgerAfter : Ledger → Call → Ledger
-  ledgerAfter l (share m r s room) = record { progress = waitsOne (noteOf m r s); decided = l .decided }
-  ledgerAfter l (roundOne joined room) = record {
-    progress = sumsNoted (l .progress) (firstSum σ (o .servers) joined) (secondSum σ (o .servers) joined);
+  ledgerAfter l (share m r s room) = record {
+    progress = isOpen (waitsOne (noteOf m r s) ∷ waiting (l .progress));
     decided = l .decided;
   }
-  ledgerAfter l (roundTwo joined) = decideWaiting l (l .progress) (cond (bothZero σ (o .servers) joined) accepted rejected)
-  ledgerAfter l drop = decideWaiting l (l .progress) dropped
+  ledgerAfter l (roundOne id joined room) = record {
+    progress =
+        isOpen
+        (changed pendingId id (sumsNoted (firstSum σ (o .servers) joined) (secondSum σ (o .servers) joined)) (waiting (l .progress)));
+    decided = l .decided;
+  }
+  ledgerAfter l (roundTwo id joined) = decideWaiting l id (cond (bothZero σ (o .servers) joined) accepted rejected)
+  ledgerAfter l (drop id) = decideWaiting l id dropped
   ledgerAfter l (close room) = record { progress = isClosed; decided = l .decided }
 
   -- what it hands back: the messages are those that Judging works out from what is noted
-  unfoldable pub ledgerMessage : Stage → List ℕ
-  ledgerMessage idle = []
-  ledgerMessage (awaitsOne w) = messageOne σ o w
-  ledgerMessage (awaitsTwo w) = messageTwo σ o w
-  ledgerMessage closed = []
+  abbrev pub secondAnswer : Note → List ℕ → List ℕ
+  secondAnswer n joined = messageTwo σ o (withSums (noted n) (firstSum σ (o .servers) joined) (secondSum σ (o .servers) joined))
+
+  unfoldable pub secondMessage : Option Pending → List ℕ → List ℕ
+  secondMessage none joined = []
+  secondMessage (some w) joined = secondAnswer (noteIn w) joined
 
   unfoldable pub answerOf : Ledger → Call → Answer
-  answerOf l (share m r s room) = wrote (ledgerMessage (ledgerStage (ledgerAfter l (share m r s room) .progress)))
-  answerOf l (roundOne joined room) = wrote (ledgerMessage (ledgerStage (ledgerAfter l (roundOne joined room) .progress)))
-  answerOf l (roundTwo joined) = judged (bothZero σ (o .servers) joined)
-  answerOf l drop = done
+  answerOf l (share m r s room) = wrote (messageOne σ o (noted (noteOf m r s)))
+  answerOf l (roundOne id joined room) = wrote (secondMessage (find pendingId id (waiting (l .progress))) joined)
+  answerOf l (roundTwo id joined) = judged (bothZero σ (o .servers) joined)
+  answerOf l (drop id) = done
   answerOf l (close room) = wrote (closingMessage l)
 
   -- "A call that the rules refuse leaves it as it was."

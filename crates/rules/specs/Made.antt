@@ -17,9 +17,9 @@ use Rattle.rules.specs.Values.{encoding}
 use Rattle.rules.specs.Judging.{shareSize, addedUp, letsIn, allowedPair}
 use Rattle.rules.specs.Making.{madeWhole, madeShare, shareMessage, shareLength, makeRefusal, makeBytes}
 use Rattle.rules.specs.Messages.{idIn, shareElements, headerFault, elementsFault, roundLength}
-use Rattle.rules.specs.Server.{messageOne, messageTwo}
+use Rattle.rules.specs.Server.{mostWaiting, messageOne, messageTwo}
 use Rattle.rules.specs.Joining.{joinTotals}
-use Rattle.rules.specs.Ledger.{Call, share, roundOne, roundTwo, wrote, judged, isIdle, empty, idsOf, notesOf}
+use Rattle.rules.specs.Ledger.{Call, share, roundOne, roundTwo, wrote, judged, Pending, isOpen, empty, idsOf}
 use Rattle.rules.specs.Ledger.{noteOf, refusalOf, runLedger, ledgerAnswers}
 use Rattle.rules.specs.WholeRun.{Pool, columns, openedAt, ledgerAt, acceptedAt, notesAt, returnOf, KeepsForm, Conditions}
 use Rattle.rules.specs.WholeRun.{DeliveredWhole, AllClosed, closings}
@@ -92,9 +92,11 @@ module _ (σ : Setting) (𝓟 : Pool σ) where
 
   -- servers that can take a return under the id with the pair r and s: as in `Ready`, with no word of its shares
   pub record CanTake (id r s room : ℕ) : Type 0 where
-    pub idle-all : (i : ℕ) → i < 𝓟 .servers → ledgerAt σ 𝓟 i .progress ≡ isIdle
-    pub fewer : (i : ℕ) → i < 𝓟 .servers → length (ledgerAt σ 𝓟 i .decided) < 𝓟 .returns
-    pub unused : (i : ℕ) → i < 𝓟 .servers → In id (idsOf (notesOf (ledgerAt σ 𝓟 i .decided))) → ⊥
+    pub waits : ℕ → List Pending
+    pub open-all : (i : ℕ) → i < 𝓟 .servers → ledgerAt σ 𝓟 i .progress ≡ isOpen (waits i)
+    pub below-eight : (i : ℕ) → i < 𝓟 .servers → length (waits i) < mostWaiting
+    pub fewer : (i : ℕ) → i < 𝓟 .servers → length (ledgerAt σ 𝓟 i .decided) + length (waits i) < 𝓟 .returns
+    pub unused : (i : ℕ) → i < 𝓟 .servers → In id (idsOf (notesAt σ 𝓟 i)) → ⊥
     pub id-fits : id < 4294967296
     pub pair : allowedPair σ (columns σ 𝓟) r s ≡ true
     pub enough : roundLength σ ≤ room
@@ -107,8 +109,8 @@ module _ (σ : Setting) (𝓟 : Pool σ) where
       (i : ℕ) → i < 𝓟 .servers
       → ledgerAnswers σ (openedAt σ 𝓟 i) (ledgerAt σ 𝓟 i)
       (share (madePart σ (𝓟 .sheet) (𝓟 .servers) id values random i) r s room
-      ∷ roundOne (firsts σ 𝓟 id shares r s) room
-      ∷ roundTwo (seconds σ 𝓟 id shares r s)
+      ∷ roundOne id (firsts σ 𝓟 id shares r s) room
+      ∷ roundTwo id (seconds σ 𝓟 id shares r s)
       ∷ [])
       ≡ wrote (messageOne σ (openedAt σ 𝓟 i) (firstWait σ 𝓟 id shares r s i))
       ∷ wrote (messageTwo σ (openedAt σ 𝓟 i) (secondWait σ 𝓟 id shares r s i))

@@ -3,6 +3,7 @@
 -- Assumes nothing.
 use mathlib.Core.Bool.{Bool, false, not, _||_}
 use mathlib.Core.List.{List, [], _∷_, _++_, map}
+use mathlib.Core.Option.{Option, some, none}
 use Prim.Native.Nat.{ℕ, _+_, _*_}
 use lib.Dec.{eqb, ltb, leb}
 use lib.ListN.{length, getD}
@@ -15,6 +16,7 @@ use Rattle.rules.specs.Columns.{serversFault, ownFault, returnsFault, to
 use Rattle.rules.specs.Judging.{firstOnly, aOf, bOf, cOf, hAt, dOf, eOf, sigmaFrom, tauOf, allowedPair}
 use Rattle.rules.specs.Messages.{idIn, headerFault, elementsFault, roundMessage, roundLength, roundFault}
 use Rattle.rules.specs.Messages.{firstSum, secondSum}
+use Rattle.rules.specs.Keyed.{find}
 
 -- "A server's table opens with S, its own number, a sheet and N."
 pub record Opened : Type 0 where
@@ -39,11 +41,24 @@ pub record Waiting : Type 0 where
 abbrev pub withSums : Waiting → ℕ → ℕ → Waiting
 withSums w d e = record { id = w .id; r = w .r; s = w .s; d = d; e = e; rh = w .rh; tau = w .tau; elements = w .elements }
 
--- "It is idle (takes a share or a close), awaits round one or awaits round two (takes that round's joined messages or a
--- drop), or is closed (takes nothing)."
+-- "A table now holds up to eight unfinished returns, each with its own stage": it awaits round one or round two
+pub data Wait : Type 0 where
+  awaitsOne awaitsTwo : Waiting → Wait
+
+abbrev pub held : Wait → Waiting
+held (awaitsOne w) = w
+held (awaitsTwo w) = w
+
+abbrev pub heldId : Wait → ℕ
+heldId w = held w .id
+
+-- the most returns that wait
+abbrev pub mostWaiting : ℕ
+mostWaiting = 8
+
+-- the table takes calls, and these returns wait; or it "is closed (takes nothing)"
 pub data Stage : Type 0 where
-  idle : Stage
-  awaitsOne awaitsTwo : Waiting → Stage
+  takes : List Wait → Stage
   closed : Stage
 
 -- What a server knows: what it was opened with, its stage, the ids decided, the number accepted and the totals
@@ -115,59 +130,60 @@ module _ (σ : Setting) (o : Opened) where
   unfoldable pub totalsLength : ℕ
   totalsLength = 6 + σ .width * publishedIn (o .columns)
 
--- "11: a call the stage does not allow": what a check says at the stages that allow the call, 11 at the others
-unfoldable pub whileIdle : Stage → ℕ → ℕ
-whileIdle idle n = n
-whileIdle (awaitsOne w) n = 11
-whileIdle (awaitsTwo w) n = 11
-whileIdle closed n = 11
+-- "11: a call the stage does not allow": what a check says where the call is allowed, 11 elsewhere. Of a table that is not
+-- closed, by the returns that wait; of a return, by the one that waits under the id that a call names
+unfoldable pub whileOpen : Stage → (List Wait → ℕ) → ℕ
+whileOpen (takes ws) f = f ws
+whileOpen closed f = 11
 
-unfoldable pub whileOne : Stage → (Waiting → ℕ) → ℕ
-whileOne idle f = 11
-whileOne (awaitsOne w) f = f w
-whileOne (awaitsTwo w) f = 11
-whileOne closed f = 11
+unfoldable pub whileOne : Option Wait → (Waiting → ℕ) → ℕ
+whileOne none f = 11
+whileOne (some (awaitsOne w)) f = f w
+whileOne (some (awaitsTwo w)) f = 11
 
-unfoldable pub whileTwo : Stage → (Waiting → ℕ) → ℕ
-whileTwo idle f = 11
-whileTwo (awaitsOne w) f = 11
-whileTwo (awaitsTwo w) f = f w
-whileTwo closed f = 11
+unfoldable pub whileTwo : Option Wait → (Waiting → ℕ) → ℕ
+whileTwo none f = 11
+whileTwo (some (awaitsOne w)) f = 11
+whileTwo (some (awaitsTwo w)) f = f w
 
-unfoldable pub whileWaiting : Stage → ℕ
-whileWaiting idle = 11
-whileWaiting (awaitsOne w) = 0
-whileWaiting (awaitsTwo w) = 0
-whileWaiting closed = 11
+unfoldable pub whileWaiting : Option Wait → ℕ
+whileWaiting none = 11
+whileWaiting (some w) = 0
 
--- The refusals of each call, 0 for none, in the order told. A share with its pair and the room of the output buffer:
--- "11, 13, 7, 8, 10, 9, 14"
+-- The refusals of each call, 0 for none, in the order told. A share with its pair and the room of the output buffer: "11, 13,
+-- 7, 8, 10, 9, 14". "Decided and waiting together never exceed N, and 13 is given when they reach it. An id that waits is
+-- refused 10; a ninth return is refused 11"
 unfoldable pub shareRefusal : Setting → ServerState → List ℕ → ℕ → ℕ → ℕ → ℕ
 shareRefusal σ k m r s room =
-    whileIdle (k .stage)
-    (orElse (check (ltb (length (k .used)) (k .opened .returns)) 13)
+    whileOpen (k .stage)
+    (λ ws. orElse (check (ltb (length ws) mostWaiting) 11)
+    (orElse (check (ltb (length (k .used) + length ws) (k .opened .returns)) 13)
     (orElse (headerFault σ (k .opened .columns) (k .opened .own) m)
     (orElse (elementsFault σ m)
-    (orElse (check (not (isMember (idIn m) (k .used))) 10)
-    (orElse (check (allowedPair σ (k .opened .columns) r s) 9) (check (leb (roundLength σ) room) 14))))))
+    (orElse (check (not (isMember (idIn m) (k .used ++ map heldId ws))) 10)
+    (orElse (check (allowedPair σ (k .opened .columns) r s) 9) (check (leb (roundLength σ) room) 14)))))))
 
--- "Round one: 11, 12, 14."
-unfoldable pub oneRefusal : Setting → ServerState → List ℕ → ℕ → ℕ
-oneRefusal σ k joined room =
+-- "Round one: 11, 12, 14." "Both rounds and drop name an id. An id not waiting is refused 11"
+unfoldable pub oneRefusal : Setting → ServerState → ℕ → List ℕ → ℕ → ℕ
+oneRefusal σ k id joined room =
     let o = k .opened in
-    whileOne (k .stage)
-    (λ w. orElse (roundFault σ (o .servers) 34 (w .id) (o .own) (messageOne σ o w) joined) (check (leb (roundLength σ) room) 14))
+    whileOpen (k .stage)
+    (λ ws. whileOne (find heldId id ws)
+    (λ w. orElse (roundFault σ (o .servers) 34 (w .id) (o .own) (messageOne σ o w) joined) (check (leb (roundLength σ) room) 14)))
 
 -- "Round two, which writes no message: 11, 12."
-unfoldable pub twoRefusal : Setting → ServerState → List ℕ → ℕ
-twoRefusal σ k joined =
+unfoldable pub twoRefusal : Setting → ServerState → ℕ → List ℕ → ℕ
+twoRefusal σ k id joined =
     let o = k .opened in
-    whileTwo (k .stage) (λ w. roundFault σ (o .servers) 35 (w .id) (o .own) (messageTwo σ o w) joined)
+    whileOpen (k .stage)
+    (λ ws. whileTwo (find heldId id ws) (λ w. roundFault σ (o .servers) 35 (w .id) (o .own) (messageTwo σ o w) joined))
 
 -- "Drop: 11." "Dropping is allowed while a return waits."
-unfoldable pub dropRefusal : ServerState → ℕ
-dropRefusal k = whileWaiting (k .stage)
+unfoldable pub dropRefusal : ServerState → ℕ → ℕ
+dropRefusal k id = whileOpen (k .stage) (λ ws. whileWaiting (find heldId id ws))
 
--- "Close: 11, 14."
+-- "Close: 11, 14." "A close while any waits is refused 11"
 unfoldable pub closeRefusal : Setting → ServerState → ℕ → ℕ
-closeRefusal σ k room = whileIdle (k .stage) (check (leb (totalsLength σ (k .opened)) room) 14)
+closeRefusal σ k room =
+    whileOpen (k .stage)
+    (λ ws. orElse (check (eqb (length ws) 0) 11) (check (leb (totalsLength σ (k .opened)) room) 14))

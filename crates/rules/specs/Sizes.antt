@@ -2,7 +2,7 @@
 -- Assumes nothing.
 use mathlib.Core.Path.{_≡_}
 use mathlib.Core.Logic.{_↔_}
-use mathlib.Core.Bool.{cond}
+use mathlib.Core.Bool.{true, cond}
 use mathlib.Core.List.{List, [], _∷_}
 use Prim.Native.Nat.{ℕ, zero, suc, _+_, _*_, _≤_}
 use lib.ListN.{length}
@@ -14,7 +14,7 @@ use Rattle.rules.specs.Circuit.{constantsIn, addsIn, scalesIn, gatesIn, 
 use Rattle.rules.specs.CircuitReader.{bodyLengths, stepWires, stepGates, stepTests, circuitFault, countIn, sheetCircuit}
 use Rattle.rules.specs.Judging.{shareSize}
 use Rattle.rules.specs.Making.{shareMessage, shareLength}
-use Rattle.rules.specs.Table.{openLength, openRefusal}
+use Rattle.rules.specs.Table.{openRoom, openRefusal}
 
 -- "the greatest N that opens": the greatest of 1 to n with which no total can reach p, 0 for none
 unfoldable pub greatestUpTo : Setting → List Column → ℕ → ℕ
@@ -87,9 +87,9 @@ pub record ToldFromSheet (σ : Setting) (sheet : List ℕ) : Type 0 where
       → length (shareMessage σ id server xs) ≡ sizesOf σ sheet .shareBytes
   -- N opens exactly from 1 to the greatest, which is at most 1,024, where S, the own number and the room are in order
   pub greatest-most : sizesOf σ sheet .greatestReturns ≤ mostReturns
-  pub greatest-opens : (servers own returns room : ℕ) → serversFault servers ≡ 0 → ownFault servers own ≡ 0
-      → openLength σ sheet returns ≤ room
-      → (openRefusal σ servers own sheet returns room ≡ 0)
+  pub greatest-opens : (servers own returns room records numbers : ℕ) → serversFault servers ≡ 0 → ownFault servers own ≡ 0
+      → openRoom σ sheet returns room records numbers ≡ true
+      → (openRefusal σ servers own sheet returns room records numbers ≡ 0)
       ↔ ((1 ≤ returns) × (returns ≤ sizesOf σ sheet .greatestReturns))
 
 abbrev pub RoomTold : Setting → Type 0

@@ -1,133 +1,174 @@
--- Document 01, "Judging", "Whole runs" and "Who can cause which refusal": a server's table by rows that compute. First
--- the tables within the limits and those past them, then calls on the tables of two servers, the orders of refusals, and
--- what is kept of a return. Assumes nothing.
+-- Document 01, "Judging", "Whole runs" and "Who can cause which refusal", and document 02, eight returns waiting: a server's
+-- table by rows that compute. First the tables within the limits and those past them, then calls on the tables of two servers,
+-- the orders of refusals, and what is kept of a return. WaitingExamples has the rows about several returns that wait.
+-- Assumes nothing.
 use mathlib.Core.Bool.{Bool, _&&_, _||_, not}
 use mathlib.Core.List.{List, [], _∷_, _++_}
 use Prim.Native.Nat.{ℕ, _+_, _-_, _*_}
 use lib.Dec.{eqb}
-use lib.ListN.{length, set, take, drop, replicate}
+use lib.ListN.{length, getD, set, take, drop, replicate}
 use Rattle.algebra.specs.Lists.{every, countFrom, tabulate}
 use Rattle.words.specs.Bytes.{bytesOf, bytesOfAll, splice}
+use Rattle.slots.specs.declared.Slot.{Slot}
+use Rattle.slots.specs.Slots.{freeSlot}
 use Rattle.rules.specs.Making.{shareMessage, makeRefusal}
-use Rattle.rules.specs.Table.{unusedIn, keptIn, tableSound, openRefusal, openBytes, shareRefused, shareTable, shareBytes, oneRefused, oneTable}
-use Rattle.rules.specs.Table.{oneBytes, twoRefused, twoVerdict, twoTable, dropRefused, dropTable, closeRefused, closeTable, closeBytes}
+use Rattle.rules.specs.Table.{Lent, unusedIn, tableSound, openRefusal, shareRefused, shareTable, shareBytes, oneRefused, oneTable}
+use Rattle.rules.specs.Table.{oneBytes, twoRefused, twoVerdict, twoTable, dropRefused, dropTable, closeRefused, closeTable}
+use Rattle.rules.specs.Table.{closeBytes}
 use Rattle.rules.specs.Joining.{joinRefusal, joinCount, joinTotals}
-use Rattle.rules.specs.Examples.{Row, row, P, σ, same, random, honest, cheat}
+use Rattle.rules.specs.Examples.{Row, row, P, σ, same, random, honest, cheat, opened}
 
--- the table that server i of two opens for sheet 17 and N = 2, 89 bytes
-abbrev fresh : ℕ → List ℕ
-fresh i = openBytes σ 2 i (17 ∷ []) 2
+-- the table that server i of two opens for sheet 17 and N = 2: 25 bytes, eight records, 11 numbers for each
+abbrev pub fresh : ℕ → Lent
+fresh i = opened i (17 ∷ []) 2
 
-abbrev sound : List ℕ → Bool
+abbrev pub sound : Lent → Bool
 sound T = tableSound σ T
 
--- that table with one byte changed, and with so many decided and accepted
-abbrev changed : ℕ → ℕ → List ℕ
-changed place byte = set (fresh 0) place byte
+-- a table with other bytes, records or numbers
+abbrev pub withBytes : Lent → List ℕ → Lent
+withBytes T t = record { bytes = t; slots = T .slots; elements = T .elements }
 
-abbrev counted : ℕ → ℕ → List ℕ
-counted decided accepted = splice (fresh 0) 6 (bytesOf 2 decided ++ bytesOf 2 accepted)
+abbrev pub withSlots : Lent → List Slot → Lent
+withSlots T xs = record { bytes = T .bytes; slots = xs; elements = T .elements }
 
--- that table at a stage, with r = 2, and number k of the six after the waiting id, or number k of the share's elements
-abbrev waitsAt : ℕ → List ℕ
-waitsAt stage = splice (changed 1 stage) 29 (bytesOf 4 2)
+abbrev pub withNumbers : Lent → List ℕ → Lent
+withNumbers T es = record { bytes = T .bytes; slots = T .slots; elements = es }
 
-abbrev word : ℕ → ℕ → List ℕ
-word k v = splice (waitsAt 1) (29 + 4 * k) (bytesOf 4 v)
+-- server 0's table with one byte changed, and with so many decided and accepted
+abbrev changed : ℕ → ℕ → Lent
+changed place byte = withBytes (fresh 0) (set (fresh 0 .bytes) place byte)
 
-abbrev element : ℕ → ℕ → List ℕ
-element k v = splice (waitsAt 1) (53 + 4 * k) (bytesOf 4 v)
+abbrev counted : ℕ → ℕ → Lent → Lent
+counted decided accepted T = withBytes T (splice (T .bytes) 6 (bytesOf 2 decided ++ bytesOf 2 accepted))
+
+abbrev sized : ℕ → Lent
+sized n = withBytes (fresh 0) (take n (fresh 0 .bytes))
+
+-- that table with a record i
+abbrev slotAt : ℕ → Slot → Lent
+slotAt i x = withSlots (fresh 0) (set (fresh 0 .slots) i x)
+
+-- a record at a stage, with r = 2; with a number in the place of r, s, d or e
+abbrev waitsAt : ℕ → Slot
+waitsAt stage = record { id = 0; stage = stage; r = 2; s = 0; d = 0; e = 0 }
+
+abbrev fields : ℕ → List Slot
+fields v =
+    record { id = 0; stage = 1; r = v; s = 0; d = 0; e = 0 }
+    ∷ record { id = 0; stage = 1; r = 2; s = v; d = 0; e = 0 }
+    ∷ record { id = 0; stage = 1; r = 2; s = 0; d = v; e = 0 }
+    ∷ record { id = 0; stage = 2; r = 2; s = 0; d = 0; e = v }
+    ∷ []
+
+abbrev fieldAt : ℕ → ℕ → Lent
+fieldAt k v = slotAt 7 (getD (fields v) k freeSlot)
+
+-- record 7 waits, and number k of its place is v: the nine elements of its share, r h(r) and tau
+abbrev numberAt : ℕ → ℕ → Lent
+numberAt k v = withNumbers (slotAt 7 (waitsAt 1)) (set (fresh 0 .elements) (77 + k) v)
 
 -- "11: a table whose length, stage, counts, sheet, numbers or elements break the limits": each limit on both sides
 unfoldable pub limits : List Row
 limits =
     row "a fresh table" (sound (fresh 0))
-    ∷ row "89 bytes, and more; not 88, nor 11, nor none"
-    (eqb (length (fresh 0)) 89
-    && (sound (fresh 0 ++ (7 ∷ [])) && not (sound (take 88 (fresh 0)) || (sound (take 11 (fresh 0)) || sound []))))
-    ∷ row "the table byte is 1, not 0 or 2" (not (sound (changed 0 0) || sound (changed 0 2)))
-    ∷ row "stage 3" (sound (changed 1 3))
-    ∷ row "not stage 4" (not (sound (changed 1 4)))
+    ∷ row "25 bytes, and more; not 24, nor 11, nor none"
+    (eqb (length (fresh 0 .bytes)) 25
+    && (sound (withBytes (fresh 0) (fresh 0 .bytes ++ (7 ∷ []))) && not (sound (sized 24) || (sound (sized 11) || sound (sized 0)))))
+    ∷ row "the table byte is 2, not 1 or 3" (not (sound (changed 0 1) || sound (changed 0 3)))
+    ∷ row "closed" (sound (changed 1 1))
+    ∷ row "no third stage" (not (sound (changed 1 2)))
     ∷ row "8 servers" (sound (changed 2 8))
     ∷ row "not 1 or 9 servers" (not (sound (changed 2 1) || sound (changed 2 9)))
     ∷ row "own number S - 1" (sound (changed 3 1))
     ∷ row "not own number S" (not (sound (changed 3 2)))
-    ∷ row "N = 1" (sound (openBytes σ 2 0 (17 ∷ []) 1))
-    ∷ row "N = 1,024" (sound (openBytes σ 2 0 (17 ∷ []) 1024))
-    ∷ row "not N = 0" (not (sound (openBytes σ 2 0 (17 ∷ []) 0)))
-    ∷ row "not N = 1,025" (not (sound (openBytes σ 2 0 (17 ∷ []) 1025)))
+    ∷ row "N = 1" (sound (opened 0 (17 ∷ []) 1))
+    ∷ row "N = 1,024" (sound (opened 0 (17 ∷ []) 1024))
+    ∷ row "not N = 0" (not (sound (opened 0 (17 ∷ []) 0)))
+    ∷ row "not N = 1,025" (not (sound (opened 0 (17 ∷ []) 1025)))
     ∷ row "no sheet with a fault" (not (sound (changed 12 20)))
-    ∷ row "no empty sheet" (not (sound (openBytes σ 2 0 [] 2)))
-    ∷ row "b = 24: N = 128" (sound (openBytes σ 2 0 (19 ∷ 24 ∷ []) 128))
-    ∷ row "b = 24: not N = 129" (not (sound (openBytes σ 2 0 (19 ∷ 24 ∷ []) 129)))
-    ∷ row "N decided, all accepted" (sound (counted 2 2))
-    ∷ row "not over N decided" (not (sound (counted 3 0)))
-    ∷ row "not more accepted than decided" (not (sound (counted 1 2)))
-    ∷ row "a total p - 1" (sound (splice (fresh 0) 13 (bytesOf 4 (P - 1))))
-    ∷ row "no total p" (not (sound (splice (fresh 0) 13 (bytesOf 4 P))))
-    ∷ row "a return waits" (sound (waitsAt 1) && sound (waitsAt 2))
-    ∷ row "a return waits with N - 1 decided" (sound (splice (waitsAt 2) 6 (bytesOf 2 1)))
-    ∷ row "not with N decided" (not (sound (splice (waitsAt 1) 6 (bytesOf 2 2)) || sound (splice (waitsAt 2) 6 (bytesOf 2 2))))
-    ∷ row "not with r = M" (not (sound (word 0 1)))
-    ∷ row "r = M where none waits" (sound (splice (changed 1 0) 29 (bytesOf 4 1)) && sound (splice (changed 1 3) 29 (bytesOf 4 1)))
-    ∷ row "r, s, d, e, r h(r) or tau p - 1" (every (λ k. sound (word k (P - 1))) (countFrom 0 6))
-    ∷ row "none of them p" (every (λ k. not (sound (word k P))) (countFrom 0 6))
-    ∷ row "the first and the last element of the share p - 1" (sound (element 0 (P - 1)) && sound (element 8 (P - 1)))
-    ∷ row "neither p" (not (sound (element 0 P) || sound (element 8 P)))
+    ∷ row "no empty sheet" (not (sound (opened 0 [] 2)))
+    ∷ row "b = 24: N = 128" (sound (opened 0 (19 ∷ 24 ∷ []) 128))
+    ∷ row "b = 24: not N = 129" (not (sound (opened 0 (19 ∷ 24 ∷ []) 129)))
+    ∷ row "N decided, all accepted" (sound (counted 2 2 (fresh 0)))
+    ∷ row "not over N decided" (not (sound (counted 3 0 (fresh 0))))
+    ∷ row "not more accepted than decided" (not (sound (counted 1 2 (fresh 0))))
+    ∷ row "a total p - 1" (sound (withBytes (fresh 0) (splice (fresh 0 .bytes) 13 (bytesOf 4 (P - 1)))))
+    ∷ row "no total p" (not (sound (withBytes (fresh 0) (splice (fresh 0 .bytes) 13 (bytesOf 4 P)))))
+    ∷ row "eight records, not seven or nine"
+    (eqb (length (fresh 0 .slots)) 8
+    && not (sound (withSlots (fresh 0) (replicate 7 freeSlot)) || sound (withSlots (fresh 0) (replicate 9 freeSlot))))
+    ∷ row "88 numbers, and more; not 87"
+    (eqb (length (fresh 0 .elements)) 88
+    && (sound (withNumbers (fresh 0) (replicate 89 0)) && not (sound (withNumbers (fresh 0) (replicate 87 0)))))
+    ∷ row "a return waits, in the first record or the last"
+    (sound (slotAt 0 (waitsAt 1)) && (sound (slotAt 7 (waitsAt 1)) && sound (slotAt 7 (waitsAt 2))))
+    ∷ row "no record with a stage 3" (not (sound (slotAt 0 (waitsAt 3)) || sound (slotAt 7 (waitsAt 3))))
+    ∷ row "a return waits with N - 1 decided" (sound (counted 1 0 (slotAt 3 (waitsAt 2))))
+    ∷ row "not with N decided" (not (sound (counted 2 0 (slotAt 3 (waitsAt 1)))))
+    ∷ row "not with r = M" (not (sound (fieldAt 0 1)))
+    ∷ row "a free record holds anything" (sound (slotAt 7 (record { id = 9; stage = 0; r = P; s = P; d = P; e = P })))
+    ∷ row "and so does its place" (sound (withNumbers (fresh 0) (replicate 88 P)))
+    ∷ row "r, s, d or e p - 1" (every (λ k. sound (fieldAt k (P - 1))) (countFrom 0 4))
+    ∷ row "none of them p" (every (λ k. not (sound (fieldAt k P))) (countFrom 0 4))
+    ∷ row "an element, r h(r) and tau p - 1" (sound (numberAt 0 (P - 1)) && (sound (numberAt 9 (P - 1)) && sound (numberAt 10 (P - 1))))
+    ∷ row "none of them p" (not (sound (numberAt 0 P) || (sound (numberAt 8 P) || (sound (numberAt 9 P) || sound (numberAt 10 P)))))
+    ∷ row "an id may wait twice" (sound (withSlots (fresh 0) (waitsAt 1 ∷ waitsAt 2 ∷ replicate 6 freeSlot)))
     ∷ []
 
 -- The calls on the tables of two servers, one after another. The share of server i under an id
-abbrev shareIn : (ℕ → ℕ → ℕ) → ℕ → ℕ → List ℕ
+abbrev pub shareIn : (ℕ → ℕ → ℕ) → ℕ → ℕ → List ℕ
 shareIn x id i = shareMessage σ id i (tabulate (x i) 9)
 
 -- what the two servers write for a return with the shares x, under an id, with the challenges r and 9
-module _ (T : ℕ → List ℕ) (x : ℕ → ℕ → ℕ) (id r : ℕ) where
-  abbrev took : ℕ → List ℕ
+module _ (T : ℕ → Lent) (x : ℕ → ℕ → ℕ) (id r : ℕ) where
+  abbrev pub took : ℕ → Lent
   took i = shareTable σ (T i) (shareIn x id i) r 9
 
-  abbrev ones : List ℕ
+  abbrev pub ones : List ℕ
   ones = shareBytes σ (T 0) (shareIn x id 0) r 9 ++ shareBytes σ (T 1) (shareIn x id 1) r 9
 
-  abbrev summedUp : ℕ → List ℕ
-  summedUp i = oneTable σ (took i) ones
+  abbrev pub summedUp : ℕ → Lent
+  summedUp i = oneTable σ (took i) id ones
 
-  abbrev twos : List ℕ
-  twos = oneBytes σ (took 0) ones ++ oneBytes σ (took 1) ones
+  abbrev pub twos : List ℕ
+  twos = oneBytes σ (took 0) id ones ++ oneBytes σ (took 1) id ones
 
-  abbrev judgedBy : ℕ → List ℕ
-  judgedBy i = twoTable σ (summedUp i) twos
+  abbrev pub judgedBy : ℕ → Lent
+  judgedBy i = twoTable σ (summedUp i) id twos
 
 -- after an honest return under 77; then after a false one under 78 with r = 3; then closed
-abbrev first : ℕ → List ℕ
+abbrev pub first : ℕ → Lent
 first = judgedBy fresh honest 77 4
 
-abbrev second : ℕ → List ℕ
+abbrev second : ℕ → Lent
 second = judgedBy first cheat 78 3
 
 abbrev joinedTotals : List ℕ
 joinedTotals = closeBytes σ (second 0) ++ closeBytes σ (second 1)
 
 -- the tables after the first share, 77, and after that return was dropped
-abbrev waiting : ℕ → List ℕ
+abbrev waiting : ℕ → Lent
 waiting = took fresh honest 77 4
 
 abbrev messages : List ℕ
 messages = ones fresh honest 77 4
 
-abbrev afterDrop : ℕ → List ℕ
-afterDrop i = dropTable σ (waiting i)
+abbrev afterDrop : ℕ → Lent
+afterDrop i = dropTable σ (waiting i) 77
 
 abbrev shareOf77 : List ℕ
 shareOf77 = shareIn honest 77 0
 
-abbrev broken : List ℕ
+abbrev pub broken : List ℕ
 broken = 0 ∷ []
 
 unfoldable pub onTables : List Row
 onTables =
     row "an honest return is accepted" (twoVerdict σ (summedUp fresh honest 77 4 0) (twos fresh honest 77 4))
     ∷ row "round one and two are not refused"
-    (eqb (oneRefused σ (waiting 0) messages 14) 0 && eqb (twoRefused σ (summedUp fresh honest 77 4 0) (twos fresh honest 77 4)) 0)
+    (eqb (oneRefused σ (waiting 0) 77 messages 14) 0
+    && eqb (twoRefused σ (summedUp fresh honest 77 4 0) 77 (twos fresh honest 77 4)) 0)
     ∷ row "a false return is rejected" (not (twoVerdict σ (summedUp first cheat 78 3 1) (twos first cheat 78 3)))
     ∷ row "the first return decided: a second is taken" (eqb (shareRefused σ (first 0) (shareIn cheat 78 0) 3 9 14) 0)
     ∷ row "N decided: every share is 13, however broken" (eqb (shareRefused σ (second 0) broken 3 9 14) 13)
@@ -139,26 +180,25 @@ onTables =
     ∷ row "an accepted id used again: 10" (eqb (shareRefused σ (first 0) shareOf77 4 9 14) 10)
     ∷ row "a dropped id used again: 10" (eqb (shareRefused σ (afterDrop 0) shareOf77 4 9 14) 10)
     ∷ row "a dropped return is not added" (same (closeBytes σ (afterDrop 0)) (36 ∷ 0 ∷ 0 ∷ 0 ∷ 0 ∷ 0 ∷ 0 ∷ 0 ∷ 0 ∷ 0 ∷ []))
-    ∷ row "own round message altered: 12" (eqb (oneRefused σ (waiting 0) (set messages 6 255) 14) 12)
-    ∷ row "another's sound message is not compared" (eqb (oneRefused σ (waiting 0) (set messages 20 7) 14) 0)
-    ∷ row "messages of another id: 12" (eqb (oneRefused σ (waiting 0) (ones fresh honest 78 4) 14) 12)
-    ∷ row "messages of the other round: 12" (eqb (oneRefused σ (waiting 0) (twos fresh honest 77 4) 14) 12)
-    ∷ row "another's element that is p: 12" (eqb (oneRefused σ (waiting 0) (take 20 messages ++ bytesOfAll 4 (P ∷ 0 ∷ [])) 14) 12)
-    ∷ row "messages in another server order: 12" (eqb (oneRefused σ (waiting 0) (drop 14 messages ++ take 14 messages) 14) 12)
-    ∷ row "one message missing: 12" (eqb (oneRefused σ (waiting 0) (take 14 messages) 14) 12)
-    ∷ row "room for 13 bytes: 14" (eqb (oneRefused σ (waiting 0) messages 13) 14)
-    ∷ row "a share while one waits: 11" (eqb (shareRefused σ (waiting 0) (shareIn honest 79 0) 4 9 14) 11)
+    ∷ row "own round message altered: 12" (eqb (oneRefused σ (waiting 0) 77 (set messages 6 255) 14) 12)
+    ∷ row "another's sound message is not compared" (eqb (oneRefused σ (waiting 0) 77 (set messages 20 7) 14) 0)
+    ∷ row "messages of another id: 12" (eqb (oneRefused σ (waiting 0) 77 (ones fresh honest 78 4) 14) 12)
+    ∷ row "messages of the other round: 12" (eqb (oneRefused σ (waiting 0) 77 (twos fresh honest 77 4) 14) 12)
+    ∷ row "another's element that is p: 12" (eqb (oneRefused σ (waiting 0) 77 (take 20 messages ++ bytesOfAll 4 (P ∷ 0 ∷ [])) 14) 12)
+    ∷ row "messages in another server order: 12" (eqb (oneRefused σ (waiting 0) 77 (drop 14 messages ++ take 14 messages) 14) 12)
+    ∷ row "one message missing: 12" (eqb (oneRefused σ (waiting 0) 77 (take 14 messages) 14) 12)
+    ∷ row "room for 13 bytes: 14" (eqb (oneRefused σ (waiting 0) 77 messages 13) 14)
     ∷ row "a close while one waits: 11" (eqb (closeRefused σ (waiting 0) 100) 11)
-    ∷ row "round two before round one: 11" (eqb (twoRefused σ (waiting 0) (twos fresh honest 77 4)) 11)
-    ∷ row "a drop with nothing waiting: 11" (eqb (dropRefused σ (fresh 0)) 11)
-    ∷ row "a drop while awaiting round one: 0" (eqb (dropRefused σ (waiting 0)) 0)
-    ∷ row "a drop while awaiting round two: 0" (eqb (dropRefused σ (summedUp fresh honest 77 4 0)) 0)
-    ∷ row "closed: a drop is 11" (eqb (dropRefused σ (closeTable σ (first 0))) 11)
+    ∷ row "round two before round one: 11" (eqb (twoRefused σ (waiting 0) 77 (twos fresh honest 77 4)) 11)
+    ∷ row "a drop with nothing waiting: 11" (eqb (dropRefused σ (fresh 0) 0) 11)
+    ∷ row "a drop while awaiting round one: 0" (eqb (dropRefused σ (waiting 0) 77) 0)
+    ∷ row "a drop while awaiting round two: 0" (eqb (dropRefused σ (summedUp fresh honest 77 4 0) 77) 0)
+    ∷ row "closed: a drop is 11" (eqb (dropRefused σ (closeTable σ (first 0)) 77) 11)
     ∷ row "closed: a share is 11" (eqb (shareRefused σ (closeTable σ (first 0)) broken 3 9 14) 11)
     ∷ row "closed: a close is 11" (eqb (closeRefused σ (closeTable σ (first 0)) 100) 11)
     ∷ row "a share for another server: 7" (eqb (shareRefused σ (fresh 1) shareOf77 4 9 14) 7)
     ∷ row "an element that is p: 8" (eqb (shareRefused σ (fresh 0) (take 6 shareOf77 ++ bytesOfAll 4 (P ∷ replicate 8 0)) 4 9 14) 8)
-    ∷ row "a table cut by a byte: 11" (eqb (closeRefused σ (take (length (fresh 0) - 1) (fresh 0)) 100) 11)
+    ∷ row "a table cut by a byte: 11" (eqb (closeRefused σ (sized 24) 100) 11)
     ∷ row "totals counts unequal: 12" (eqb (joinRefusal σ 2 (17 ∷ []) 2 (set joinedTotals 2 0) 4) 12)
     ∷ row "totals counts over N: 12" (eqb (joinRefusal σ 2 (17 ∷ []) 2 (set (set joinedTotals 2 3) 12 3) 4) 12)
     ∷ row "totals in another server order: 12" (eqb (joinRefusal σ 2 (17 ∷ []) 2 (closeBytes σ (second 1) ++ closeBytes σ (second 0)) 4) 12)
@@ -210,19 +250,22 @@ otherOrders =
     ∷ row "making: 14, room for 83 bytes" (eqb (makeRefusal σ (17 ∷ []) 2 yesBytes (bytesOfAll 4 random) 83) 14)
     ∷ row "made" (eqb (makeRefusal σ (17 ∷ []) 2 yesBytes (bytesOfAll 4 random) 84) 0)
     -- "Opening: S and own number, sheet, N, 4, 14."
-    ∷ row "opening: S" (eqb (openRefusal σ 9 9 wrongSheet 1025 873) 2)
-    ∷ row "opening: own number" (eqb (openRefusal σ 2 2 wrongSheet 1025 873) 2)
-    ∷ row "opening: the sheet" (eqb (openRefusal σ 2 1 wrongSheet 1025 873) 1)
-    ∷ row "opening: N" (eqb (openRefusal σ 2 1 sheet24 1025 873) 2)
-    ∷ row "opening: 4" (eqb (openRefusal σ 2 1 sheet24 129 873) 4)
-    ∷ row "opening: 14, room for 873 bytes" (eqb (openRefusal σ 2 1 sheet24 128 873) 14)
-    ∷ row "opened" (eqb (openRefusal σ 2 1 sheet24 128 874) 0)
+    ∷ row "opening: S" (eqb (openRefusal σ 9 9 wrongSheet 1025 529 7 647) 2)
+    ∷ row "opening: own number" (eqb (openRefusal σ 2 2 wrongSheet 1025 529 7 647) 2)
+    ∷ row "opening: the sheet" (eqb (openRefusal σ 2 1 wrongSheet 1025 529 7 647) 1)
+    ∷ row "opening: N" (eqb (openRefusal σ 2 1 sheet24 1025 529 7 647) 2)
+    ∷ row "opening: 4" (eqb (openRefusal σ 2 1 sheet24 129 529 7 647) 4)
+    ∷ row "opening: 14, room for 529 bytes" (eqb (openRefusal σ 2 1 sheet24 128 529 8 648) 14)
+    ∷ row "opening: 14, seven records, or nine"
+    (eqb (openRefusal σ 2 1 sheet24 128 530 7 648) 14 && eqb (openRefusal σ 2 1 sheet24 128 530 9 648) 14)
+    ∷ row "opening: 14, 647 numbers" (eqb (openRefusal σ 2 1 sheet24 128 530 8 647) 14)
+    ∷ row "opened" (eqb (openRefusal σ 2 1 sheet24 128 530 8 648) 0)
     -- "Round one: 11, 12, 14." "Round two, which writes no message: 11, 12." "Close: 11, 14."
-    ∷ row "round one: 11, nothing waits" (eqb (oneRefused σ (fresh 0) broken 13) 11)
-    ∷ row "round one: 12" (eqb (oneRefused σ (waiting 0) broken 13) 12)
-    ∷ row "round one: 14, room for 13 bytes" (eqb (oneRefused σ (waiting 0) messages 13) 14)
-    ∷ row "round two: 11, awaits round one" (eqb (twoRefused σ (waiting 0) broken) 11)
-    ∷ row "round two: 12" (eqb (twoRefused σ (summedUp fresh honest 77 4 0) broken) 12)
+    ∷ row "round one: 11, nothing waits" (eqb (oneRefused σ (fresh 0) 77 broken 13) 11)
+    ∷ row "round one: 12" (eqb (oneRefused σ (waiting 0) 77 broken 13) 12)
+    ∷ row "round one: 14, room for 13 bytes" (eqb (oneRefused σ (waiting 0) 77 messages 13) 14)
+    ∷ row "round two: 11, awaits round one" (eqb (twoRefused σ (waiting 0) 77 broken) 11)
+    ∷ row "round two: 12" (eqb (twoRefused σ (summedUp fresh honest 77 4 0) 77 broken) 12)
     ∷ row "close: 11, a return waits" (eqb (closeRefused σ (waiting 0) 9) 11)
     ∷ row "close: 14, room for 9 bytes" (eqb (closeRefused σ (fresh 0) 9) 14)
     ∷ row "close: taken" (eqb (closeRefused σ (fresh 0) 10) 0)
@@ -236,9 +279,15 @@ otherOrders =
     ∷ row "joined" (eqb (joinRefusal σ 2 sheet24 128 noTotals 4) 0)
     ∷ []
 
--- the bytes kept for a return that waits are 64: its id, six numbers and nine elements. Where none waits they are all 0
-abbrev nothingKept : List ℕ → Bool
-nothingKept T = same (keptIn σ T) (replicate 64 0)
+-- all records are free, and all numbers 0
+abbrev isZero : Slot → Bool
+isZero x = eqb (x .id + x .stage + x .r + x .s + x .d + x .e) 0
+
+abbrev pub allZero : List Slot → Bool
+allZero xs = every isZero xs
+
+abbrev nothingKept : Lent → Bool
+nothingKept T = allZero (T .slots) && same (T .elements) (replicate 88 0)
 
 unfoldable pub erasures : List Row
 erasures =
@@ -246,8 +295,9 @@ erasures =
     ∷ row "a return that waits is kept" (not (nothingKept (waiting 0) || nothingKept (summedUp fresh honest 77 4 0)))
     ∷ row "nothing but its id after it was accepted" (nothingKept (first 0) && nothingKept (first 1))
     ∷ row "nor after another was rejected" (nothingKept (second 0) && nothingKept (second 1))
-    ∷ row "nor after a drop" (nothingKept (afterDrop 0) && nothingKept (dropTable σ (summedUp fresh honest 77 4 1)))
+    ∷ row "nor after a drop" (nothingKept (afterDrop 0) && nothingKept (dropTable σ (summedUp fresh honest 77 4 1) 77))
     ∷ row "nor after the close" (nothingKept (closeTable σ (second 0)) && nothingKept (closeTable σ (second 1)))
     ∷ row "the room for further ids is 0"
-    (same (unusedIn σ (fresh 0)) (replicate 8 0) && (same (unusedIn σ (first 0)) (replicate 4 0) && same (unusedIn σ (second 0)) []))
+    (same (unusedIn σ (fresh 0 .bytes)) (replicate 8 0)
+    && (same (unusedIn σ (first 0 .bytes)) (replicate 4 0) && same (unusedIn σ (second 0 .bytes)) []))
     ∷ []

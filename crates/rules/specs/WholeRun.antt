@@ -1,13 +1,12 @@
 -- Document 01, "Whole runs": S servers, each with its own list of calls. The conditions, and what demand 3 claims.
 -- Assumes nothing.
 use mathlib.Core.Path.{_≡_}
-use mathlib.Core.Logic.{_⊎_}
-use mathlib.Core.Bool.{Bool, true, false, cond}
+use mathlib.Core.Bool.{true, false, cond}
 use mathlib.Core.List.{List, [], _∷_, _++_, map}
 use Prim.Native.Nat.{ℕ, zero, suc, _+_, _-_, _*_, _%_, _≤_, _<_, max}
 use lib.Dec.{eqb, leb}
 use lib.ListN.{length, getD, replicate}
-use Rattle.algebra.specs.Lists.{All, In, Distinct, Rearranged, sumOver, tabulate}
+use Rattle.algebra.specs.Lists.{All, In, Distinct, Rearranged, sumOver}
 use Rattle.algebra.specs.Modulo.{modulo}
 use Rattle.algebra.specs.Count.{countPairs}
 use Rattle.words.specs.Bytes.{allBelow}
@@ -19,14 +18,18 @@ use Rattle.rules.specs.Values.{legalValues}
 use Rattle.rules.specs.Judging.{shareSize, addedUp, letsIn, allowedPair}
 use Rattle.rules.specs.Making.{madeShare, randomCount, shareMessage}
 use Rattle.rules.specs.Messages.{placeIn, roundLength}
-use Rattle.rules.specs.Server.{Opened, Waiting, waitingOf, messageOne, messageTwo, summed}
-use Rattle.rules.specs.Table.{openRefusal, waitLength, decidedIn, unusedIn, waits, keptIn}
+use Rattle.rules.specs.Server.{Opened, Waiting, mostWaiting, waitingOf, messageOne, messageTwo, summed}
+use Rattle.slots.specs.Slots.{freeSlot}
+use Rattle.rules.specs.WaitingList.{isFree, placeSize, numbersAt}
+use Rattle.rules.specs.Table.{Lent, openRefusal, openedTable, decidedIn, unusedIn}
 use Rattle.rules.specs.Joining.{joinRefusal, joinCount, joinTotals}
-use Rattle.rules.specs.Ledger.{Call, share, roundOne, roundTwo, drop, close, Answer, refused, wrote, judged, done}
-use Rattle.rules.specs.Ledger.{Note, Progress, isIdle, waitsOne, waitsTwo, isClosed, Decided, Ledger, empty}
+use Rattle.rules.specs.Ledger.{Call, share, roundOne, roundTwo, drop, close, Answer, wrote, judged}
+use Rattle.rules.specs.Ledger.{Note, Pending, noteIn, isOpen, isClosed, waiting, Decided, Ledger, empty}
 use Rattle.rules.specs.Ledger.{isAccepted, isDropped, notesWith, idsOf, notesOf, refusalOf, ledgerStep, runLedger, ledgerAnswers}
 use Rattle.rules.specs.Ledger.{closingMessage}
-use Rattle.rules.specs.Runs.{openedTable, runTable, tableAnswers}
+use Rattle.rules.specs.Runs.{runTable, tableAnswers}
+use Rattle.rules.specs.Keyed.{those}
+use Rattle.rules.specs.Mixing.{on, callsOn, answersOn, answersTo, Mixing}
 
 -- the bytes of a call are bytes
 abbrev pub Bytes : List ℕ → Type 0
@@ -34,25 +37,30 @@ Bytes s = All (λ b. b < 256) s
 
 abbrev pub BytesIn : Call → Type 0
 BytesIn (share m r s room) = Bytes m
-BytesIn (roundOne joined room) = Bytes joined
-BytesIn (roundTwo joined) = Bytes joined
-BytesIn drop = Unit {0}
+BytesIn (roundOne id joined room) = Bytes joined
+BytesIn (roundTwo id joined) = Bytes joined
+BytesIn (drop id) = Unit {0}
 BytesIn (close room) = Unit {0}
 
+-- the refusal of opening, by the buffers that it is lent
+abbrev pub opensIn : Setting → ℕ → ℕ → List ℕ → ℕ → Lent → ℕ
+opensIn σ servers own sheet returns B =
+    openRefusal σ servers own sheet returns (length (B .bytes)) (length (B .slots)) (length (B .elements))
+
 -- "Servers are opened alike when S, sheet and N are the same and their numbers are 0 to S - 1, one each." Server i's table
--- is opened in the buffer i, without refusal, and has the list `calls i`. There is a server; opening then says that there
--- are 2 to 8
+-- is opened in the three buffers i, without refusal, and has the list `calls i`. There is a server; opening then says that
+-- there are 2 to 8
 pub record Pool (σ : Setting) : Type 0 where
   pub servers : ℕ
   pub sheet : List ℕ
   pub returns : ℕ
-  pub buffers : ℕ → List ℕ
+  pub buffers : ℕ → Lent
   pub calls : ℕ → List Call
   pub sheet-bytes : Bytes sheet
-  pub buffer-bytes : (i : ℕ) → i < servers → Bytes (buffers i)
+  pub buffer-bytes : (i : ℕ) → i < servers → Bytes (buffers i .bytes)
   pub call-bytes : (i : ℕ) → i < servers → All BytesIn (calls i)
   pub some-server : 0 < servers
-  pub opens : (i : ℕ) → i < servers → openRefusal σ servers i sheet returns (length (buffers i)) ≡ 0
+  pub opens : (i : ℕ) → i < servers → opensIn σ servers i sheet returns (buffers i) ≡ 0
 
 module _ (σ : Setting) (𝓟 : Pool σ) where
   abbrev pub columns : List Column
@@ -61,7 +69,7 @@ module _ (σ : Setting) (𝓟 : Pool σ) where
   abbrev pub openedAt : ℕ → Opened
   openedAt i = record { servers = 𝓟 .servers; own = i; columns = columns; returns = 𝓟 .returns }
 
-  abbrev pub tableAt : ℕ → List ℕ
+  abbrev pub tableAt : ℕ → Lent
   tableAt i = openedTable σ (𝓟 .servers) i (𝓟 .sheet) (𝓟 .returns) (𝓟 .buffers i)
 
   -- what server i's list comes to
@@ -77,16 +85,9 @@ module _ (σ : Setting) (𝓟 : Pool σ) where
   abbrev pub droppedAt : ℕ → List ℕ
   droppedAt i = idsOf (notesWith isDropped (ledgerAt i .decided))
 
--- the share that waits
-unfoldable pub waitingNote : Progress → List Note
-waitingNote isIdle = []
-waitingNote (waitsOne n) = n ∷ []
-waitingNote (waitsTwo n d e) = n ∷ []
-waitingNote isClosed = []
-
 -- every share that a ledger notes
 unfoldable pub notesIn : Ledger → List Note
-notesIn l = notesOf (l .decided) ++ waitingNote (l .progress)
+notesIn l = notesOf (l .decided) ++ map noteIn (waiting (l .progress))
 
 -- the share noted under an id; one without elements where there is none
 unfoldable pub noteUnder : ℕ → List Note → Note
@@ -97,9 +98,9 @@ noteUnder id (n ∷ ns) = cond (eqb (n .id) id) n (noteUnder id ns)
 module _ (σ : Setting) (o : Opened) where
   unfoldable pub joinedIn : Call → List (List ℕ)
   joinedIn (share m r s room) = []
-  joinedIn (roundOne joined room) = joined ∷ []
-  joinedIn (roundTwo joined) = joined ∷ []
-  joinedIn drop = []
+  joinedIn (roundOne id joined room) = joined ∷ []
+  joinedIn (roundTwo id joined) = joined ∷ []
+  joinedIn (drop id) = []
   joinedIn (close room) = []
 
   unfoldable pub handedIn : Ledger → List Call → List (List ℕ)
@@ -178,7 +179,7 @@ module _ (σ : Setting) (𝓟 : Pool σ) where
         → joinTotals σ (𝓟 .servers) (𝓟 .sheet) closings
         ≡ map (λ e. sumOver (λ id. addedEntry id e) ids) (publishedFrom 0 (columns σ 𝓟))
 
--- A return of sound shares handed to idle servers: the share, and both rounds with the messages as they were written
+-- A return of sound shares handed to servers that have room: the share, and both rounds with the messages as they were written
 module _ (σ : Setting) (𝓟 : Pool σ) (id : ℕ) (shares : ℕ → List ℕ) (r s : ℕ) where
   abbrev pub firstWait : ℕ → Waiting
   firstWait i = waitingOf σ (openedAt σ 𝓟 i) id (shares i) r s
@@ -201,18 +202,26 @@ module _ (σ : Setting) (𝓟 : Pool σ) (id : ℕ) (shares : ℕ → List ℕ) 
   seconds = secondsFrom 0 (𝓟 .servers)
 
   abbrev pub threeCalls : ℕ → ℕ → List Call
-  threeCalls room i = share (shareMessage σ id i (shares i)) r s room ∷ roundOne firsts room ∷ roundTwo seconds ∷ []
+  threeCalls room i = share (shareMessage σ id i (shares i)) r s room ∷ roundOne id firsts room ∷ roundTwo id seconds ∷ []
 
   -- what has to be so for the return to be taken
   pub record Ready (room : ℕ) : Type 0 where
-    pub idle-all : (i : ℕ) → i < 𝓟 .servers → ledgerAt σ 𝓟 i .progress ≡ isIdle
-    pub fewer : (i : ℕ) → i < 𝓟 .servers → length (ledgerAt σ 𝓟 i .decided) < 𝓟 .returns
-    pub unused : (i : ℕ) → i < 𝓟 .servers → In id (idsOf (notesOf (ledgerAt σ 𝓟 i .decided))) → ⊥
+    pub waits : ℕ → List Pending
+    pub open-all : (i : ℕ) → i < 𝓟 .servers → ledgerAt σ 𝓟 i .progress ≡ isOpen (waits i)
+    pub below-eight : (i : ℕ) → i < 𝓟 .servers → length (waits i) < mostWaiting
+    pub fewer : (i : ℕ) → i < 𝓟 .servers → length (ledgerAt σ 𝓟 i .decided) + length (waits i) < 𝓟 .returns
+    pub unused : (i : ℕ) → i < 𝓟 .servers → In id (idsOf (notesAt σ 𝓟 i)) → ⊥
     pub id-fits : id < 4294967296
     pub sized : (i : ℕ) → i < 𝓟 .servers → length (shares i) ≡ shareSize (columns σ 𝓟)
     pub below : (i : ℕ) → i < 𝓟 .servers → All (λ x. x < σ .modulus) (shares i)
     pub pair : allowedPair σ (columns σ 𝓟) r s ≡ true
     pub enough : roundLength σ ≤ room
+
+-- record j is free: then it is 0, and the numbers of its place are
+abbrev pub Erased : List Column → Lent → ℕ → Type 0
+Erased cs T j =
+    isFree (getD (T .slots) j freeSlot) ≡ true
+    → (getD (T .slots) j freeSlot ≡ freeSlot) × (numbersAt cs (T .elements) j ≡ replicate (placeSize cs) 0)
 
 -- DEMAND 3: what every list of calls at S servers comes to
 pub record WholeRun (σ : Setting) (𝓟 : Pool σ) : Type 0 where
@@ -241,10 +250,30 @@ pub record WholeRun (σ : Setting) (𝓟 : Pool σ) : Type 0 where
       ∷ wrote (messageTwo σ (openedAt σ 𝓟 i) (secondWait σ 𝓟 id shares r s i))
       ∷ judged (letsIn σ (columns σ 𝓟) (𝓟 .servers) (λ j e. getD (shares j) e 0) r s)
       ∷ []
-  -- 9. A decided return leaves its id and, where it is accepted, what its share adds to the totals, and nothing else: the
-  -- room for further ids is 0, and so are, where no return waits, the bytes kept for one. No condition is needed
+  -- and however other calls are mixed in, once the share is taken
+  pub handled-mixed : (id : ℕ) (shares : ℕ → List ℕ) (r s room : ℕ) → Ready σ 𝓟 id shares r s room
+      → (i : ℕ) → i < 𝓟 .servers → (more : List Call)
+      → those (on id) more
+      ≡ roundOne id (firsts σ 𝓟 id shares r s) room ∷ roundTwo id (seconds σ 𝓟 id shares r s) ∷ []
+      → answersTo σ (openedAt σ 𝓟 i) id (ledgerAt σ 𝓟 i) (share (shareMessage σ id i (shares i)) r s room ∷ more)
+      ≡ wrote (messageOne σ (openedAt σ 𝓟 i) (firstWait σ 𝓟 id shares r s i))
+      ∷ wrote (messageTwo σ (openedAt σ 𝓟 i) (secondWait σ 𝓟 id shares r s i))
+      ∷ judged (letsIn σ (columns σ 𝓟) (𝓟 .servers) (λ j e. getD (shares j) e 0) r s)
+      ∷ []
+  -- 9. "However calls on different returns are mixed, a return that was taken gets the verdict that its unrefused calls alone,
+  -- in their order on a table opened the same, would give": by the ledger, and on the table. No condition is needed
+  pub mixing : (i : ℕ) → i < 𝓟 .servers → (id : ℕ) → Mixing σ (openedAt σ 𝓟 i) id (𝓟 .calls i)
+  pub alone : (i : ℕ) → i < 𝓟 .servers → (id : ℕ)
+      → tableAnswers σ (tableAt σ 𝓟 i) (callsOn σ (openedAt σ 𝓟 i) id empty (𝓟 .calls i))
+      ≡ answersOn σ (openedAt σ 𝓟 i) id empty (𝓟 .calls i)
+  -- 10. "Decided and waiting together never exceed N"; at most eight wait
+  pub within-returns : (i : ℕ) → i < 𝓟 .servers
+      → length (ledgerAt σ 𝓟 i .decided) + length (waiting (ledgerAt σ 𝓟 i .progress)) ≤ 𝓟 .returns
+  pub at-most-eight : (i : ℕ) → i < 𝓟 .servers → length (waiting (ledgerAt σ 𝓟 i .progress)) ≤ mostWaiting
+  -- 11. A decided return leaves its id and, where it is accepted, what its share adds to the totals, and nothing else: the
+  -- room for further ids is 0, and so are a record in which no return waits and the numbers of its place. No condition is
+  -- needed
   pub unused : (i : ℕ) → i < 𝓟 .servers
-      → unusedIn σ (runTable σ (tableAt σ 𝓟 i) (𝓟 .calls i))
-      ≡ replicate (4 * (𝓟 .returns - decidedIn σ (runTable σ (tableAt σ 𝓟 i) (𝓟 .calls i)))) 0
-  pub erased : (i : ℕ) → i < 𝓟 .servers → waits σ (runTable σ (tableAt σ 𝓟 i) (𝓟 .calls i)) ≡ false
-      → keptIn σ (runTable σ (tableAt σ 𝓟 i) (𝓟 .calls i)) ≡ replicate (waitLength σ (columns σ 𝓟)) 0
+      → unusedIn σ (runTable σ (tableAt σ 𝓟 i) (𝓟 .calls i) .bytes)
+      ≡ replicate (4 * (𝓟 .returns - decidedIn σ (runTable σ (tableAt σ 𝓟 i) (𝓟 .calls i) .bytes))) 0
+  pub erased : (i : ℕ) → i < 𝓟 .servers → (j : ℕ) → j < mostWaiting → Erased (columns σ 𝓟) (runTable σ (tableAt σ 𝓟 i) (𝓟 .calls i)) j

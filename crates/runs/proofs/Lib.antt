@@ -3,4 +3,6 @@ pub mod Tests
 pub mod TwoServers
 pub mod Premises
 pub mod ThreeServers
+pub mod MixedReturns
+pub mod MixedPremises
 pub mod SecondProgram

@@ -9,7 +9,7 @@ use Prim.Native.Nat.{ℕ, suc, _+_, _-_, _*_, _≤_, _<_, max}
 use native.Mathlib.Omega.{arith}
 use borrow.Author.Tests.{eqb-true}
 use lib.Dec.{eqb, lit<}
-use lib.ListN.{getD, take, drop, replicate}
+use lib.ListN.{getD, take, drop}
 use Rattle.algebra.specs.Lists.{all∷, In, every, countFrom}
 use Rattle.algebra.specs.Count.{countPairs}
 use Rattle.words.specs.Bytes.{bytesOfAll, elementsOf}
@@ -26,8 +26,8 @@ use Rattle.rules.proofs.Histories.MessageBytes.{oneByOne}
 use Rattle.rules.proofs.Histories.Checks.{every-at}
 use Rattle.rules.proofs.Runs.WholeRuns.{document01-whole-run}
 use Rattle.rules.proofs.Runs.MadeRuns.{document01-made-run}
-use Rattle.runs.proofs.Tests.{bytesCall, opensAt, isPool, poolOf, isFree, isReady, is-ready}
-use Rattle.runs.proofs.TwoServers.{ones, twos, short, sheet, random, honest, false-return, calls, pool, meets-them, ended}
+use Rattle.runs.proofs.Tests.{bytesCall, opensAt, isPool, poolOf, isEnded, isReady, is-ready}
+use Rattle.runs.proofs.TwoServers.{ones, twos, short, lent, sheet, random, honest, false-return, calls, pool, meets-them, ended}
 use Rattle.runs.proofs.TwoServers.{pair-77, pair-78}
 
 -- ---- making: yes, and the random elements, as bytes
@@ -145,29 +145,31 @@ one-yes : getD (joinedTotals document01 pool) 0 0 ≡ 1
 unfolding everything howMany calls ones twos oneByOne
 one-yes = totals-77 .yes-total [] [] refl
 
--- ---- the first ten calls: 77 is accepted, and both servers are idle
+-- ---- the first ten calls: 77 is accepted, and nothing waits
 abbrev early : ℕ → List Call
 early i = take 10 (calls i)
 
-is-early : isPool document01 2 sheet 3 (λ i. replicate 200 0) early ≡ true
+is-early : isPool document01 2 sheet 3 (λ i. lent 29 88) early ≡ true
 unfolding everything isPool opensAt bytesCall calls ones twos oneByOne
 is-early = refl
 
 abbrev earlyPool : Pool document01
-earlyPool = poolOf document01 2 sheet 3 (λ i. replicate 200 0) early is-early
+earlyPool = poolOf document01 2 sheet 3 (λ i. lent 29 88) early is-early
 
 ready-honest : Ready document01 earlyPool 78 honest 4 9 14
-unfolding everything isReady isFree calls ones twos oneByOne
+unfolding everything isReady isEnded calls ones twos oneByOne
 ready-honest = is-ready document01 earlyPool 78 honest 4 9 14 refl
 
 ready-false : Ready document01 earlyPool 78 false-return 3 9 14
-unfolding everything isReady isFree calls ones twos oneByOne
+unfolding everything isReady isEnded calls ones twos oneByOne
 ready-false = is-ready document01 earlyPool 78 false-return 3 9 14 refl
 
 -- they accept a return that making wrote
 can-take : CanTake document01 earlyPool 78 4 9 14
 can-take = record {
-  idle-all = ready-honest .idle-all;
+  waits = ready-honest .waits;
+  open-all = ready-honest .open-all;
+  below-eight = ready-honest .below-eight;
   fewer = ready-honest .fewer;
   unused = ready-honest .unused;
   id-fits = ready-honest .id-fits;

@@ -8,9 +8,10 @@ use Rattle.words.specs.Bytes.{sameBytes, part}
 use Rattle.rules.specs.Settings.{Setting, document01}
 use Rattle.rules.specs.CircuitReader.{sheetCircuit}
 use Rattle.rules.specs.Making.{makeBytes, makeRefusal}
-use Rattle.rules.specs.Table.{openBytes, shareTable, shareBytes, oneTable, oneBytes, twoTable, twoVerdict, closeBytes}
+use Rattle.rules.specs.Table.{Lent, openedTable, shareTable, shareBytes, oneTable, oneBytes, twoTable, twoVerdict, closeBytes}
 use Rattle.rules.specs.Joining.{joinBytes}
 use Rattle.rules.proofs.Computed.Computing.{everything}
+use Rattle.runs.proofs.TwoServers.{lent}
 
 abbrev sheet : List ℕ
 sheet =
@@ -86,25 +87,28 @@ circuitIs =
 abbrev σ : Setting
 σ = document01
 
--- the share message of server i, and its table after the share, round one and round two
+-- the share message of server i, and its table after opening, the share, round one and round two
 abbrev shareOf : ℕ → List ℕ
 shareOf i = part (106 * i) 106 made
 
-abbrev shared : ℕ → List ℕ
-shared i = shareTable σ (openBytes σ 3 i sheet 5) (shareOf i) 1000003 77
+abbrev opened : ℕ → Lent
+opened i = openedTable σ 3 i sheet 5 (lent 57 216)
 
-abbrev summed : ℕ → List ℕ
-summed i = oneTable σ (shared i) joinedOne
+abbrev shared : ℕ → Lent
+shared i = shareTable σ (opened i) (shareOf i) 1000003 77
 
-abbrev decided : ℕ → List ℕ
-decided i = twoTable σ (summed i) joinedTwo
+abbrev summed : ℕ → Lent
+summed i = oneTable σ (shared i) 16909060 joinedOne
+
+abbrev decided : ℕ → Lent
+decided i = twoTable σ (summed i) 16909060 joinedTwo
 
 -- what it writes for round one, for round two and at the close
 abbrev one : ℕ → List ℕ
-one i = shareBytes σ (openBytes σ 3 i sheet 5) (shareOf i) 1000003 77
+one i = shareBytes σ (opened i) (shareOf i) 1000003 77
 
 abbrev two : ℕ → List ℕ
-two i = oneBytes σ (shared i) joinedOne
+two i = oneBytes σ (shared i) 16909060 joinedOne
 
 abbrev closing : ℕ → List ℕ
 closing i = closeBytes σ (decided i)

@@ -5,7 +5,7 @@ use mathlib.Core.Path.{_≡_, refl, ap}
 use mathlib.Core.Logic.{_⊎_, ⊎-elim, inl, inr}
 use mathlib.Core.Bool.{Bool, true, false, not, _&&_, _||_, false≢true}
 use mathlib.Core.List.{List, [], _∷_}
-use Prim.Native.Nat.{ℕ, _<_}
+use Prim.Native.Nat.{ℕ, _+_, _<_}
 use borrow.Author.Tests.{eqb-true, eqb-false, ltb-true, leb-true, not-true}
 use lib.Dec.{eqb, ltb, leb}
 use lib.ListN.{length}
@@ -19,15 +19,15 @@ use Rattle.rules.specs.Values.{legalValues}
 use Rattle.rules.specs.Judging.{shareSize, allowedPair}
 use Rattle.rules.specs.Making.{madeShare, randomCount}
 use Rattle.rules.specs.Messages.{placeIn, roundLength}
-use Rattle.rules.specs.Server.{isMember}
-use Rattle.rules.specs.Table.{openRefusal}
+use Rattle.rules.specs.Server.{isMember, mostWaiting}
+use Rattle.rules.specs.Table.{Lent}
 use Rattle.rules.specs.Ledger.{Call, share, roundOne, roundTwo, drop, close, Answer, refused, wrote, judged, done, Note}
-use Rattle.rules.specs.Ledger.{Progress, isIdle, waitsOne, waitsTwo, isClosed, empty, idsOf, notesOf}
-use Rattle.rules.specs.WholeRun.{BytesIn, Pool, columns, openedAt, ledgerAt, answersAt, acceptedAt, droppedAt, handedIn, notesAt}
-use Rattle.rules.specs.WholeRun.{noteUnder, OnePair, Conditions, AllClosed, Ready}
+use Rattle.rules.specs.Ledger.{Pending, Progress, isOpen, isClosed, waiting, empty, idsOf}
+use Rattle.rules.specs.WholeRun.{BytesIn, opensIn, Pool, columns, openedAt, ledgerAt, answersAt, acceptedAt, droppedAt, handedIn}
+use Rattle.rules.specs.WholeRun.{notesAt, noteUnder, OnePair, Conditions, AllClosed, Ready}
 use Rattle.rules.specs.Made.{MadeOf}
 use Rattle.rules.proofs.Histories.Checks.{every-at}
-use Rattle.rules.proofs.Histories.Moves.{has-not}
+use Rattle.rules.proofs.Histories.Keyed.{no-member-in}
 
 or-split : (a b : Bool) → (a || b) ≡ true → (a ≡ true) ⊎ (b ≡ true)
 or-split true b e = inl refl
@@ -39,25 +39,25 @@ every-in t s e x h = all-in x s (every-all t s e) h
 -- ---- bytes
 unfoldable pub bytesCall : Call → Bool
 bytesCall (share m r s room) = allBelow 256 m
-bytesCall (roundOne joined room) = allBelow 256 joined
-bytesCall (roundTwo joined) = allBelow 256 joined
-bytesCall drop = true
+bytesCall (roundOne id joined room) = allBelow 256 joined
+bytesCall (roundTwo id joined) = allBelow 256 joined
+bytesCall (drop id) = true
 bytesCall (close room) = true
 
 pub bytes-call : (c : Call) → bytesCall c ≡ true → BytesIn c
 unfolding bytesCall
 bytes-call (share m r s room) e = all-of-below 256 m e
-bytes-call (roundOne joined room) e = all-of-below 256 joined e
-bytes-call (roundTwo joined) e = all-of-below 256 joined e
-bytes-call drop e = tt
+bytes-call (roundOne id joined room) e = all-of-below 256 joined e
+bytes-call (roundTwo id joined) e = all-of-below 256 joined e
+bytes-call (drop id) e = tt
 bytes-call (close room) e = tt
 
 -- ---- a pool
-module _ (σ : Setting) (servers : ℕ) (sheet : List ℕ) (returns : ℕ) (buffers : ℕ → List ℕ) (calls : ℕ → List Call) where
+module _ (σ : Setting) (servers : ℕ) (sheet : List ℕ) (returns : ℕ) (buffers : ℕ → Lent) (calls : ℕ → List Call) where
   unfoldable pub opensAt : ℕ → Bool
   opensAt i =
-      allBelow 256 (buffers i)
-      && (every bytesCall (calls i) && eqb (openRefusal σ servers i sheet returns (length (buffers i))) 0)
+      allBelow 256 (buffers i .bytes)
+      && (every bytesCall (calls i) && eqb (opensIn σ servers i sheet returns (buffers i)) 0)
 
   unfoldable pub isPool : Bool
   isPool = (ltb 0 servers && allBelow 256 sheet) && every opensAt (countFrom 0 servers)
@@ -75,17 +75,17 @@ module _ (σ : Setting) (servers : ℕ) (sheet : List ℕ) (returns : ℕ) (buff
     unfolding isPool
     sheet-is = and-right (ltb 0 servers) (allBelow 256 sheet) (and-left (ltb 0 servers && allBelow 256 sheet) _ e)
 
-    pub buffer-is : (i : ℕ) → i < servers → allBelow 256 (buffers i) ≡ true
+    pub buffer-is : (i : ℕ) → i < servers → allBelow 256 (buffers i .bytes) ≡ true
     unfolding opensAt
-    buffer-is i l = and-left (allBelow 256 (buffers i)) _ (at-server i l)
+    buffer-is i l = and-left (allBelow 256 (buffers i .bytes)) _ (at-server i l)
 
     pub calls-are : (i : ℕ) → i < servers → every bytesCall (calls i) ≡ true
     unfolding opensAt
-    calls-are i l = and-left (every bytesCall (calls i)) _ (and-right (allBelow 256 (buffers i)) _ (at-server i l))
+    calls-are i l = and-left (every bytesCall (calls i)) _ (and-right (allBelow 256 (buffers i .bytes)) _ (at-server i l))
 
-    pub opens-is : (i : ℕ) → i < servers → eqb (openRefusal σ servers i sheet returns (length (buffers i))) 0 ≡ true
+    pub opens-is : (i : ℕ) → i < servers → eqb (opensIn σ servers i sheet returns (buffers i)) 0 ≡ true
     unfolding opensAt
-    opens-is i l = and-right (every bytesCall (calls i)) _ (and-right (allBelow 256 (buffers i)) _ (at-server i l))
+    opens-is i l = and-right (every bytesCall (calls i)) _ (and-right (allBelow 256 (buffers i .bytes)) _ (at-server i l))
 
     abbrev pub poolOf : Pool σ
     poolOf = record {
@@ -95,7 +95,7 @@ module _ (σ : Setting) (servers : ℕ) (sheet : List ℕ) (returns : ℕ) (buff
       buffers = buffers;
       calls = calls;
       sheet-bytes = all-of-below 256 sheet sheet-is;
-      buffer-bytes = λ i l. all-of-below 256 (buffers i) (buffer-is i l);
+      buffer-bytes = λ i l. all-of-below 256 (buffers i .bytes) (buffer-is i l);
       call-bytes = λ i l. all-map bytes-call (every-all bytesCall (calls i) (calls-are i l));
       some-server = ltb-true 0 servers some-servers;
       opens = λ i l. eqb-true _ 0 (opens-is i l);
@@ -142,7 +142,7 @@ module _ (σ : Setting) (𝓟 : Pool σ) where
     unaltered = λ i j l b joined h. written-in (placeIn σ joined j) (answersAt σ 𝓟 j)
         (every-in _ (handedIn σ (openedAt σ 𝓟 i) empty (𝓟 .calls i))
         (each-at unalteredAt (and-left (each unalteredAt) (each dropsAt) e) i j l b) joined h);
-    same-drops = λ i j l b id h k. has-not id (acceptedAt σ 𝓟 j)
+    same-drops = λ i j l b id h k. no-member-in id (acceptedAt σ 𝓟 j)
         (not-true _ (every-in _ (droppedAt σ 𝓟 i)
         (each-at dropsAt (and-right (each unalteredAt) (each dropsAt) e) i j l b) id h)) k;
   }
@@ -168,16 +168,12 @@ module _ (σ : Setting) (𝓟 : Pool σ) where
       (every-at (λ i. every (pairTest id r s) (notesAt σ 𝓟 i)) (𝓟 .servers) e i l) n h))
 
   unfoldable pub isEnded : Progress → Bool
-  isEnded isIdle = false
-  isEnded (waitsOne n) = false
-  isEnded (waitsTwo n d e) = false
+  isEnded (isOpen ws) = false
   isEnded isClosed = true
 
   is-closed : (p : Progress) → isEnded p ≡ true → p ≡ isClosed
   unfolding isEnded
-  is-closed isIdle e = absurd (false≢true e)
-  is-closed (waitsOne n) e = absurd (false≢true e)
-  is-closed (waitsTwo n d x) e = absurd (false≢true e)
+  is-closed (isOpen ws) e = absurd (false≢true e)
   is-closed isClosed e = refl
 
   unfoldable pub allEnded : Bool
@@ -222,25 +218,24 @@ module _ (σ : Setting) (𝓟 : Pool σ) where
       )
 
   -- a server is ready for a return
-  unfoldable pub isFree : Progress → Bool
-  isFree isIdle = true
-  isFree (waitsOne n) = false
-  isFree (waitsTwo n d e) = false
-  isFree isClosed = false
-
-  is-free : (p : Progress) → isFree p ≡ true → p ≡ isIdle
-  unfolding isFree
-  is-free isIdle e = refl
-  is-free (waitsOne n) e = absurd (false≢true e)
-  is-free (waitsTwo n d x) e = absurd (false≢true e)
-  is-free isClosed e = absurd (false≢true e)
+  is-open : (p : Progress) → not (isEnded p) ≡ true → p ≡ isOpen (waiting p)
+  unfolding isEnded
+  is-open (isOpen ws) e = refl
+  is-open isClosed e = absurd (false≢true e)
 
   module _ (id : ℕ) (shares : ℕ → List ℕ) (r s room : ℕ) where
+    abbrev waitingAt : ℕ → List Pending
+    waitingAt i = waiting (ledgerAt σ 𝓟 i .progress)
+
+    abbrev roomAt : ℕ → Bool
+    roomAt i =
+        ltb (length (waitingAt i)) mostWaiting && ltb (length (ledgerAt σ 𝓟 i .decided) + length (waitingAt i)) (𝓟 .returns)
+
     abbrev freeAt : ℕ → Bool
-    freeAt i = isFree (ledgerAt σ 𝓟 i .progress) && ltb (length (ledgerAt σ 𝓟 i .decided)) (𝓟 .returns)
+    freeAt i = not (isEnded (ledgerAt σ 𝓟 i .progress)) && roomAt i
 
     abbrev newAt : ℕ → Bool
-    newAt i = not (isMember id (idsOf (notesOf (ledgerAt σ 𝓟 i .decided))))
+    newAt i = not (isMember id (idsOf (notesAt σ 𝓟 i)))
 
     abbrev soundAt : ℕ → Bool
     soundAt i = eqb (length (shares i)) (shareSize (columns σ 𝓟)) && allBelow (σ .modulus) (shares i)
@@ -263,12 +258,16 @@ module _ (σ : Setting) (𝓟 : Pool σ) where
         let at : (i : ℕ) → i < 𝓟 .servers → readyAt i ≡ true =
         every-at readyAt (𝓟 .servers) (and-right given (every readyAt (countFrom 0 (𝓟 .servers))) e) in
         let free : (i : ℕ) → i < 𝓟 .servers → freeAt i ≡ true = λ i l. and-left (freeAt i) _ (at i l) in
+        let have : (i : ℕ) → i < 𝓟 .servers → roomAt i ≡ true =
+        λ i l. and-right (not (isEnded (ledgerAt σ 𝓟 i .progress))) _ (free i l) in
         let sound : (i : ℕ) → i < 𝓟 .servers → soundAt i ≡ true =
         λ i l. and-right (newAt i) (soundAt i) (and-right (freeAt i) _ (at i l)) in
         record {
-          idle-all = λ i l. is-free _ (and-left _ (ltb (length (ledgerAt σ 𝓟 i .decided)) (𝓟 .returns)) (free i l));
-          fewer = λ i l. ltb-true _ _ (and-right (isFree (ledgerAt σ 𝓟 i .progress)) _ (free i l));
-          unused = λ i l. has-not id (idsOf (notesOf (ledgerAt σ 𝓟 i .decided)))
+          waits = waitingAt;
+          open-all = λ i l. is-open _ (and-left _ (roomAt i) (free i l));
+          below-eight = λ i l. ltb-true _ _ (and-left (ltb (length (waitingAt i)) mostWaiting) _ (have i l));
+          fewer = λ i l. ltb-true _ _ (and-right (ltb (length (waitingAt i)) mostWaiting) _ (have i l));
+          unused = λ i l. no-member-in id (idsOf (notesAt σ 𝓟 i))
               (not-true _ (and-left (newAt i) (soundAt i) (and-right (freeAt i) _ (at i l))));
           id-fits = ltb-true _ _ (and-left (ltb id 4294967296) rest g);
           sized = λ i l. eqb-true _ _ (and-left _ (allBelow (σ .modulus) (shares i)) (sound i l));

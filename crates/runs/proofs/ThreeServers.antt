@@ -7,7 +7,7 @@ use mathlib.Core.Bool.{true, cond}
 use mathlib.Core.List.{List, [], _∷_, _++_, map}
 use Prim.Native.Nat.{ℕ, zero, suc, _+_, _*_, _%_}
 use lib.Dec.{eqb, lit<}
-use lib.ListN.{getD, replicate, set}
+use lib.ListN.{getD, set}
 use Rattle.algebra.specs.Lists.{In, tabulate}
 use Rattle.rules.specs.Settings.{document01}
 use Rattle.rules.specs.Columns.{yesNo, choice, number, columnsOf}
@@ -22,7 +22,7 @@ use Rattle.runs.proofs.Tests.{bytesCall, opensAt, isPool, poolOf, hasWr
 use Rattle.runs.proofs.Tests.{isEnded, allEnded, all-closed, isWhole, made-of}
 use Rattle.rules.proofs.Runs.WholeTotals.{closed-together}
 use Rattle.rules.proofs.Runs.MadeRuns.{document01-made-run}
-use Rattle.runs.proofs.TwoServers.{ones, twos, give, short, joinResult}
+use Rattle.runs.proofs.TwoServers.{ones, twos, give, short, joinResult, lent}
 
 abbrev sheet : List ℕ
 sheet = 17 ∷ 18 ∷ 3 ∷ 19 ∷ 2 ∷ []
@@ -48,30 +48,30 @@ altered i = cond (eqb i 2) (set (second 2) 0 12) (second i)
 abbrev through : ℕ → (ℕ → List ℕ) → ℕ → List Call
 through id shares i =
     give id shares 7 5 i
-    ∷ roundOne (ones 3 sheet 4 id shares 7 5) 14
-    ∷ roundTwo (twos 3 sheet 4 id shares 7 5)
+    ∷ roundOne id (ones 3 sheet 4 id shares 7 5) 14
+    ∷ roundTwo id (twos 3 sheet 4 id shares 7 5)
     ∷ []
 
 unfoldable pub calls : ℕ → List Call
 calls zero = through 1 first 0 ++ through 2 altered 0 ++ through 3 second 0 ++ (close 26 ∷ [])
 calls (suc zero) =
     through 1 first 1
-    ++ (give 2 altered 7 5 1 ∷ roundOne (ones 3 sheet 4 2 altered 7 5) 14 ∷ drop ∷ [])
+    ++ (give 2 altered 7 5 1 ∷ roundOne 2 (ones 3 sheet 4 2 altered 7 5) 14 ∷ drop 2 ∷ [])
     ++ through 3 second 1
     ++ (close 26 ∷ [])
 calls (suc (suc i)) =
-    (give 9 second 7 5 2 ∷ drop ∷ [])
+    (give 9 second 7 5 2 ∷ drop 9 ∷ [])
     ++ through 1 first 2
     ++ through 2 altered 2
     ++ through 3 second 2
     ++ (close 25 ∷ close 26 ∷ [])
 
-pub is-pool : isPool document01 3 sheet 4 (λ i. replicate 400 0) calls ≡ true
+pub is-pool : isPool document01 3 sheet 4 (λ i. lent 53 216) calls ≡ true
 unfolding everything isPool opensAt bytesCall calls ones twos oneByOne
 is-pool = refl
 
 abbrev pub pool : Pool document01
-pool = poolOf document01 3 sheet 4 (λ i. replicate 400 0) calls is-pool
+pool = poolOf document01 3 sheet 4 (λ i. lent 53 216) calls is-pool
 
 answers-0 : map short (answersAt document01 pool 0) ≡ 100 ∷ 100 ∷ 200 ∷ 100 ∷ 100 ∷ 300 ∷ 100 ∷ 100 ∷ 200 ∷ 100 ∷ []
 unfolding everything short calls ones twos oneByOne

@@ -12,6 +12,8 @@ use Rattle.rules.specs.Settings.{document01}
 use Rattle.rules.specs.Columns.{columnsOf}
 use Rattle.rules.specs.Making.{shareOf, madeShare, shareMessage}
 use Rattle.rules.specs.Server.{Opened, Waiting, waitingOf, messageOne, messageTwo, summed}
+use Rattle.rules.specs.WaitingList.{freeList}
+use Rattle.rules.specs.Table.{Lent}
 use Rattle.rules.specs.Joining.{joinRefusal, joinCount, joinTotals}
 use Rattle.rules.specs.Ledger.{Call, share, roundOne, roundTwo, drop, close, Answer, refused, wrote, judged, done}
 use Rattle.rules.specs.WholeRun.{Pool, answersAt, acceptedAt, droppedAt, Conditions, OnePair, AllClosed, closings, Closed}
@@ -55,6 +57,10 @@ joinResult servers sheet returns messages =
     ∷ joinCount messages
     ∷ joinTotals document01 servers sheet messages
 
+-- three buffers with room for so many bytes and numbers, and for the waiting list
+abbrev pub lent : ℕ → ℕ → Lent
+lent bytes numbers = record { bytes = replicate bytes 0; slots = freeList; elements = replicate numbers 0 }
+
 -- ---- two servers, the sheet 17, at most three returns
 abbrev pub sheet : List ℕ
 sheet = 17 ∷ []
@@ -83,24 +89,24 @@ calls i =
     give 77 honest 4 9 i
     -- refused: a call that the stage does not allow; another id, own message altered, wrong order, cut; no room
     ∷ close 100
-    ∷ roundOne (ones 2 sheet 3 78 honest 4 9) 14
-    ∷ roundOne (ones 2 sheet 3 77 honest 5 9) 14
-    ∷ roundOne (swapped (ones 2 sheet 3 77 honest 4 9)) 14
-    ∷ roundOne (take 27 (ones 2 sheet 3 77 honest 4 9)) 14
-    ∷ roundOne (ones 2 sheet 3 77 honest 4 9) 13
-    ∷ roundOne (ones 2 sheet 3 77 honest 4 9) 14
-    ∷ roundTwo (ones 2 sheet 3 77 honest 4 9)
-    ∷ roundTwo (twos 2 sheet 3 77 honest 4 9)
+    ∷ roundOne 77 (ones 2 sheet 3 78 honest 4 9) 14
+    ∷ roundOne 77 (ones 2 sheet 3 77 honest 5 9) 14
+    ∷ roundOne 77 (swapped (ones 2 sheet 3 77 honest 4 9)) 14
+    ∷ roundOne 77 (take 27 (ones 2 sheet 3 77 honest 4 9)) 14
+    ∷ roundOne 77 (ones 2 sheet 3 77 honest 4 9) 13
+    ∷ roundOne 77 (ones 2 sheet 3 77 honest 4 9) 14
+    ∷ roundTwo 77 (ones 2 sheet 3 77 honest 4 9)
+    ∷ roundTwo 77 (twos 2 sheet 3 77 honest 4 9)
     -- refused: another server's share, an element p, an id decided, r = M
     ∷ share (shareMessage document01 78 (1 - i) (false-return i)) 3 9 14
     ∷ share (shareMessage document01 78 i (set (false-return i) 0 2147483647)) 3 9 14
     ∷ give 77 honest 4 9 i
     ∷ give 78 false-return 1 9 i
     ∷ give 78 false-return 3 9 i
-    ∷ roundOne (ones 2 sheet 3 78 false-return 3 9) 14
-    ∷ roundTwo (twos 2 sheet 3 78 false-return 3 9)
+    ∷ roundOne 78 (ones 2 sheet 3 78 false-return 3 9) 14
+    ∷ roundTwo 78 (twos 2 sheet 3 78 false-return 3 9)
     ∷ give 79 honest 4 9 i
-    ∷ drop
+    ∷ drop 79
     -- refused: three returns are decided; no room; closed
     ∷ give 80 honest 4 9 i
     ∷ close 9
@@ -108,12 +114,12 @@ calls i =
     ∷ close 10
     ∷ []
 
-pub is-pool : isPool document01 2 sheet 3 (λ i. replicate 200 0) calls ≡ true
+pub is-pool : isPool document01 2 sheet 3 (λ i. lent 29 88) calls ≡ true
 unfolding everything isPool opensAt bytesCall calls ones twos oneByOne
 is-pool = refl
 
 abbrev pub pool : Pool document01
-pool = poolOf document01 2 sheet 3 (λ i. replicate 200 0) calls is-pool
+pool = poolOf document01 2 sheet 3 (λ i. lent 29 88) calls is-pool
 
 answers : map short (answersAt document01 pool 1)
     ≡ (100 ∷ 11 ∷ 12 ∷ 12 ∷ 12 ∷ 12 ∷ 14 ∷ 100 ∷ 12 ∷ 200 ∷ [])

@@ -1,49 +1,89 @@
--- A share that is taken: the table with the return that waits, and the round message, are those of what was worked out. What
--- judging gives is what rules note, by unfolding both. Assumes nothing.
-use mathlib.Core.Path.{_≡_, refl}
-use mathlib.Core.List.{List}
-use Prim.Native.Nat.{ℕ}
-use lib.ListN.{drop}
-use Rattle.words.specs.Bytes.{elementsOf}
+-- A share that is taken: its record, the numbers of its place and the round message are those of what was worked out. What
+-- judging gives is what rules note, by unfolding both, and the elements with two numbers behind them are one run (`grow`).
+-- Assumes nothing.
+use mathlib.Core.Path.{_≡_, refl, sym, ap, _∙_}
+use mathlib.Core.List.{List, [], _∷_, _++_}
+use Prim.Native.Nat.{ℕ, _+_, _-_, _*_}
+use native.Mathlib.Omega.{arith}
+use lib.ListN.{take, drop}
+use Rattle.words.specs.Bytes.{splice, elementsOf}
+use Rattle.words.proofs.Loops.{grow}
+use Rattle.slots.specs.declared.Slot.{Slot}
+use Rattle.slots.specs.declared.Change.{Change}
 use Rattle.rules.specs.Settings.{document01}
+use Rattle.rules.specs.Judging.{shareSize}
 use Rattle.rules.specs.Messages.{idIn, shareElements, roundMessage}
 use Rattle.rules.specs.Server.{waitingOf, messageOne}
-use Rattle.rules.specs.Table.{columnsIn, shareTable, shareBytes}
+use Rattle.rules.specs.WaitingList.{stageOne, freePlace, slotOf, numbersOf, putNumbers}
+use Rattle.rules.specs.Table.{Lent, columnsAt, shareTaken, shareBytes}
 use Rattle.snip.specs.Judged.{judgedOf}
 use Rattle.snip.specs.declared.judging.Judged.{Judged}
+use Rattle.layout.specs.Places.{placeSizeOf}
 use Rattle.layout.specs.Numbers.{tableOf}
 use Rattle.layout.specs.declared.Table.{Table}
-use Rattle.waiting.specs.Writing.{takenAs}
-use Rattle.waiting.specs.declared.Waiting.{Waiting}
-use Rattle.waiting.proofs.Written.{taken-is}
-use Rattle.shares.specs.Taking.{Takable}
+use Rattle.waiting.specs.Changes.{recordsAt}
+use Rattle.shares.specs.Taking.{Takable, Takes}
+use Rattle.shares.proofs.Working.{Place, elements-long, within, place-reads}
 
--- the return that waits, with what was worked out
-abbrev pub waitingWith : ℕ → ℕ → ℕ → Judged → Waiting
-waitingWith id r s j = record { id = id; r = r; s = s; d = j .d; e = j .e; rh = j .rh; tau = j .tau }
+-- the record of the return, and the numbers of its place, with what was worked out
+abbrev pub slotWith : ℕ → ℕ → ℕ → Judged → Slot
+slotWith id r s j = record { id = id; stage = 1; r = r; s = s; d = j .d; e = j .e }
+
+abbrev numbersWith : List ℕ → Judged → List ℕ
+numbersWith xs j = xs ++ (j .rh ∷ j .tau ∷ [])
 
 -- what rules write, by the numbers of code
-module _ (T m : List ℕ) (r s : ℕ) where
+module _ (T : Lent) (m : List ℕ) (r s : ℕ) where
   abbrev noted : Table → Judged
-  noted k = judgedOf (columnsIn document01 T) (k .own) (shareElements document01 m) r s
+  noted k = judgedOf (columnsAt document01 T) (k .own) (shareElements document01 m) r s
 
-  table-at : takenAs (tableOf T) (waitingWith (idIn m) r s (noted (tableOf T))) (drop 6 m) T ≡ shareTable document01 T m r s
-  unfolding shareTable waitingOf tableOf
-  table-at = taken-is T (waitingWith (idIn m) r s (noted (tableOf T))) (drop 6 m)
+  abbrev k₀ : Table
+  k₀ = tableOf (T .bytes)
 
-  message-at : roundMessage document01 34 (idIn m) (tableOf T .own) (noted (tableOf T) .d) (noted (tableOf T) .e)
-      ≡ shareBytes document01 T m r s
+  record-at : slotWith (idIn m) r s (noted k₀) ≡ slotOf stageOne (shareTaken document01 T m r s)
+  unfolding waitingOf tableOf
+  record-at = refl
+
+  numbers-at : splice (T .elements) (placeSizeOf (k₀ .entries) (k₀ .gates) * freePlace (T .slots))
+      (numbersWith (shareElements document01 m) (noted k₀))
+      ≡ putNumbers (columnsAt document01 T) (T .elements) (freePlace (T .slots))
+      (numbersOf (shareTaken document01 T m r s))
+  unfolding waitingOf tableOf shareSize
+  numbers-at = refl
+
+  message-at : roundMessage document01 34 (idIn m) (k₀ .own) (noted k₀ .d) (noted k₀ .e) ≡ shareBytes document01 T m r s
   unfolding shareBytes messageOne waitingOf tableOf
   message-at = refl
 
--- what the code writes
-module _ (T : List ℕ) (k : Table) (m x : List ℕ) (r s : ℕ) (h : Takable T k m x r s) (id : ℕ) (j : Judged) (ei : id ≡ idIn m)
-    (ex : j ≡ judgedOf (columnsIn document01 T) (k .own) (elementsOf 4 x) r s) where
-  ej : j ≡ judgedOf (columnsIn document01 T) (k .own) (shareElements document01 m) r s
-  ej = rw (h .part) at ex
+-- what the code writes: es are the numbers once the elements are read, es' at the end
+module _ (T : Lent) (k : Table) (m x : List ℕ) (r s : ℕ) (h : Takable T k m x r s) {i z n : ℕ} (q : Place T k m x r s h i z n)
+    (id : ℕ) (ei : id ≡ idIn m) (es : List ℕ) (e : es ≡ splice (T .elements) (z * i) (elementsOf 4 x)) (j : Judged)
+    (ej : j ≡ judgedOf (columnsAt document01 T) (k .own) (take (z * i + n - z * i) (drop (z * i) es)) r s) where
+  judged-is : j ≡ noted T m r s k
+  judged-is = rw (place-reads T k m x r s h q es e, h .part) at ej
 
-  pub table-written : takenAs k (waitingWith id r s j) x T ≡ shareTable document01 T m r s
-  table-written = rw (h .part, ei, ej, h .judgeable .table .says) (table-at T m r s)
+  record-written : recordsAt i (slotWith id r s j)
+      ≡ recordsAt (freePlace (T .slots)) (slotOf stageOne (shareTaken document01 T m r s))
+  record-written =
+      rw (q .record-is, ei, judged-is, h .table .says) (ap (recordsAt (freePlace (T .slots))) (record-at T m r s))
 
-  pub message-written : roundMessage document01 34 id (k .own) (j .d) (j .e) ≡ shareBytes document01 T m r s
-  message-written = rw (ei, ej, h .judgeable .table .says) (message-at T m r s)
+  numbers-written : splice es (z * i + n) (j .rh ∷ j .tau ∷ [])
+      ≡ putNumbers (columnsAt document01 T) (T .elements) (freePlace (T .slots))
+      (numbersOf (shareTaken document01 T m r s))
+  numbers-written =
+      let l = elements-long T k m x r s h ∙ sym (q .size-is) in
+      ap (λ (u : List ℕ). splice u (z * i + n) (j .rh ∷ j .tau ∷ [])) e
+      ∙ grow (T .elements) (z * i) (elementsOf 4 x) (j .rh ∷ j .tau ∷ []) n l (omega (arith, within T k m x r s h q))
+      ∙ rw (q .place-is, q .record-is, h .part, judged-is, h .table .says) (numbers-at T m r s)
+
+  message-written : roundMessage document01 34 id (k .own) (j .d) (j .e) ≡ shareBytes document01 T m r s
+  message-written = rw (ei, judged-is, h .table .says) (message-at T m r s)
+
+  pub taken : (out es' out' : List ℕ) (c : Change) → es' ≡ splice es (z * i + n) (j .rh ∷ j .tau ∷ [])
+      → out' ≡ splice out 0 (roundMessage document01 34 id (k .own) (j .d) (j .e)) → c ≡ recordsAt i (slotWith id r s j)
+      → Takes T m r s out c es' out'
+  taken out es' out' c a b d = record {
+    record-is = d ∙ record-written;
+    numbers-is = a ∙ numbers-written;
+    out-is = b ∙ ap (splice out 0) message-written;
+  }

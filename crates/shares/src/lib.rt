@@ -3,74 +3,102 @@
 ghost use mathlib.Core.Path.{_≡_};
 ghost use Prim.Native.Nat.{_≤_};
 ghost use lib.ListN.{length};
-ghost use Rattle.words.specs.Bytes.{splice, elementsOf};
 ghost use Rattle.rules.specs.Settings.{document01};
-ghost use Rattle.rules.specs.Table.{columnsIn, shareTable, shareBytes};
+ghost use Rattle.rules.specs.Table.{columnsIn};
 ghost use Rattle.snip.specs.Judged.{judgedOf};
+ghost use Rattle.waiting.specs.Changes.{lent};
 ghost use Rattle.shares.specs.Calls.{Shares};
-ghost use Rattle.shares.specs.Taking.{Judgeable, Takable};
+ghost use Rattle.shares.specs.Taking.{Judgeable, Takable, Takes};
 use layout::Table;
 use layout::places::sheet_part;
-use records::Written;
 use share_checks::share_refusal;
+use slots::Change;
+use slots::Slot;
 use snip::judging::Judged;
 use snip::judging::Shape;
 use snip::judging::judge;
 use table::Found;
 use table::read;
-use waiting::Waiting;
+use waiting::AWAITS_ONE;
+use waiting::writing::read_share;
+use waiting::writing::records;
+use waiting::writing::refused;
+use waiting::writing::write_last;
 
-// What the server works out from the elements x of a share with the pair r, s.
-fn judged(t: &[u8], k: Table, x: &[u8], r: u32, s: u32) -> Judged
-    requires { ⌜ Judgeable (now t) k (now x) r s ⌝ }
-    ensures { λ j. ⌜ j ≡ judgedOf (columnsIn document01 (now (t .entry))) (k .own) (elementsOf 4 (now (x .entry))) r s ⌝ }
+// What the server works out from the elements xs of a share with the pair r, s.
+fn judged(t: &[u8], k: Table, xs: &[u32], r: u32, s: u32) -> Judged
+    requires { ⌜ Judgeable (now t) k (now xs) r s ⌝ }
+    ensures { λ j. ⌜ j ≡ judgedOf (columnsIn document01 (now (t .entry))) (k .own) (now (xs .entry)) r s ⌝ }
 {
-    let mut share = [0u32; 774];
-    let size = k.share_size();
-    elements::read(x, &mut share[..size]);
     let shape = Shape {
         entries: k.entries,
         gates: k.gates,
         tests: k.tests,
     };
-    judge(sheet_part(t, k.sheet), shape, k.own, &share[..size], r, s)
+    judge(sheet_part(t, k.sheet), shape, k.own, xs, r, s)
 }
 
-// Takes a share m, of which x are the element bytes, that is not refused: it waits for round one, whose message is written.
-fn take(table: &mut [u8], k: Table, m: &[u8], x: &[u8], r: u32, s: u32, out: &mut [u8])
-    requires { ⌜ Takable (now table) k (now m) (now x) r s × (14 ≤ length (now out)) ⌝ }
-    ensures { λ _. ⌜ (now (table .exit) ≡ shareTable document01 (now (table .entry)) (now (m .entry)) r s)
-        × (now (out .exit) ≡ splice (now (out .entry)) 0 (shareBytes document01 (now (table .entry)) (now (m .entry)) r s)) ⌝ }
+// Takes a share m, of which x are the element bytes, that is not refused: it waits for round one in the first free record, its
+// elements stand in the numbers of that place, with r h(r) and tau behind them, and the message of round one is written.
+fn take(
+    table: &[u8],
+    list: [Slot; 8],
+    numbers: &mut [u32],
+    k: Table,
+    m: &[u8],
+    x: &[u8],
+    r: u64,
+    s: u64,
+    out: &mut [u8],
+) -> Change
+    requires { ⌜ Takable (lent (now table) list (now numbers)) k (now m) (now x) r s × (14 ≤ length (now out)) ⌝ }
+    ensures { λ c. ⌜ Takes (lent (now (table .entry)) list (now (numbers .entry))) (now (m .entry)) r s (now (out .entry))
+        c (now (numbers .exit)) (now (out .exit)) ⌝ }
 {
+    let at = waiting::free_place(list);
+    let size = k.share_size();
+    let start = k.place_size() * at;
+    let end = start + size;
+    read_share(numbers, start, x, size);
+    let j = judged(table, k, &numbers[start..end], r as u32, s as u32);
+    write_last(numbers, end, j.rh, j.tau);
     let id = share_message::id_of(m);
-    let j = judged(table, k, x, r, s);
-    let w = Waiting {
+    round_message::write_round(out, 34, id, k.own as u8, j.d, j.e);
+    let slot = Slot {
         id,
+        stage: AWAITS_ONE,
         r,
         s,
-        d: j.d,
-        e: j.e,
-        rh: j.rh,
-        tau: j.tau,
+        d: j.d as u64,
+        e: j.e as u64,
     };
-    waiting::writing::write(table, k, w, x);
-    round_message::write_round(out, 34, id, k.own as u8, j.d, j.e);
+    records(at, slot)
 }
 
 // Takes the share message m with the pair r, s, and writes the message of round one.
-pub fn share(table: &mut [u8], m: &[u8], r: u64, s: u64, out: &mut [u8]) -> Written
-    ensures { λ a. ⌜ Shares (now (table .entry)) (now (m .entry)) r s (now (out .entry)) a (now (table .exit)) (now (out .exit)) ⌝ }
+pub fn share(
+    table: &[u8],
+    list: [Slot; 8],
+    numbers: &mut [u32],
+    m: &[u8],
+    r: u64,
+    s: u64,
+    out: &mut [u8],
+    written: &mut usize,
+) -> Change
+    ensures { λ c. ⌜ Shares (lent (now (table .entry)) list (now (numbers .entry))) (now (m .entry)) r s (now (out .entry))
+        (now (written .entry)) c (now (numbers .exit)) (now (out .exit)) (now (written .exit)) ⌝ }
 {
-    match read(table) {
-        Found::Refused(fault) => Written::Refused(fault),
+    match read(table, list, numbers) {
+        Found::Refused(fault) => refused(fault),
         Found::Table(k) => {
             let x = share_message::share_part(m, k.share_size(), k.own);
-            let refusal = share_refusal(table, k, m, x, r, s, out.len());
+            let refusal = share_refusal(table, k, list, m, x, r, s, out.len());
             if refusal != 0 {
-                return Written::Refused(refusal);
+                return refused(refusal);
             }
-            take(table, k, m, x, r as u32, s as u32, out);
-            Written::Done(14)
+            *written = 14;
+            take(table, list, numbers, k, m, x, r, s, out)
         }
     }
 }

@@ -4,10 +4,9 @@ use mathlib.Core.Path.{_≡_, refl, sym}
 use mathlib.Core.Bool.{Bool, true, false, _&&_}
 use mathlib.Core.List.{List}
 use Prim.Native.Nat.{ℕ, _+_, _-_, _≤_, _<_}
-use native.Mathlib.Omega.{arith}
 use borrow.Author.Tests.{leb-true, ltb-true, eqb-true, le-leb, lt-ltb, eq-eqb, ne-eqb}
 use lib.Dec.{eqb, ltb, leb}
-use lib.ListN.{length, getD, take, drop}
+use lib.ListN.{length, getD}
 use Rattle.algebra.proofs.Members.{and-left, and-right}
 use Rattle.words.specs.Bytes.{valueOf, part}
 use Rattle.rules.specs.Settings.{document01}
@@ -46,17 +45,17 @@ module _ (T : List ℕ) where
   from3 = within 2 8 (getD T 2 0) && from4
 
   abbrev from2 : Bool
-  from2 = leb (getD T 1 0) 3 && from3
+  from2 = leb (getD T 1 0) 1 && from3
 
   abbrev from1 : Bool
-  from1 = eqb (getD T 0 0) 1 && from2
+  from1 = eqb (getD T 0 0) 2 && from2
 
   pub start-facts : startSound T ≡ true → Started T
   unfolding startSound
   start-facts e =
       let e1 = and-right (leb 12 (length T)) from1 e in
-      let e2 = and-right (eqb (getD T 0 0) 1) from2 e1 in
-      let e3 = and-right (leb (getD T 1 0) 3) from3 e2 in
+      let e2 = and-right (eqb (getD T 0 0) 2) from2 e1 in
+      let e3 = and-right (leb (getD T 1 0) 1) from3 e2 in
       let e4 = and-right (within 2 8 (getD T 2 0)) from4 e3 in
       let e5 = and-right (ltb (getD T 3 0) (getD T 2 0)) from5 e4 in
       let e6 = and-right (within 1 1024 (valueOf (part 4 2 T))) from6 e5 in
@@ -64,8 +63,8 @@ module _ (T : List ℕ) where
       let returns = within-both 1 1024 (valueOf (part 4 2 T)) (and-left (within 1 1024 (valueOf (part 4 2 T))) from6 e5) in
       record {
         header-long = leb-true 12 (length T) (and-left (leb 12 (length T)) from1 e);
-        byte-is = eqb-true (getD T 0 0) 1 (and-left (eqb (getD T 0 0) 1) from2 e1);
-        stage-most = leb-true (getD T 1 0) 3 (and-left (leb (getD T 1 0) 3) from3 e2);
+        byte-is = eqb-true (getD T 0 0) 2 (and-left (eqb (getD T 0 0) 2) from2 e1);
+        stage-most = leb-true (getD T 1 0) 1 (and-left (leb (getD T 1 0) 1) from3 e2);
         servers-some = servers .0;
         servers-few = servers .1;
         own-one = ltb-true (getD T 3 0) (getD T 2 0) (and-left (ltb (getD T 3 0) (getD T 2 0)) from5 e4);
@@ -75,15 +74,15 @@ module _ (T : List ℕ) where
       }
 
   -- all but the last test hold
-  pub start-but : 12 ≤ length T → getD T 0 0 ≡ 1 → getD T 1 0 ≤ 3 → 2 ≤ getD T 2 0 → getD T 2 0 ≤ 8
+  pub start-but : 12 ≤ length T → getD T 0 0 ≡ 2 → getD T 1 0 ≤ 1 → 2 ≤ getD T 2 0 → getD T 2 0 ≤ 8
       → getD T 3 0 < getD T 2 0 → 1 ≤ valueOf (part 4 2 T) → valueOf (part 4 2 T) ≤ 1024
       → leb (12 + valueOf (part 10 2 T)) (length T) ≡ startSound T
   unfolding startSound
   start-but a b c d e f g h =
       rw (
         le-leb 12 (length T) a,
-        eq-eqb (getD T 0 0) 1 b,
-        le-leb (getD T 1 0) 3 c,
+        eq-eqb (getD T 0 0) 2 b,
+        le-leb (getD T 1 0) 1 c,
         within-is 2 8 (getD T 2 0) d e,
         lt-ltb (getD T 3 0) (getD T 2 0) f,
         within-is 1 1024 (valueOf (part 4 2 T)) g h,

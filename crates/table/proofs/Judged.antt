@@ -1,6 +1,6 @@
 -- The parts of a table's judgement, test by test: the one that fails, or the last where the others hold. Assumes nothing.
 use mathlib.Core.Path.{_≡_, refl, sym, _∙_}
-use mathlib.Core.Bool.{Bool, true, false, cond}
+use mathlib.Core.Bool.{Bool, true, false}
 use mathlib.Core.List.{List}
 use Prim.Native.Nat.{ℕ, _+_, _-_, _*_, _≤_, _<_}
 use native.Mathlib.Omega.{arith}
@@ -11,15 +11,14 @@ use Rattle.words.specs.Bytes.{part, elementsOf, allBelow}
 use Rattle.records.specs.Outcome.{ok, orElse}
 use Rattle.records.proofs.Outcome.{or-none}
 use Rattle.rules.specs.Settings.{document01}
-use Rattle.rules.specs.Columns.{within, check, readSheet, columnsOf, returnsFault, totalsFault, totalsFit}
+use Rattle.rules.specs.Columns.{check, readSheet, columnsOf, returnsFault, totalsFault, totalsFit}
 use Rattle.rules.specs.Table.{sheetIn, columnsIn}
 use Rattle.rules.proofs.Circuits.Limits.{within-is}
 use Rattle.rules.proofs.Circuits.Refusals.{sheet-read}
 use Rattle.layout.specs.Places.{totalsAt, idsAt}
 use Rattle.layout.specs.Numbers.{tableOf}
 use Rattle.layout.specs.declared.Table.{Table}
-use Rattle.waiting.specs.Places.{lengthOf}
-use Rattle.table.specs.Reading.{Headed, countsSoundAt, totalsSoundAt}
+use Rattle.table.specs.Reading.{lengthOf, Headed, countsSoundAt, totalsSoundAt}
 
 -- ---- the sheet x of a table, as the code cuts it out: it is read
 module _ (T : List ℕ) (k : Table) (h : Headed T k) (x : List ℕ) (ex : x ≡ part 12 (k .sheet) T) where
@@ -52,26 +51,26 @@ module _ (T : List ℕ) (k : Table) (h : Headed T k) (x : List ℕ) (ex : x ≡ 
     pub fits-not : (n ≡ 0 → ⊥) → totalsFit document01 (k .returns) (columnsIn document01 T) ≡ false
     fits-not f = unfit-of _ (λ z. f (e ∙ cut-fault ∙ z))
 
--- ---- counts
-module _ (k : Table) (T : List ℕ) where
-  pub counts-unfit : totalsFit document01 (k .returns) (columnsIn document01 T) ≡ false → false ≡ countsSoundAt k T
+-- ---- counts, where so many returns wait
+module _ (k : Table) (waiting : ℕ) (T : List ℕ) where
+  pub counts-unfit : totalsFit document01 (k .returns) (columnsIn document01 T) ≡ false → false ≡ countsSoundAt k waiting T
   unfolding countsSoundAt
   counts-unfit f = rw f
 
   module _ (f : totalsFit document01 (k .returns) (columnsIn document01 T) ≡ true) where
-    pub counts-short : length T < lengthOf k → false ≡ countsSoundAt k T
+    pub counts-short : length T < lengthOf k → false ≡ countsSoundAt k waiting T
     unfolding countsSoundAt
     counts-short l = rw (f, lt-leb _ _ l)
 
     module _ (l : lengthOf k ≤ length T) where
-      pub counts-over : k .returns < k .decided + cond (within 1 2 (k .stage)) 1 0 → false ≡ countsSoundAt k T
+      pub counts-over : k .returns < k .decided + waiting → false ≡ countsSoundAt k waiting T
       unfolding countsSoundAt
-      counts-over d = rw (f, le-leb _ _ l, lt-leb (k .decided + cond (within 1 2 (k .stage)) 1 0) (k .returns) d)
+      counts-over d = rw (f, le-leb _ _ l, lt-leb (k .decided + waiting) (k .returns) d)
 
-      pub counts-but : k .decided + cond (within 1 2 (k .stage)) 1 0 ≤ k .returns
-          → leb (k .accepted) (k .decided) ≡ countsSoundAt k T
+      pub counts-but : k .decided + waiting ≤ k .returns
+          → leb (k .accepted) (k .decided) ≡ countsSoundAt k waiting T
       unfolding countsSoundAt
-      counts-but d = rw (f, le-leb _ _ l, le-leb (k .decided + cond (within 1 2 (k .stage)) 1 0) (k .returns) d)
+      counts-but d = rw (f, le-leb _ _ l, le-leb (k .decided + waiting) (k .returns) d)
 
 -- ---- totals, as the code cuts them out
 module _ (k : Table) (T : List ℕ) where

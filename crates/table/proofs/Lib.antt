@@ -3,3 +3,6 @@ pub mod Ids
 pub mod Header
 pub mod Judged
 pub mod Answers
+pub mod Waiting
+pub mod Stages
+pub mod Decided

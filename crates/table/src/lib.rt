@@ -1,14 +1,18 @@
-// The reading of a server's table in lent bytes: what a table says, where its length, stage, counts, sheet, numbers and
-// elements keep to the limits. The contracts cite rules and specs/.
+// The reading of a server's table: what its bytes say, where the length, stage, counts, sheet, numbers and elements of its three
+// parts keep to the limits. The contracts cite rules and specs/.
 ghost use mathlib.Core.Path.{_≡_};
 ghost use Rattle.words.specs.Bytes.{elementsOf};
 ghost use Rattle.rules.specs.Server.{isMember};
-ghost use Rattle.waiting.specs.Places.{Whole};
-ghost use Rattle.table.specs.Reading.{startSound, headIn, foundIn, countsSoundAt, totalsSoundAt, Headed};
+ghost use Rattle.waiting.specs.Changes.{lent};
+ghost use Rattle.table.specs.Reading.{startSound, headIn, foundIn, countsSoundAt, totalsSoundAt, Headed, Whole};
 use layout::CLOSED;
+use layout::TABLE;
 use layout::Table;
 use layout::places::sheet_part;
 use sheet::Reading;
+use slots::Slot;
+
+pub mod deciding;
 
 // The refusal of a table that breaks the limits.
 const UNSOUND: u32 = 11;
@@ -47,7 +51,7 @@ fn start_sound(t: &[u8]) -> bool
     if t.len() < 12 {
         return false;
     }
-    if t[0] != 1 {
+    if t[0] != TABLE {
         return false;
     }
     if CLOSED < t[1] {
@@ -99,21 +103,21 @@ fn head(t: &[u8]) -> Found
     }
 }
 
-// Whether the totals can not wrap, the table lies within its slice, and its counts are within N.
-fn counts_sound(t: &[u8], k: Table) -> bool
+// Whether the totals can not wrap, the table lies within its slice, and its counts and so many that wait are within N.
+fn counts_sound(t: &[u8], k: Table, waiting: u32) -> bool
     requires { ⌜ Headed (now t) k ⌝ }
-    ensures { λ r. ⌜ r ≡ countsSoundAt k (now (t .entry)) ⌝ }
+    ensures { λ r. ⌜ r ≡ countsSoundAt k waiting (now (t .entry)) ⌝ }
 {
     if sheet::returns::returns_refusal(sheet_part(t, k.sheet), k.returns) != 0 {
         return false;
     }
-    if t.len() < waiting::places::length(k) {
+    if t.len() < k.length() {
         return false;
     }
     if k.returns < k.decided {
         return false;
     }
-    if k.returns - k.decided < waiting::count(k.stage) {
+    if k.returns - k.decided < waiting {
         return false;
     }
     k.accepted <= k.decided
@@ -129,23 +133,20 @@ fn totals_sound(t: &[u8], k: Table) -> bool
     elements::below(&t[start..end], field::P)
 }
 
-// What a sound table says.
-pub fn read(t: &[u8]) -> Found
-    ensures { λ r. ⌜ r ≡ foundIn (now (t .entry)) ⌝ }
+// What a sound table of three parts says.
+pub fn read(t: &[u8], list: [Slot; 8], numbers: &[u32]) -> Found
+    ensures { λ r. ⌜ r ≡ foundIn (lent (now (t .entry)) list (now (numbers .entry))) ⌝ }
 {
     match head(t) {
         Found::Refused(fault) => Found::Refused(fault),
         Found::Table(k) => {
-            if !counts_sound(t, k) {
+            if !counts_sound(t, k, waiting::count(list)) {
                 return Found::Refused(UNSOUND);
             }
             if !totals_sound(t, k) {
                 return Found::Refused(UNSOUND);
             }
-            if !waiting::waits(k.stage) {
-                return Found::Table(k);
-            }
-            if !waiting::sound(t, k) {
+            if !waiting::sound(list, numbers, k.gates, k.place_size()) {
                 return Found::Refused(UNSOUND);
             }
             Found::Table(k)

@@ -1,5 +1,4 @@
--- Laws of the return that waits: its places, its numbers, whether it is sound, what is written.
-pub mod Positions
-pub mod Held
-pub mod Soundness
-pub mod Written
+-- Laws of the waiting list: places and counts from a place on, the limits, what a call leaves.
+pub mod Places
+pub mod Limits
+pub mod Changes

@@ -1,4 +1,4 @@
--- What the contracts of this crate cite besides rules and layout. Read Places, then Held, then Writing.
-pub mod Places
+-- What the contracts of this crate cite besides rules.
+pub mod Soundness
 pub mod Held
-pub mod Writing
+pub mod Changes

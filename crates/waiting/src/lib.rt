@@ -1,80 +1,143 @@
-// The return that waits in a server's table: whether one waits, where it stands, what the table says of it, whether that keeps to
-// the limits, and what is written of it. No other crate knows its places. The contracts cite rules and specs/.
+// The waiting list of a server's table, eight records by value, and the run of numbers beside it: which record is free, which
+// has an id, how many returns wait, whether they keep to the limits, what a record says. The contracts cite rules and specs/.
 ghost use mathlib.Core.Path.{_≡_};
-ghost use mathlib.Core.Bool.{cond};
-ghost use Rattle.rules.specs.Settings.{document01};
-ghost use Rattle.rules.specs.Columns.{within};
-ghost use Rattle.rules.specs.Table.{waitingSound};
-ghost use Rattle.waiting.specs.Held.{waitsIn, Stands};
-use layout::AWAITS_ONE;
-use layout::AWAITS_TWO;
-use layout::Table;
+ghost use Prim.Native.Nat.{_+_, _≤_, _<_};
+ghost use lib.ListN.{length};
+ghost use Rattle.field.specs.Residues.{prime};
+ghost use Rattle.rules.specs.WaitingList.{freePlace, placeOf, waitsUnder, waitingCount};
+ghost use Rattle.waiting.specs.Soundness.{recordSoundAt, waitingSoundAt};
+ghost use Rattle.waiting.specs.Held.{heldAt};
+use slots::Slot;
 
-pub mod places;
 pub mod writing;
 
-// Its id and pair; d_i and e_i in the first wait, the sums d and e in the second; r h_i(r) and tau_i.
+// The stages of a record.
+pub const FREE: u32 = 0;
+
+pub const AWAITS_ONE: u32 = 1;
+
+pub const AWAITS_TWO: u32 = 2;
+
+// What a return that waits is known by, besides its share and its pair: its id; d_i and e_i in the first wait, the sums d and
+// e in the second; r h_i(r) and tau_i.
 pub struct Waiting {
     pub id: u32,
-    pub r: u32,
-    pub s: u32,
     pub d: u32,
     pub e: u32,
     pub rh: u32,
     pub tau: u32,
 }
 
-// Whether a return waits at a stage.
-pub fn waits(stage: u8) -> bool
-    ensures { λ r. ⌜ r ≡ within 1 2 stage ⌝ }
+// How many returns wait.
+pub fn count(list: [Slot; 8]) -> u32
+    ensures { λ r. ⌜ r ≡ waitingCount list ⌝ }
 {
-    if stage < AWAITS_ONE {
+    let mut n: u32 = 0;
+    let mut i: usize = 0;
+    while i < 8 {
+        let stage = list[i].stage;
+        if stage != FREE {
+            n += 1;
+        }
+        i += 1;
+    }
+    n
+}
+
+// The place of the first free record; 8 where there is none.
+pub fn free_place(list: [Slot; 8]) -> usize
+    ensures { λ r. ⌜ r ≡ freePlace list ⌝ }
+{
+    let mut i: usize = 0;
+    while i < 8 {
+        let stage = list[i].stage;
+        if stage == FREE {
+            return i;
+        }
+        i += 1;
+    }
+    8
+}
+
+// Whether a return waits in a record under an id.
+fn waits_under(x: Slot, id: u32) -> bool
+    ensures { λ r. ⌜ r ≡ waitsUnder id x ⌝ }
+{
+    if x.stage == FREE {
         return false;
     }
-    stage <= AWAITS_TWO
+    x.id == id
 }
 
-// How many returns wait at a stage.
-pub fn count(stage: u8) -> u32
-    ensures { λ r. ⌜ r ≡ cond (within 1 2 stage) 1 0 ⌝ }
+// The place of the first record in which a return waits under an id; 8 where there is none.
+pub fn place_of(list: [Slot; 8], id: u32) -> usize
+    ensures { λ r. ⌜ r ≡ placeOf id list ⌝ }
 {
-    if waits(stage) {
-        return 1;
+    let mut i: usize = 0;
+    while i < 8 {
+        if waits_under(list[i], id) {
+            return i;
+        }
+        i += 1;
     }
-    0
+    8
 }
 
-// What the table says of the return that waits, but for its share.
-pub fn read(t: &[u8], k: Table) -> Waiting
-    requires { ⌜ Stands (now t) k ⌝ }
-    ensures { λ r. ⌜ r ≡ waitsIn (now (t .entry)) ⌝ }
+// Whether a record keeps to the limits, ns being the numbers of its place.
+fn record_sound(x: Slot, ns: &[u32], gates: usize) -> bool
+    ensures { λ r. ⌜ r ≡ recordSoundAt gates x (now (ns .entry)) ⌝ }
 {
-    let at = k.wait_place();
+    if AWAITS_TWO < x.stage {
+        return false;
+    }
+    if x.stage == FREE {
+        return true;
+    }
+    if !limits::pair_sound(gates, x.r, x.s) {
+        return false;
+    }
+    if (field::P as u64) <= x.d {
+        return false;
+    }
+    if (field::P as u64) <= x.e {
+        return false;
+    }
+    elements::all_below(ns, field::P)
+}
+
+// Whether the run of numbers has room for eight places of `size` numbers, and every record keeps to the limits. The loop goes by
+// the places: the compiler then reads of a record what is asked for, and not all fields of all eight first.
+pub fn sound(list: [Slot; 8], numbers: &[u32], gates: usize, size: usize) -> bool
+    requires { ⌜ (1 ≤ size) × (size ≤ 776) ⌝ }
+    ensures { λ r. ⌜ r ≡ waitingSoundAt gates size list (now (numbers .entry)) ⌝ }
+{
+    let end = 8 * size;
+    if numbers.len() < end {
+        return false;
+    }
+    let mut i: usize = 0;
+    let mut at: usize = 0;
+    while at < end {
+        let next = at + size;
+        if !record_sound(list[i], &numbers[at..next], gates) {
+            return false;
+        }
+        i += 1;
+        at = next;
+    }
+    true
+}
+
+// What a record says, with the numbers ns of its place, of which `size` are its share.
+pub fn held(x: Slot, ns: &[u32], size: usize) -> Waiting
+    requires { ⌜ (size + 2 ≤ length (now ns)) × (x .d < prime) × (x .e < prime) ⌝ }
+    ensures { λ r. ⌜ r ≡ heldAt x (now (ns .entry)) size ⌝ }
+{
     Waiting {
-        id: words::read_u32(t, at),
-        r: words::read_u32(t, at + 4),
-        s: words::read_u32(t, at + 4 + 4),
-        d: words::read_u32(t, at + 4 + 8),
-        e: words::read_u32(t, at + 4 + 12),
-        rh: words::read_u32(t, at + 4 + 16),
-        tau: words::read_u32(t, at + 4 + 20),
+        id: x.id,
+        d: x.d as u32,
+        e: x.e as u32,
+        rh: ns[size],
+        tau: ns[size + 1],
     }
-}
-
-// Whether the return that waits has a pair, and its numbers and its share are elements.
-pub fn sound(t: &[u8], k: Table) -> bool
-    requires { ⌜ Stands (now t) k ⌝ }
-    ensures { λ r. ⌜ r ≡ waitingSound document01 (now (t .entry)) ⌝ }
-{
-    let w = read(t, k);
-    if !limits::pair_sound(k.gates, w.r as u64, w.s as u64) {
-        return false;
-    }
-    let at = k.wait_place() + 4;
-    let share = at + 24;
-    if !elements::below(&t[at..share], field::P) {
-        return false;
-    }
-    let end = share + 4 * k.share_size();
-    elements::below(&t[share..end], field::P)
 }

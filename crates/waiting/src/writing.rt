@@ -1,56 +1,86 @@
-// What is written of the return that waits, with the stage: a share that is taken, the sums of round one, zeros once it is decided.
+// What is written of a return that waits: the numbers of its place, its record, zeros once it is decided.
 ghost use mathlib.Core.Path.{_≡_};
-ghost use Prim.Native.Nat.{_≤_};
-ghost use Rattle.layout.specs.Writing.{Decidable};
-ghost use Rattle.waiting.specs.Places.{Whole};
-ghost use Rattle.waiting.specs.Writing.{takenAs, Storable, summedAs, erased, decidedAs};
-use crate::Waiting;
-use crate::places::length;
-use layout::AWAITS_ONE;
-use layout::AWAITS_TWO;
-use layout::IDLE;
-use layout::Table;
-use layout::writing::clear;
-use layout::writing::note_decided;
+ghost use mathlib.Core.List.{[], _∷_};
+ghost use Prim.Native.Nat.{_+_, _*_, _≤_};
+ghost use lib.ListN.{length, replicate};
+ghost use Rattle.words.specs.Bytes.{splice, elementsOf};
+ghost use Rattle.slots.specs.Slots.{freeSlot};
+ghost use Rattle.waiting.specs.Changes.{refusedBy, recordsAt};
+use slots::Change;
+use slots::Slot;
 
-// Writes a return with the element bytes x: it awaits round one.
-pub fn write(t: &mut [u8], k: Table, w: Waiting, x: &[u8])
-    requires { ⌜ Storable (now t) k (now x) ⌝ }
-    ensures { λ _. ⌜ now (t .exit) ≡ takenAs k w (now (x .entry)) (now (t .entry)) ⌝ }
+// Reads the element bytes x of a share into the numbers from `at`.
+pub fn read_share(numbers: &mut [u32], at: usize, x: &[u8], size: usize)
+    requires { ⌜ (length (now x) ≡ 4 * size) × (at + size ≤ length (now numbers)) ⌝ }
+    ensures { λ _. ⌜ now (numbers .exit) ≡ splice (now (numbers .entry)) at (elementsOf 4 (now (x .entry))) ⌝ }
 {
-    let at = k.wait_place();
-    let numbers = [w.id, w.r, w.s, w.d, w.e, w.rh, w.tau];
-    elements::write(t, at, &numbers);
-    words::copy(t, at + 28, x);
-    t[1] = AWAITS_ONE;
+    let end = at + size;
+    elements::read(x, &mut numbers[at..end]);
 }
 
-// Stores the sums d and e in the place of d_i and e_i: the return awaits round two.
-pub fn store_sums(t: &mut [u8], k: Table, d: u32, e: u32)
-    requires { ⌜ Whole (now t) k ⌝ }
-    ensures { λ _. ⌜ now (t .exit) ≡ summedAs k d e (now (t .entry)) ⌝ }
+// Writes r h(r) and tau behind the elements of a share.
+pub fn write_last(numbers: &mut [u32], at: usize, rh: u32, tau: u32)
+    requires { ⌜ at + 2 ≤ length (now numbers) ⌝ }
+    ensures { λ _. ⌜ now (numbers .exit) ≡ splice (now (numbers .entry)) at (rh ∷ tau ∷ []) ⌝ }
 {
-    let at = k.wait_place() + 4 + 8;
-    words::write_u32(t, at, d);
-    words::write_u32(t, at + 4, e);
-    t[1] = AWAITS_TWO;
+    numbers[at] = rh;
+    numbers[at + 1] = tau;
 }
 
-// Erases what is kept of the return that waits: all bytes up to the table's end.
-fn erase(t: &mut [u8], k: Table)
-    requires { ⌜ Whole (now t) k ⌝ }
-    ensures { λ _. ⌜ now (t .exit) ≡ erased k (now (t .entry)) ⌝ }
+// Erases n numbers from `at`.
+pub fn erase(numbers: &mut [u32], at: usize, n: usize)
+    requires { ⌜ at + n ≤ length (now numbers) ⌝ }
+    ensures { λ _. ⌜ now (numbers .exit) ≡ splice (now (numbers .entry)) at (replicate n 0) ⌝ }
 {
-    let at = k.wait_place();
-    clear(t, at, length(k) - at);
+    let mut i: usize = 0;
+    while i < n {
+        numbers[at + i] = 0;
+        i += 1;
+    }
 }
 
-// Decides the return that waits: its id is noted among those decided, nothing else of it is kept, and the table is idle.
-pub fn decide(t: &mut [u8], k: Table, accepted: u32, id: u32)
-    requires { ⌜ Decidable (now t) k × Whole (now t) k × (accepted ≤ 1) ⌝ }
-    ensures { λ _. ⌜ now (t .exit) ≡ decidedAs k accepted id (now (t .entry)) ⌝ }
+// What a refused call does to the list: nothing.
+pub fn refused(refusal: u32) -> Change
+    ensures { λ r. ⌜ r ≡ refusedBy refusal ⌝ }
 {
-    note_decided(t, k, accepted, id);
-    erase(t, k);
-    t[1] = IDLE;
+    Change {
+        refusal,
+        at: 0,
+        slot: Slot {
+            id: 0,
+            stage: 0,
+            r: 0,
+            s: 0,
+            d: 0,
+            e: 0,
+        },
+    }
+}
+
+// What a call does to the list that leaves a record at a place.
+pub fn records(at: usize, slot: Slot) -> Change
+    ensures { λ r. ⌜ r ≡ recordsAt at slot ⌝ }
+{
+    Change {
+        refusal: 0,
+        at,
+        slot,
+    }
+}
+
+// What a call does to the list that decides the return at a place: its record is free.
+pub fn frees(at: usize) -> Change
+    ensures { λ r. ⌜ r ≡ recordsAt at freeSlot ⌝ }
+{
+    records(
+        at,
+        Slot {
+            id: 0,
+            stage: 0,
+            r: 0,
+            s: 0,
+            d: 0,
+            e: 0,
+        },
+    )
 }

@@ -1,14 +1,15 @@
 -- What the code needs of the definitions: a number read byte by byte, bytes stored one by one, and the turns of a loop
--- that copies bytes. A run that grows at its end is put next to what is there (`splice-splice`). Assumes that a run lies
--- within the buffer, where it is said.
+-- that copies bytes or clears them. A run that grows at its end is put next to what is there (`splice-splice`). Assumes that
+-- a run lies within the buffer, where it is said.
 use mathlib.Core.Path.{_≡_, refl, sym, ap, _∙_}
-use mathlib.Core.List.{List, [], _∷_, _++_}
-use Prim.Native.Nat.{ℕ, zero, suc, _+_, _*_, _≤_, _<_}
+use mathlib.Core.List.{List, [], _∷_, _++_, append-assoc}
+use Prim.Native.Nat.{ℕ, zero, suc, _+_, _-_, _*_, _≤_, _<_}
 use native.Mathlib.Nat.{add-suc}
 use native.Mathlib.Numerals.{add-one}
 use native.Mathlib.Omega.{arith}
-use lib.ListN.{length, getD, take, set}
-use lib.Seq.{take-suc, drop-cons, length-take-le, sets, sets-eq}
+use borrow.Rule.Slice.PartMut.{putMid, post-is}
+use lib.ListN.{length, getD, take, drop, set, replicate, length-replicate, getD-replicate}
+use lib.Seq.{take-suc, take-all, drop-cons, length-take-le, sets, sets-eq}
 use Rattle.words.specs.Bytes.{valueOf, part, splice}
 use Rattle.words.proofs.Splice.{splice-none, splice-splice, length-splice}
 
@@ -48,3 +49,26 @@ module _ (s : List ℕ) (a : ℕ) where
       sets-splice (splice s a (take i ys)) (a + i) (getD ys i 0 ∷ []) (omega arith)
       ∙ grow (take i ys) (getD ys i 0 ∷ []) i l (omega arith)
       ∙ ap (splice s a) (sym (rw add-one (take-suc ys i 0 k)))
+
+-- ---- a run of zeros
+module _ (s : List ℕ) (a n i : ℕ) where
+  pub clear-next : a + n ≤ length s → i < n
+      → set (splice s a (take i (replicate n 0))) (a + i) 0 ≡ splice s a (take (i + 1) (replicate n 0))
+  clear-next h k =
+      let zeros : List ℕ = replicate n 0 in
+      let l : length zeros ≡ n = length-replicate n 0 in
+      let e : getD zeros i 0 ≡ 0 = getD-replicate n i 0 0 k in
+      ap (λ (v : ℕ). set (splice s a (take i zeros)) (a + i) v) (sym e) ∙ copy-next s a zeros i (omega arith) (omega arith)
+
+  pub clear-all : n ≤ i → splice s a (take i (replicate n 0)) ≡ splice s a (replicate n 0)
+  clear-all h =
+      let zeros : List ℕ = replicate n 0 in
+      let l : length zeros ≡ n = length-replicate n 0 in
+      ap (splice s a) (take-all i zeros (omega arith))
+
+-- ---- a part that is lent to be filled: the whole, once it is put back
+pub part-put : (a e : ℕ) (s ys : List ℕ) → a ≤ e → e ≤ length s → length ys ≡ e - a → putMid a (e - a) s ys ≡ splice s a ys
+unfolding splice
+part-put a e s ys h k l =
+    let q : a + length ys ≡ e = omega arith in
+    rw (q, post-is a e s h) (sym (append-assoc (take a s) ys (drop e s)))

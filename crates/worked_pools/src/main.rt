@@ -1,4 +1,4 @@
-// The worked examples of document 01 on returns, judging and joining, run through the C functions and printed.
+// The worked examples of document 01 on returns, judging and joining, run on the code and printed.
 mod joining;
 mod returns;
 

@@ -1,25 +1,58 @@
-// Returns of sheet 17 at two servers, through the C functions. Server 1's share is all zeros, so what server 0 writes
-// are the sums: d, e and sigma of the whole return.
+// Returns of sheet 17 at two servers, through the calls that the C functions of a server hand everything to. Server 1's share is
+// all zeros, so what server 0 writes are the sums: d, e and sigma of the whole return.
 ghost use Prim.Native.Nat.{_+_, _≤_};
 use printing::fill;
 use printing::item;
 use printing::refused;
 use printing::write;
+use slots::Change;
+use slots::Slot;
 
-// A server: its table, and the answer and the message of its last call.
+// A server: the three parts of its table, and the answer and the message of its last call.
 struct Server {
-    table: [u8; 121],
+    table: [u8; 57],
+    list: [Slot; 8],
+    numbers: [u32; 88],
     number: u32,
     message: [u8; 14],
 }
 
+// Eight free records.
+fn none() -> [Slot; 8] {
+    let x = Slot {
+        id: 0,
+        stage: 0,
+        r: 0,
+        s: 0,
+        d: 0,
+        e: 0,
+    };
+    [x; 8]
+}
+
+// The records after a call.
+fn after(list: [Slot; 8], change: Change) -> [Slot; 8] {
+    let mut kept = list;
+    let at = change.at;
+    let slot = change.slot;
+    if change.refusal == 0 {
+        if at < 8 {
+            kept[at] = slot;
+        }
+    }
+    kept
+}
+
 // A table of server `own`, for 10 returns.
 fn open(own: u32) -> Server {
-    let mut table = [0u8; 121];
+    let mut table = [0u8; 57];
+    let mut numbers = [0u32; 88];
     let mut written: usize = 0;
-    let number = pool_server::pool_open(2, own, &[17], 10, &mut table, &mut written);
+    let number = opening::open(2, own, &[17], 10, &mut table, 8, &mut numbers, &mut written);
     Server {
         table: table,
+        list: none(),
+        numbers: numbers,
         number: number,
         message: [0u8; 14],
     }
@@ -27,26 +60,51 @@ fn open(own: u32) -> Server {
 
 // A share comes in, with the pair r, 0.
 fn share(server: Server, m: [u8; 42], r: u64) -> Server {
-    let mut table = server.table;
+    let table = server.table;
+    let list = server.list;
+    let mut numbers = server.numbers;
     let mut message = [0u8; 14];
     let mut written: usize = 0;
-    let number = pool_server::pool_share(&mut table, &m, r, 0, &mut message, &mut written);
+    let change = shares::share(
+        &table,
+        list,
+        &mut numbers,
+        &m,
+        r,
+        0,
+        &mut message,
+        &mut written,
+    );
     Server {
         table: table,
-        number: number,
+        list: after(list, change),
+        numbers: numbers,
+        number: change.refusal,
         message: message,
     }
 }
 
 // Round one, with the messages of both servers.
 fn round_one(server: Server, joined: [u8; 28]) -> Server {
-    let mut table = server.table;
+    let table = server.table;
+    let list = server.list;
+    let numbers = server.numbers;
     let mut message = [0u8; 14];
     let mut written: usize = 0;
-    let number = pool_server::pool_round_one(&mut table, &joined, &mut message, &mut written);
+    let change = round_one::round_one(
+        &table,
+        list,
+        &numbers,
+        9,
+        &joined,
+        &mut message,
+        &mut written,
+    );
     Server {
         table: table,
-        number: number,
+        list: after(list, change),
+        numbers: numbers,
+        number: change.refusal,
         message: message,
     }
 }
@@ -54,8 +112,11 @@ fn round_one(server: Server, joined: [u8; 28]) -> Server {
 // Round two.
 fn verdict(server: Server, joined: [u8; 28]) {
     let mut table = server.table;
+    let list = server.list;
+    let mut numbers = server.numbers;
     let mut accepted: u32 = 0;
-    let number = pool_server::pool_round_two(&mut table, &joined, &mut accepted);
+    let change = round_two::round_two(&mut table, list, &mut numbers, 9, &joined, &mut accepted);
+    let number = change.refusal;
     if number != 0 {
         refused(number);
         return;
@@ -182,8 +243,18 @@ pub fn make() -> [u8; 42] {
 // Whether a table of sheet 19 24 opens for so many returns.
 pub fn opens(returns: u32) {
     let mut table = [0u8; 1000];
+    let mut numbers = [0u32; 648];
     let mut written: usize = 0;
     item(b"sheet 19 24, N ", returns as u64);
-    let number = pool_server::pool_open(2, 0, &[19, 24], returns, &mut table, &mut written);
+    let number = opening::open(
+        2,
+        0,
+        &[19, 24],
+        returns,
+        &mut table,
+        8,
+        &mut numbers,
+        &mut written,
+    );
     printing::outcome(number, b": a table of bytes ", written as u64);
 }

@@ -1,26 +1,34 @@
 -- `closing::close` meets its contract: a sound table gives the message its totals and the buffer's test its room
--- (`close-done`); else it is refused (`close-unsound`, `close-staged`, `close-narrow`). Assumes nothing.
+-- (`close-done`); else it is refused (`close-unsound`, `close-closed`, `close-waits`, `close-narrow`). Assumes nothing.
 use mathlib.Core.Path.{sym, _∙_}
-use mathlib.Core.List.{List}
-use Prim.Native.Nat.{ℕ, _<_}
+use Prim.Native.Nat.{_<_}
 use native.Mathlib.Omega.{arith}
+use borrow.Author.Needs.{needs}
 use Rattle.algebra.specs.Lists.{All}
 use Rattle.algebra.proofs.Members.{getD-all}
+use Rattle.rules.specs.Table.{Lent}
+use Rattle.layout.specs.declared.Table.{Table}
+use Rattle.waiting.specs.Changes.{lent}
 use Rattle.table.specs.Reading.{Sound}
 use Rattle.table.proofs.Answers.{sound}
-use Rattle.closing.proofs.Closing.{close-unsound, close-staged, close-narrow, close-closes, close-done}
-use borrow.Author.Needs.{needs}
+use Rattle.closing.proofs.Closing.{close-unsound, close-closed, close-waits, close-narrow, close-closes, close-done}
 use Rattle.closing.proofs.close.Statement.{statement}
 use Rattle.closing.proofs.close.Tie as tie
 
 abbrev given : tie.After-k → tie.Start
-given u = u .before .before .before .before .before .before
+given u = u .before .before .before .before .before .before .before
 
-abbrev bytes : tie.After-k → List ℕ
-bytes u = given u .args .table .now
+abbrev three : tie.After-k → Lent
+three u = let a = given u .args in lent (a .table .now) (a .list) (a .numbers .now)
 
-sound-table : (u : tie.After-k) → Sound (bytes u) (u .k .given .0 .0)
-sound-table u = sound (bytes u) _ (sym (u .before .before .read .ensures) ∙ u .k .given .1)
+abbrev table : tie.After-k → Table
+table u = u .k .given .0 .0
+
+abbrev found : tie.Else1 → tie.After-k
+found c = c .before .before .before
+
+sound-table : (u : tie.After-k) → Sound (three u) (table u)
+sound-table u = sound (three u) _ (sym (u .before .before .read .ensures) ∙ u .k .given .1)
 
 read-requires : tie.Need-read-requires
 read-requires c κs = search needs
@@ -37,61 +45,84 @@ same-length c = search needs
 returns : tie.Need-returns
 returns c =
     let u = c .before .before .before in
-    close-staged (bytes u) (given u .args .out .now) _ (sound-table u) (λ z. omega (arith, c .if1 .taken))
+    let a = given u .args in
+    close-closed (three u) (a .out .now) (a .written .now) (table u) (sound-table u) (c .if1 .taken)
 
-mul-size : tie.Need-mul-size
-mul-size c =
-    let u = c .before .before .before .before in omega (arith, sound-table u .limited .published-most)
-
-add-size : tie.Need-add-size
-add-size c =
-    let u = c .before .before .before .before in omega (arith, sound-table u .limited .published-most)
+count-requires : tie.Need-count-requires
+count-requires c κs = search needs
 
 same-length-2 : tie.Need-same-length-2
 same-length-2 c = search needs
 
 returns-2 : tie.Need-returns-2
 returns-2 c =
-    let u = c .before .before .before .before .before in
-    close-narrow (bytes u) (given u .args .out .now) _ (sound-table u) (omega (arith, c .before .before .if1 .left))
-    (omega (arith, c .if2 .taken))
+    let one = c .before .before in
+    let u = found one in
+    let a = given u .args in
+    close-waits (three u) (a .out .now) (a .written .now) (table u) (sound-table u) (one .if1 .left) _
+    (c .before .count .ensures) (c .if2 .taken)
 
-write-closing-requires : tie.Need-write-closing-requires
-write-closing-requires c κs =
-    let u = c .before .before .before .before .before .before .before in
-    close-closes (bytes u) (given u .args .out .now) _ (sound-table u) (omega (arith, c .before .before .if2 .left))
+mul-size : tie.Need-mul-size
+mul-size c = omega (arith, sound-table (found (c .before .before .before)) .limited .published-most)
 
-slice-write-table : tie.Need-slice-write-table
-slice-write-table c =
-    let u = c .before .before .before .before .before .before .before .before .before .before in
-    omega (arith, sound-table u .long)
+add-size : tie.Need-add-size
+add-size c = omega (arith, sound-table (found (c .before .before .before)) .limited .published-most)
 
 same-length-3 : tie.Need-same-length-3
 same-length-3 c = search needs
 
 returns-3 : tie.Need-returns-3
 returns-3 c =
-    let u = c .before in
-    let r = u .before .before in
-    let a = r .before .before .before .before .args in
-    close-unsound (a .table .now) (a .out .now) _ (sym (r .read .ensures) ∙ u .fault .given .1)
+    let two = c .before .before in
+    let one = two .before .before in
+    let u = found one in
+    let a = given u .args in
+    close-narrow (three u) (a .out .now) (a .written .now) (table u) (sound-table u) (one .if1 .left) _
+    (two .before .count .ensures) (two .if2 .left) (c .if3 .taken)
+
+write-closing-requires : tie.Need-write-closing-requires
+write-closing-requires c κs =
+    let three-tests = c .before .before in
+    let u = found (three-tests .before .before .before .before) in
+    let a = given u .args in
+    close-closes (three u) (a .out .now) (a .written .now) (table u) (sound-table u) (three-tests .if3 .left)
+
+slice-write-table : tie.Need-slice-write-table
+slice-write-table c =
+    let w = c .before .before .before .before .before in
+    omega (arith, sound-table (found (w .before .before .before .before)) .long)
 
 same-length-4 : tie.Need-same-length-4
 same-length-4 c = search needs
 
+returns-4 : tie.Need-returns-4
+returns-4 c =
+    let u = c .before in
+    let r = u .before .before in
+    let a = r .before .before .before .before .before .args in
+    close-unsound (lent (a .table .now) (a .list) (a .numbers .now)) (a .out .now) (a .written .now) _
+    (sym (r .read .ensures) ∙ u .fault .given .1)
+
 same-length-5 : tie.Need-same-length-5
 same-length-5 c = search needs
 
-returns-4 : tie.Need-returns-4
-returns-4 c =
-    let u = c .before .before .before .before .before .before .before .before .before .before in
-    let w = c .before .before .before .before .before in
-    let known = u .before .before .before .before .before .slice-known .given in
-    let each : All (λ b. b < 256) (bytes u)
-    = getD-all {P = λ b. b < 256} 0 (bytes u) (λ i h. let f = known i in omega arith) in
-    rw (c .before .before .write-closing .ensures)
-    (close-done (bytes u) (given u .args .out .now) _ (sound-table u) (omega (arith, w .before .before .if1 .left))
-    (omega (arith, w .if2 .left)) each)
+same-length-6 : tie.Need-same-length-6
+same-length-6 c = search needs
+
+returns-5 : tie.Need-returns-5
+returns-5 c =
+    let w = c .before .before in
+    let last = w .before .before .before in
+    let two = last .before .before in
+    let one = two .before .before in
+    let u = found one in
+    let a = given u .args in
+    let known = u .before .before .before .before .before .before .slice-known .given in
+    let each : All (λ b. b < 256) (three u .bytes)
+    = getD-all {P = λ b. b < 256} 0 (three u .bytes) (λ i h. let f = known i in omega arith) in
+    rw (w .write-closing .ensures)
+    (close-done (three u) (a .out .now) (a .written .now) (table u) (sound-table u) (one .if1 .left) _
+    (two .before .count .ensures) (two .if2 .left) (last .if3 .left) each)
 
 pub close-spec : {M : Type 1} → statement M
 close-spec =
@@ -102,14 +133,17 @@ close-spec =
     enum-known-k
     same-length
     returns
-    mul-size
-    add-size
+    count-requires
     same-length-2
     returns-2
-    write-closing-requires
-    slice-write-table
+    mul-size
+    add-size
     same-length-3
     returns-3
+    write-closing-requires
+    slice-write-table
     same-length-4
+    returns-4
     same-length-5
-    returns-4)
+    same-length-6
+    returns-5)

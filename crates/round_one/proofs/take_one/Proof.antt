@@ -1,10 +1,9 @@
--- `round_one::take_one` meets its contract: the sums are stored where rules says (`one-table`), and the message is that of
--- round two with these sums (`one-bytes`). Assumes nothing.
-use mathlib.Core.Path.{ap}
+-- `round_one::take_one` meets its contract: the sums are elements, they go into the record, and the message is that of round two
+-- with them. Assumes nothing.
+use mathlib.Core.Path.{refl}
 use Rattle.field.proofs.Below.{sum-below}
-use Rattle.words.specs.Bytes.{splice}
 use Rattle.rules.specs.Messages.{firstSum, secondSum}
-use Rattle.round_one.proofs.FirstRound.{one-table, one-bytes}
+use Rattle.round_one.specs.One.{summedSlot, messageAt}
 use borrow.Author.Needs.{needs}
 use Rattle.round_one.proofs.take_one.Statement.{statement}
 use Rattle.round_one.proofs.take_one.Tie as tie
@@ -18,15 +17,15 @@ second-sum-requires c κs = search needs
 sigma-of-requires : tie.Need-sigma-of-requires
 unfolding firstSum secondSum
 sigma-of-requires c κs =
-    let a = c .before .before .before .before .before .before in (
-      a .pre .waits,
-      a .pre .says,
-      rw (c .before .before .first-sum .ensures) (sum-below _ _),
-      rw (c .before .second-sum .ensures) (sum-below _ _),
-    )
-
-store-sums-requires : tie.Need-store-sums-requires
-store-sums-requires c κs = search needs
+    let p = c .before .before .before .before .before .pre .sharing in
+    record {
+      limited = p .limited;
+      long = p .long;
+      elements = p .elements;
+      rh-below = p .rh-below;
+      d-below = rw (c .before .first-sum .ensures) (sum-below _ _);
+      e-below = rw (c .second-sum .ensures) (sum-below _ _);
+    }
 
 cast-write-round : tie.Need-cast-write-round
 cast-write-round c = search needs
@@ -34,29 +33,24 @@ cast-write-round c = search needs
 write-round-requires : tie.Need-write-round-requires
 write-round-requires c κs = search needs
 
+cast-t14 : tie.Need-cast-t14
+cast-t14 c = search needs
+
+cast-t15 : tie.Need-cast-t15
+cast-t15 c = search needs
+
 same-length : tie.Need-same-length
 same-length c = search needs
 
-same-length-2 : tie.Need-same-length-2
-same-length-2 c = search needs
-
 returns : tie.Need-returns
+unfolding summedSlot messageAt
 returns c =
     let m = c .before .before in
-    let u = m .before .before .before .before .before in
-    let g = u .before .before in
-    let e = g .before .before in
-    let d = e .before in
-    let a = d .before .before .before .before in
-    let T = a .args .t .now in
-    let J = a .args .joined .now in
-    let k = a .args .k in
-    let s = a .pre .waits .sound .says in
-    let sum1 = d .first-sum .ensures in
-    let sum2 = e .second-sum .ensures in (
-      one-table T J k s _ _ sum1 sum2 _ (u .store-sums .ensures),
-      rw (m .write-round .ensures, g .sigma-of .ensures)
-          (ap (splice (a .args .out .now) 0) (one-bytes T J k s _ _ sum1 sum2 (a .args .w) (a .pre .says))),
+    let g = m .before .before .before in
+    let e = g .before in
+    let d = e .before in (
+      rw (d .first-sum .ensures, e .second-sum .ensures) refl,
+      rw (g .sigma-of .ensures, d .first-sum .ensures, e .second-sum .ensures) at (m .write-round .ensures),
     )
 
 pub take-one-spec : {M : Type 1} → statement M
@@ -66,9 +60,9 @@ take-one-spec =
     first-sum-requires
     second-sum-requires
     sigma-of-requires
-    store-sums-requires
     cast-write-round
     write-round-requires
+    cast-t14
+    cast-t15
     same-length
-    same-length-2
     returns)

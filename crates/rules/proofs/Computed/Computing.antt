@@ -30,24 +30,27 @@ use Rattle.rules.specs.Making.{valuesFault, randomFault, makeRefusal, ma
 use Rattle.rules.specs.Messages.{headerFault, elementsFault, roundMessage, roundSound, roundFault, firstSum, secondSum}
 use Rattle.rules.specs.Messages.{bothZero}
 use Rattle.rules.specs.Server.{isMember, openFault, waitingOf, sigmaIn, messageOne, messageTwo, summed, publishedShares}
-use Rattle.rules.specs.Server.{totalsMessage, totalsLength, whileIdle, whileOne, whileTwo, whileWaiting}
+use Rattle.rules.specs.Server.{totalsMessage, totalsLength, whileOpen, whileOne, whileTwo, whileWaiting}
 use Rattle.rules.specs.Server.{shareRefusal, oneRefusal, twoRefusal, dropRefusal, closeRefusal}
-use Rattle.rules.specs.Table.{totalsPlace, idsPlace, waitPlace, sharePlace, tableLength, stageIn, tableState}
-use Rattle.rules.specs.Table.{headerSound, countsSound, waitingSound, tableSound, tableFault, openLength}
+use Rattle.rules.specs.Keyed.{find, without, changed, those}
+use Rattle.rules.specs.WaitingList.{firstWhere, waitingCount, waitingAt, waitAt, recordsFrom, present, recordSound, recordsSound}
+use Rattle.rules.specs.WaitingList.{waitingSound}
+use Rattle.rules.specs.Table.{totalsPlace, idsPlace, tableLength, stageIn, tableState}
+use Rattle.rules.specs.Table.{headerSound, countsSound, tableSound, tableFault, openLength, openRoom}
 use Rattle.rules.specs.Sizes.{greatestUpTo, sizesOf, sizeByKind, columnSize, circuitSize}
 use Rattle.rules.specs.Columns.{largestIn}
 use Rattle.rules.specs.Circuit.{constantsOf, addsOf, scalesOf, constantsIn, addsIn, scalesIn}
 use Rattle.rules.specs.Table.{openRefusal, openBytes, shareRefused, shareTable, shareBytes, oneRefused, oneTable}
-use Rattle.rules.specs.Table.{oneBytes, decidedTable, addedTotals, twoRefused, twoVerdict, twoTable, dropRefused}
-use Rattle.rules.specs.Table.{dropTable, closeRefused, closeTable, closeBytes}
+use Rattle.rules.specs.Table.{oneBytes, decidedBytes, decidedTable, addedTotals, addedBytes, twoRefused, twoVerdict}
+use Rattle.rules.specs.Table.{twoTable, dropRefused, dropTable, closeRefused, closeTable, closeBytes}
 use Rattle.rules.specs.Joining.{totalsSound, joinedFault, joinRefusal, joinCount, joinTotals, joinBytes}
 use Rattle.rules.specs.Recount.{decimalFrom, refusalText, lineText, optionLines, columnLines, recountRefusal}
 use Rattle.rules.specs.Recount.{recountText}
 use Rattle.rules.specs.Shelf.{firstBytes, shelved, shelfRefusal}
-use Rattle.rules.specs.Ledger.{notesWith, ledgerTotals, closingMessage, ledgerStage, ledgerState, refusalOf, decideWaiting}
-use Rattle.rules.specs.Ledger.{sumsNoted, ledgerAfter, ledgerMessage, answerOf, runLedger, ledgerAnswers}
+use Rattle.rules.specs.Ledger.{notesWith, ledgerTotals, closingMessage, ledgerWait, ledgerStage, ledgerState, refusalOf, decideAs}
+use Rattle.rules.specs.Ledger.{sumsNoted, ledgerAfter, secondMessage, answerOf, runLedger, ledgerAnswers}
 use Rattle.rules.specs.Runs.{tableRefusal, tableAfter, tableAnswer, runTable, tableAnswers}
-use Rattle.rules.specs.WholeRun.{waitingNote, notesIn, noteUnder, joinedIn, handedIn, closingsFrom, firstsFrom, secondsFrom}
+use Rattle.rules.specs.WholeRun.{notesIn, noteUnder, joinedIn, handedIn, closingsFrom, firstsFrom, secondsFrom}
 
 unfoldable pub part0 : Unit {0}
 unfolding sum product descending others weight basis interpolate inverseFrom tabulate every countFrom sumOver valueOf
@@ -94,19 +97,19 @@ unfolding secondSum bothZero isMember openFault waitingOf sigmaIn messageOne mes
 part10 = tt
 
 unfoldable pub part11 : Unit {0}
-unfolding totalsLength whileIdle whileOne whileTwo whileWaiting shareRefusal oneRefusal twoRefusal dropRefusal
+unfolding totalsLength whileOpen whileOne whileTwo whileWaiting shareRefusal oneRefusal twoRefusal dropRefusal
 part11 = tt
 
 unfoldable pub part12 : Unit {0}
-unfolding closeRefusal totalsPlace idsPlace waitPlace sharePlace tableLength stageIn tableState headerSound countsSound
+unfolding closeRefusal totalsPlace idsPlace tableLength stageIn tableState headerSound countsSound
 part12 = tt
 
 unfoldable pub part13 : Unit {0}
-unfolding waitingSound tableSound tableFault openLength openRefusal openBytes shareRefused shareTable shareBytes
+unfolding waitingSound tableSound tableFault openLength openRoom openRefusal openBytes shareRefused shareTable shareBytes
 part13 = tt
 
 unfoldable pub part14 : Unit {0}
-unfolding oneRefused oneTable oneBytes decidedTable addedTotals twoRefused twoVerdict twoTable dropRefused dropTable
+unfolding oneRefused oneTable oneBytes decidedBytes decidedTable addedTotals addedBytes twoRefused twoVerdict twoTable dropRefused dropTable
 part14 = tt
 
 unfoldable pub part15 : Unit {0}
@@ -118,16 +121,16 @@ unfolding decimalFrom refusalText lineText optionLines columnLines recountRefusa
 part16 = tt
 
 unfoldable pub part17 : Unit {0}
-unfolding closingMessage ledgerStage ledgerState refusalOf decideWaiting sumsNoted ledgerAfter ledgerMessage answerOf runLedger
+unfolding closingMessage ledgerWait ledgerStage ledgerState refusalOf decideAs sumsNoted ledgerAfter secondMessage answerOf runLedger
 part17 = tt
 
 unfoldable pub part18 : Unit {0}
-unfolding ledgerAnswers tableRefusal tableAfter tableAnswer runTable tableAnswers waitingNote notesIn noteUnder joinedIn handedIn
+unfolding ledgerAnswers tableRefusal tableAfter tableAnswer runTable tableAnswers notesIn noteUnder joinedIn handedIn
 part18 = tt
 
 unfoldable pub part19 : Unit {0}
-unfolding closingsFrom firstsFrom secondsFrom largestIn constantsOf addsOf scalesOf constantsIn addsIn scalesIn greatestUpTo sizesOf sizeByKind
-    columnSize circuitSize lengthWithin bitLength bitSum topSums topSteps twoNumbers
+unfolding closingsFrom firstsFrom secondsFrom largestIn constantsOf addsOf scalesOf constantsIn addsIn scalesIn greatestUpTo sizesOf
+    sizeByKind columnSize circuitSize lengthWithin bitLength bitSum topSums topSteps twoNumbers
     firstBytes shelved shelfRefusal
 part19 = tt
 
@@ -135,7 +138,11 @@ unfoldable pub part20 : Unit {0}
 unfolding afterEach legalLists listsIn listsBytes everyReturnBytes everyReturnLength everyReturnRefusal
 part20 = tt
 
+unfoldable pub part21 : Unit {0}
+unfolding find without changed those firstWhere waitingCount waitingAt waitAt recordsFrom present recordSound recordsSound
+part21 = tt
+
 unfoldable pub everything : Unit {0}
 unfolding part0 part1 part2 part3 part4 part5 part6 part7 part8 part9 part10 part11 part12 part13 part14 part15 part16 part17 part18
-    part19 part20
+    part19 part20 part21
 everything = tt

@@ -3,6 +3,7 @@ use mathlib.Core.Bool.{true}
 use mathlib.Core.Path.{_≡_, refl}
 use Rattle.algebra.specs.Lists.{every}
 use Rattle.rules.specs.TableExamples.{limits, onTables, inOrder, otherOrders, erasures}
+use Rattle.rules.specs.WaitingExamples.{manyWait, mixed, eight}
 use Rattle.rules.proofs.Computed.Computing.{everything}
 
 pub limits-hold : every (λ row. row .holds) limits ≡ true
@@ -24,3 +25,11 @@ other-orders-hold = refl
 pub erasures-hold : every (λ row. row .holds) erasures ≡ true
 unfolding everything erasures
 erasures-hold = refl
+
+pub mixed-hold : every (λ row. row .holds) mixed ≡ true
+unfolding everything mixed
+mixed-hold = refl
+
+pub eight-hold : every (λ row. row .holds) eight ≡ true
+unfolding everything eight manyWait
+eight-hold = refl

@@ -1,12 +1,13 @@
 -- What a call does to a ledger, as one relation: it stays, or it moves in one of five ways, each with what its checks
--- have shown. A list of calls of bytes is a history of such moves. Assumes nothing.
-use mathlib.Core.Path.{_≡_, refl, sym, ap, _∙_}
-use mathlib.Core.Logic.{inl, inr}
-use mathlib.Core.Bool.{Bool, true, false, cond, not, _&&_, _||_, true≢false}
-use mathlib.Core.List.{List, [], _∷_, _++_}
-use Prim.Native.Nat.{ℕ, _<_}
+-- have shown and, where it names an id, the return found under it. A list of calls of bytes is a history of such moves.
+-- Assumes nothing.
+use mathlib.Core.Path.{_≡_, refl, sym, ap, ap₂, _∙_, subst}
+use mathlib.Core.Bool.{Bool, true, false, cond, not, _&&_}
+use mathlib.Core.List.{List, [], _∷_, _++_, map, map-append}
+use mathlib.Core.Option.{Option, some, none}
+use Prim.Native.Nat.{ℕ, _+_, _<_}
 use native.Mathlib.Omega.{arith}
-use borrow.Author.Tests.{eqb-true, ltb-true, not-true, eq-eqb}
+use borrow.Author.Tests.{eqb-true, ltb-true, not-true}
 use lib.Dec.{eqb, ltb, leb}
 use lib.ListN.{length, length-map}
 use Rattle.algebra.specs.Lists.{All, all[], all∷, In}
@@ -23,35 +24,55 @@ use Rattle.rules.specs.Judging.{allowedPair}
 use Rattle.rules.specs.Making.{shareLength}
 use Rattle.rules.specs.Messages.{kindIn, idIn, serverIn, shareElements, placeIn, roundLength, headerFault, elementsFault, roundFault}
 use Rattle.rules.specs.Messages.{firstSum, secondSum, bothZero}
-use Rattle.rules.specs.Server.{Opened, waitingOf, isMember, messageOne, messageTwo, shareRefusal, oneRefusal, twoRefusal, dropRefusal, withSums}
-use Rattle.rules.specs.Server.{closeRefusal, whileIdle, whileOne, whileTwo, whileWaiting}
+use Rattle.rules.specs.Keyed.{find, without, changed}
+use Rattle.rules.specs.Server.{Opened, Waiting, Wait, heldId, mostWaiting, waitingOf, isMember, messageOne, messageTwo, withSums}
+use Rattle.rules.specs.Server.{shareRefusal, oneRefusal, twoRefusal, dropRefusal, closeRefusal}
+use Rattle.rules.specs.Server.{whileOpen, whileOne, whileTwo, whileWaiting}
 use Rattle.rules.specs.Ledger.{Call, share, roundOne, roundTwo, drop, close, Answer, refused, wrote, judged, done, Note}
-use Rattle.rules.specs.Ledger.{Progress, isIdle, waitsOne, waitsTwo, isClosed, accepted, rejected, dropped, Decided, Ledger}
-use Rattle.rules.specs.Ledger.{idsOf, notesOf, closingMessage, noted, ledgerStage, ledgerState, refusalOf, noteOf}
-use Rattle.rules.specs.Ledger.{decideWaiting, sumsNoted, ledgerAfter, ledgerMessage, answerOf, ledgerStep, ledgerSays}
-use Rattle.rules.specs.Ledger.{runLedger, ledgerAnswers}
-use Rattle.rules.specs.WholeRun.{BytesIn, waitingNote, joinedIn, handedIn}
+use Rattle.rules.specs.Ledger.{Pending, waitsOne, waitsTwo, noteIn, pendingId, Progress, isOpen, isClosed}
+use Rattle.rules.specs.Ledger.{accepted, rejected, dropped, Decided, Ledger, idsOf, notesOf, closingMessage, noted, noteOf}
+use Rattle.rules.specs.Ledger.{ledgerWait, ledgerStage, ledgerState, refusalOf, decideAs, sumsNoted, ledgerAfter}
+use Rattle.rules.specs.Ledger.{secondAnswer, secondMessage, answerOf, ledgerStep, ledgerSays, runLedger, ledgerAnswers}
+use Rattle.rules.specs.WholeRun.{BytesIn, joinedIn, handedIn}
+use Rattle.rules.proofs.Histories.Keyed.{no-member-in, through, find-map}
 use Rattle.rules.proofs.Histories.Checks.{check-passed, IsOf, round-passed}
-
--- an id that is not among the ids
-pub has-not : (x : ℕ) (s : List ℕ) → isMember x s ≡ false → In x s → ⊥
-unfolding isMember
-has-not x [] e h = h
-has-not x (y ∷ s) e (inl q) = true≢false (sym (ap (λ (b : Bool). b || isMember x s) (eq-eqb y x q)) ∙ e)
-has-not x (y ∷ s) e (inr h) = go (eqb y x) e (λ k. has-not x s k h)
-  where
-    go : (t : Bool) → (t || isMember x s) ≡ false → (isMember x s ≡ false → ⊥) → ⊥
-    go true k f = true≢false k
-    go false k f = f k
 
 abbrev pub at : Progress → List Decided → Ledger
 at p ds = record { progress = p; decided = ds }
 
+-- as many ids as returns that are decided
+pub many-used : (ds : List Decided) → length (idsOf (notesOf ds)) ≡ length ds
+many-used ds = length-map (notesOf ds) (λ n. n .id) ∙ length-map ds (λ k. k .note)
+
 module _ (σ : Setting) (o : Opened) where
-  -- a share that was taken when the returns ds were decided
-  pub record Taken (ds : List Decided) (n : Note) : Type 0 where
-    pub room : length ds < o .returns
-    pub unused : In (n .id) (idsOf (notesOf ds)) → ⊥
+  -- ---- what is told of the returns that wait
+  pub many-told : (ws : List Pending) → length (map (ledgerWait σ o) ws) ≡ length ws
+  many-told ws = length-map ws (ledgerWait σ o)
+
+  pub id-told : (p : Pending) → heldId (ledgerWait σ o p) ≡ pendingId p
+  unfolding ledgerWait waitingOf
+  id-told (waitsOne n) = refl
+  id-told (waitsTwo n d e) = refl
+
+  ids-told : (ws : List Pending) → map heldId (map (ledgerWait σ o) ws) ≡ idsOf (map noteIn ws)
+  ids-told [] = refl
+  ids-told (w ∷ ws) = ap₂ (λ (x : ℕ) (s : List ℕ). x ∷ s) (id-told w) (ids-told ws)
+
+  pub all-ids : (ws : List Pending) (ds : List Decided)
+      → idsOf (notesOf ds) ++ map heldId (map (ledgerWait σ o) ws) ≡ idsOf (notesOf ds ++ map noteIn ws)
+  all-ids ws ds =
+      ap (λ (s : List ℕ). idsOf (notesOf ds) ++ s) (ids-told ws)
+      ∙ sym (map-append (λ (n : Note). n .id) (notesOf ds) (map noteIn ws))
+
+  pub find-told : (id : ℕ) (ws : List Pending)
+      → find heldId id (map (ledgerWait σ o) ws) ≡ through (ledgerWait σ o) (find pendingId id ws)
+  find-told id ws = find-map pendingId heldId (ledgerWait σ o) id-told id ws
+
+  -- a share that was taken when the returns ws waited and the returns ds were decided
+  pub record Taken (ws : List Pending) (ds : List Decided) (n : Note) : Type 0 where
+    pub below-eight : length ws < mostWaiting
+    pub room : length ds + length ws < o .returns
+    pub unused : In (n .id) (idsOf (notesOf ds ++ map noteIn ws)) → ⊥
     pub id-fits : n .id < 4294967296
     pub pair : allowedPair σ (o .columns) (n .r) (n .s) ≡ true
     pub below : All (λ x. x < σ .modulus) (n .elements)
@@ -60,31 +81,32 @@ module _ (σ : Setting) (o : Opened) where
   abbrev pub Joined : ℕ → ℕ → List ℕ → Type 0
   Joined kind id joined = (j : ℕ) → j < o .servers → IsOf kind id j (placeIn σ joined j)
 
-  -- the message of round two that follows joined messages of round one
-  abbrev pub answerTo : Note → List ℕ → List ℕ
-  answerTo n joined =
-      messageTwo σ o (withSums (noted σ o n) (firstSum σ (o .servers) joined) (secondSum σ (o .servers) joined))
-
   abbrev pub verdictOn : Note → List ℕ → Decided
   verdictOn n joined = record { note = n; decision = cond (bothZero σ (o .servers) joined) accepted rejected }
 
   abbrev pub dropOf : Note → Decided
   dropOf n = record { note = n; decision = dropped }
 
+  abbrev pub sumsOf : List ℕ → Pending → Pending
+  sumsOf joined = sumsNoted σ o (firstSum σ (o .servers) joined) (secondSum σ (o .servers) joined)
+
   -- from a ledger to the next, with the answer and the joined messages handed in
   pub data Moves : Ledger → Answer → List (List ℕ) → Ledger → Type 0 where
     stays : (l : Ledger) (n : ℕ) → Moves l (refused n) [] l
-    notes : (ds : List Decided) (n : Note) → Taken ds n
-        → Moves (at isIdle ds) (wrote (messageOne σ o (noted σ o n))) [] (at (waitsOne n) ds)
-    sums : (ds : List Decided) (n : Note) (joined : List ℕ) → Joined 34 (n .id) joined
-        → Moves (at (waitsOne n) ds) (wrote (answerTo n joined)) (joined ∷ [])
-        (at (waitsTwo n (firstSum σ (o .servers) joined) (secondSum σ (o .servers) joined)) ds)
-    judges : (ds : List Decided) (n : Note) (d e : ℕ) (joined : List ℕ) → Joined 35 (n .id) joined
-        → Moves (at (waitsTwo n d e) ds) (judged (bothZero σ (o .servers) joined)) (joined ∷ [])
-        (at isIdle (ds ++ (verdictOn n joined ∷ [])))
-    drops : (ds : List Decided) (p : Progress) (n : Note) → waitingNote p ≡ n ∷ []
-        → Moves (at p ds) done [] (at isIdle (ds ++ (dropOf n ∷ [])))
-    closes : (ds : List Decided) → Moves (at isIdle ds) (wrote (closingMessage σ o (at isIdle ds))) [] (at isClosed ds)
+    notes : (ws : List Pending) (ds : List Decided) (n : Note) → Taken ws ds n
+        → Moves (at (isOpen ws) ds) (wrote (messageOne σ o (noted σ o n))) [] (at (isOpen (waitsOne n ∷ ws)) ds)
+    sums : (ws : List Pending) (ds : List Decided) (id : ℕ) (n : Note) (joined : List ℕ)
+        → find pendingId id ws ≡ some (waitsOne n) → Joined 34 (n .id) joined
+        → Moves (at (isOpen ws) ds) (wrote (secondAnswer σ o n joined)) (joined ∷ [])
+        (at (isOpen (changed pendingId id (sumsOf joined) ws)) ds)
+    judges : (ws : List Pending) (ds : List Decided) (id : ℕ) (p : Pending) (joined : List ℕ)
+        → find pendingId id ws ≡ some p → Joined 35 (noteIn p .id) joined
+        → Moves (at (isOpen ws) ds) (judged (bothZero σ (o .servers) joined)) (joined ∷ [])
+        (at (isOpen (without pendingId id ws)) (ds ++ (verdictOn (noteIn p) joined ∷ [])))
+    drops : (ws : List Pending) (ds : List Decided) (id : ℕ) (p : Pending) → find pendingId id ws ≡ some p
+        → Moves (at (isOpen ws) ds) done [] (at (isOpen (without pendingId id ws)) (ds ++ (dropOf (noteIn p) ∷ [])))
+    closes : (ds : List Decided)
+        → Moves (at (isOpen []) ds) (wrote (closingMessage σ o (at (isOpen []) ds))) [] (at isClosed ds)
 
   pub data History : Ledger → List Answer → List (List ℕ) → Ledger → Type 0 where
     over : (l : Ledger) → History l [] [] l
@@ -92,65 +114,114 @@ module _ (σ : Setting) (o : Opened) where
         → Moves l a h l₁ → History l₁ xs hs l₂ → History l (a ∷ xs) (h ++ hs) l₂
 
   -- ---- each call is a move
-  taken-share : (ds : List Decided) (m : List ℕ) (r s room : ℕ) → All (λ b. b < 256) m
-      → shareRefusal σ (ledgerState σ o (at isIdle ds)) m r s room ≡ 0 → Taken ds (noteOf σ o m r s)
-  unfolding shareRefusal ledgerState ledgerStage whileIdle headerFault elementsFault shareLength
-  taken-share ds m r s room bytes e =
+  taken-share : (ws : List Pending) (ds : List Decided) (m : List ℕ) (r s room : ℕ) → All (λ b. b < 256) m
+      → shareRefusal σ (ledgerState σ o (at (isOpen ws) ds)) m r s room ≡ 0 → Taken ws ds (noteOf σ o m r s)
+  unfolding shareRefusal ledgerState ledgerStage whileOpen headerFault elementsFault shareLength
+  taken-share ws ds m r s room bytes e =
       let cs = o .columns in
+      let ts : List Wait = map (ledgerWait σ o) ws in
       let used : List ℕ = idsOf (notesOf ds) in
+      let all : List ℕ = used ++ map heldId ts in
       let fit : Bool = eqb (length m) (shareLength σ cs) in
       let kind : Bool = eqb (kindIn m) 33 && eqb (serverIn m) (o .own) in
       let k₆ : ℕ = check (leb (roundLength σ) room) 14 in
       let k₅ : ℕ = orElse (check (allowedPair σ cs r s) 9) k₆ in
-      let k₄ : ℕ = orElse (check (not (isMember (idIn m) used)) 10) k₅ in
+      let k₄ : ℕ = orElse (check (not (isMember (idIn m) all)) 10) k₅ in
       let k₃ : ℕ = orElse (elementsFault σ m) k₄ in
       let k₂ : ℕ = orElse (headerFault σ cs (o .own) m) k₃ in
-      let e₁ = or-zero (check (ltb (length used) (o .returns)) 13) k₂ e in
+      let k₁ : ℕ = orElse (check (ltb (length used + length ts) (o .returns)) 13) k₂ in
+      let e₀ = or-zero (check (ltb (length ts) mostWaiting) 11) k₁ e in
+      let e₁ = or-zero (check (ltb (length used + length ts) (o .returns)) 13) k₂ (e₀ .1) in
       let e₂ = or-zero (headerFault σ cs (o .own) m) k₃ (e₁ .1) in
       let e₃ = or-zero (elementsFault σ m) k₄ (e₂ .1) in
-      let e₄ = or-zero (check (not (isMember (idIn m) used)) 10) k₅ (e₃ .1) in
+      let e₄ = or-zero (check (not (isMember (idIn m) all)) 10) k₅ (e₃ .1) in
       let e₅ = or-zero (check (allowedPair σ cs r s) 9) k₆ (e₄ .1) in
       let long : length m ≡ shareLength σ cs = eqb-true _ _ (and-left fit kind (check-passed (fit && kind) 6 (e₂ .0))) in
-      let many : length used ≡ length ds = length-map (notesOf ds) (λ n. n .id) ∙ length-map ds (λ k. k .note) in
-      let less : length used < o .returns = ltb-true _ _ (check-passed (ltb (length used) (o .returns)) 12 (e₁ .0)) in
+      let few : length ts < mostWaiting = ltb-true _ _ (check-passed (ltb (length ts) mostWaiting) 10 (e₀ .0)) in
+      let less : length used + length ts < o .returns =
+      ltb-true _ _ (check-passed (ltb (length used + length ts) (o .returns)) 12 (e₁ .0)) in
       let four : length (part 1 4 m) ≡ 4 = length-part 1 4 m (omega arith) in
       record {
-        room = omega arith;
-        unused = has-not (idIn m) used (not-true _ (check-passed (not (isMember (idIn m) used)) 9 (e₄ .0)));
+        below-eight = omega (arith, many-told ws);
+        room = omega (arith, many-told ws, many-used ds);
+        unused = λ h. no-member-in (idIn m) all (not-true _ (check-passed (not (isMember (idIn m) all)) 9 (e₄ .0)))
+            (subst (λ (v : List ℕ). In (idIn m) v) (sym (all-ids ws ds)) h);
         id-fits = value-below 4 (part 1 4 m) four (all-take _ 4 (all-drop _ 1 bytes));
         pair = check-passed (allowedPair σ cs r s) 8 (e₅ .0);
         below = all-of-below (σ .modulus) (shareElements σ m)
             (check-passed (allBelow (σ .modulus) (shareElements σ m)) 7 (e₃ .0));
       }
 
+  -- a call that names an id, by what is found under it
+  module _ (ws : List Pending) (ds : List Decided) (id : ℕ) (joined : List ℕ) where
+    abbrev oneFault : ℕ → Waiting → ℕ
+    oneFault room w =
+        orElse (roundFault σ (o .servers) 34 (w .id) (o .own) (messageOne σ o w) joined) (check (leb (roundLength σ) room) 14)
+
+    abbrev twoFault : Waiting → ℕ
+    twoFault w = roundFault σ (o .servers) 35 (w .id) (o .own) (messageTwo σ o w) joined
+
+    one-move : (room : ℕ) (v : Option Pending) → find pendingId id ws ≡ v
+        → whileOne (through (ledgerWait σ o) v) (oneFault room) ≡ 0
+        → Moves (at (isOpen ws) ds) (wrote (secondMessage σ o v joined)) (joined ∷ [])
+        (at (isOpen (changed pendingId id (sumsOf joined) ws)) ds)
+    unfolding whileOne ledgerWait secondMessage waitingOf
+    one-move room none q e = absurd (omega arith)
+    one-move room (some (waitsOne n)) q e =
+        let mine = messageOne σ o (noted σ o n) in
+        let z = or-zero (roundFault σ (o .servers) 34 (n .id) (o .own) mine joined) (check (leb (roundLength σ) room) 14) e in
+        sums ws ds id n joined q (round-passed σ (o .servers) 34 (n .id) (o .own) mine joined (z .0))
+    one-move room (some (waitsTwo n x y)) q e = absurd (omega arith)
+
+    two-move : (v : Option Pending) → find pendingId id ws ≡ v → whileTwo (through (ledgerWait σ o) v) twoFault ≡ 0
+        → Moves (at (isOpen ws) ds) (judged (bothZero σ (o .servers) joined)) (joined ∷ [])
+        (decideAs σ o id v ws ds (cond (bothZero σ (o .servers) joined) accepted rejected))
+    unfolding whileTwo ledgerWait decideAs waitingOf
+    two-move none q e = absurd (omega arith)
+    two-move (some (waitsOne n)) q e = absurd (omega arith)
+    two-move (some (waitsTwo n x y)) q e =
+        let mine = messageTwo σ o (withSums (noted σ o n) x y) in
+        judges ws ds id (waitsTwo n x y) joined q (round-passed σ (o .servers) 35 (n .id) (o .own) mine joined e)
+
+    drop-move : (v : Option Pending) → find pendingId id ws ≡ v → whileWaiting (through (ledgerWait σ o) v) ≡ 0
+        → Moves (at (isOpen ws) ds) done [] (decideAs σ o id v ws ds dropped)
+    unfolding whileWaiting decideAs
+    drop-move none q e = absurd (omega arith)
+    drop-move (some p) q e = drops ws ds id p q
+
+  -- where closing passes none waits
+  pub none-waits : (ws : List Pending) (n : ℕ) → orElse (check (eqb (length (map (ledgerWait σ o) ws)) 0) 11) n ≡ 0 → ws ≡ []
+  none-waits [] n e = refl
+  none-waits (w ∷ ws) n e =
+      let ts : List Wait = map (ledgerWait σ o) (w ∷ ws) in
+      let passed = or-zero (check (eqb (length ts) 0) 11) n e in
+      let none : length ts ≡ 0 = eqb-true _ _ (check-passed (eqb (length ts) 0) 10 (passed .0)) in
+      absurd (omega (arith, many-told (w ∷ ws)))
+
+  close-move : (ws : List Pending) (ds : List Decided) → ws ≡ []
+      → Moves (at (isOpen ws) ds) (wrote (closingMessage σ o (at (isOpen ws) ds))) [] (at isClosed ds)
+  close-move [] ds e = closes ds
+  close-move (w ∷ ws) ds e = absurd (let z : _≡_ {A = ℕ} 0 1 = cc in omega arith)
+
   passed : (p : Progress) (ds : List Decided) (c : Call) → BytesIn c → refusalOf σ o (at p ds) c ≡ 0
       → Moves (at p ds) (answerOf σ o (at p ds) c) (joinedIn σ o c) (ledgerAfter σ o (at p ds) c)
-  unfolding refusalOf ledgerState ledgerStage ledgerAfter answerOf ledgerMessage joinedIn sumsNoted decideWaiting waitingNote
-      waitingOf shareRefusal oneRefusal twoRefusal dropRefusal closeRefusal whileIdle whileOne whileTwo whileWaiting
-  passed isIdle ds (share m r s room) b e = notes ds (noteOf σ o m r s) (taken-share ds m r s room b e)
-  passed isIdle ds (roundOne joined room) b e = absurd (omega arith)
-  passed isIdle ds (roundTwo joined) b e = absurd (omega arith)
-  passed isIdle ds drop b e = absurd (omega arith)
-  passed isIdle ds (close room) b e = closes ds
-  passed (waitsOne n) ds (share m r s room) b e = absurd (omega arith)
-  passed (waitsOne n) ds (roundOne joined room) b e =
-      let mine = messageOne σ o (noted σ o n) in
-      let z = or-zero (roundFault σ (o .servers) 34 (n .id) (o .own) mine joined) (check (leb (roundLength σ) room) 14) e in
-      sums ds n joined (round-passed σ (o .servers) 34 (n .id) (o .own) mine joined (z .0))
-  passed (waitsOne n) ds (roundTwo joined) b e = absurd (omega arith)
-  passed (waitsOne n) ds drop b e = drops ds (waitsOne n) n refl
-  passed (waitsOne n) ds (close room) b e = absurd (omega arith)
-  passed (waitsTwo n x y) ds (share m r s room) b e = absurd (omega arith)
-  passed (waitsTwo n x y) ds (roundOne joined room) b e = absurd (omega arith)
-  passed (waitsTwo n x y) ds (roundTwo joined) b e =
-      let mine = messageTwo σ o (withSums (noted σ o n) x y) in
-      judges ds n x y joined (round-passed σ (o .servers) 35 (n .id) (o .own) mine joined e)
-  passed (waitsTwo n x y) ds drop b e = drops ds (waitsTwo n x y) n refl
-  passed (waitsTwo n x y) ds (close room) b e = absurd (omega arith)
+  unfolding refusalOf ledgerState ledgerStage ledgerAfter answerOf joinedIn
+      shareRefusal oneRefusal twoRefusal dropRefusal closeRefusal whileOpen
+  passed (isOpen ws) ds (share m r s room) b e =
+      notes ws ds (noteOf σ o m r s) (taken-share ws ds m r s room b (unfold shareRefusal ledgerState ledgerStage whileOpen in e))
+  passed (isOpen ws) ds (roundOne id joined room) b e =
+      one-move ws ds id joined room (find pendingId id ws) refl
+      (ap (λ (v : Option Wait). whileOne v (oneFault ws ds id joined room)) (sym (find-told id ws)) ∙ e)
+  passed (isOpen ws) ds (roundTwo id joined) b e =
+      two-move ws ds id joined (find pendingId id ws) refl
+      (ap (λ (v : Option Wait). whileTwo v (twoFault ws ds id joined)) (sym (find-told id ws)) ∙ e)
+  passed (isOpen ws) ds (drop id) b e =
+      drop-move ws ds id [] (find pendingId id ws) refl (ap whileWaiting (sym (find-told id ws)) ∙ e)
+  passed (isOpen ws) ds (close room) b e = close-move ws ds (none-waits ws _ e)
   passed isClosed ds (share m r s room) b e = absurd (omega arith)
-  passed isClosed ds (roundOne joined room) b e = absurd (omega arith)
-  passed isClosed ds (roundTwo joined) b e = absurd (omega arith)
-  passed isClosed ds drop b e = absurd (omega arith)
+  passed isClosed ds (roundOne id joined room) b e = absurd (omega arith)
+  passed isClosed ds (roundTwo id joined) b e = absurd (omega arith)
+  passed isClosed ds (drop id) b e = absurd (omega arith)
   passed isClosed ds (close room) b e = absurd (omega arith)
 
   either-way : (l : Ledger) (c : Call) (f : ℕ) → (f ≡ 0 → Moves l (answerOf σ o l c) (joinedIn σ o c) (ledgerAfter σ o l c))

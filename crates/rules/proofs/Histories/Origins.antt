@@ -4,27 +4,32 @@
 use mathlib.Core.Path.{_≡_, refl, sym, ap, _∙_, subst}
 use mathlib.Core.Logic.{_⊎_, ⊎-elim, inl, inr}
 use mathlib.Core.Bool.{Bool, true, false, cond, true≢false}
-use mathlib.Core.List.{List, [], _∷_, _++_}
+use mathlib.Core.List.{List, [], _∷_, _++_, map}
+use mathlib.Core.Option.{some}
 use Prim.Native.Nat.{ℕ}
 use native.Mathlib.Omega.{arith}
 use Rattle.algebra.specs.Lists.{In}
-use Rattle.algebra.proofs.Members.{in-append, append-in}
+use Rattle.algebra.proofs.Members.{in-append, append-in, in-map}
 use Rattle.rules.specs.Settings.{Setting}
 use Rattle.rules.specs.Messages.{bothZero}
+use Rattle.rules.specs.Keyed.{find, changed}
 use Rattle.rules.specs.Server.{Opened, messageOne}
-use Rattle.rules.specs.Ledger.{Answer, wrote, Note, Progress, isIdle, waitsOne, waitsTwo, isClosed}
+use Rattle.rules.specs.Ledger.{Answer, wrote, Note, Pending, waitsOne, noteIn, pendingId, Progress, isOpen, isClosed}
 use Rattle.rules.specs.Ledger.{accepted, rejected, Decided, Ledger, isAccepted, isDropped, notesOf, closingMessage, noted}
-use Rattle.rules.specs.WholeRun.{waitingNote, notesIn}
+use Rattle.rules.specs.Ledger.{secondAnswer}
+use Rattle.rules.specs.WholeRun.{notesIn}
+use Rattle.rules.proofs.Histories.Shuffled.{rearranged-in}
+use Rattle.rules.proofs.Histories.Keyed.{found-out, changed-keeps}
 use Rattle.rules.proofs.Histories.Moves.{at, Moves, stays, notes, sums, judges, drops, closes, History, over, next, Joined}
-use Rattle.rules.proofs.Histories.Moves.{answerTo, verdictOn, dropOf}
-use Rattle.rules.proofs.Histories.NotesGrow.{keeps-notes}
+use Rattle.rules.proofs.Histories.Moves.{verdictOn, dropOf, sumsOf}
+use Rattle.rules.proofs.Histories.NotesGrow.{keeps-notes, keeps-note}
 
 module _ (σ : Setting) (o : Opened) where
   -- ---- messages
   pub data Origin (ns : List Note) (hs : List (List ℕ)) (m : List ℕ) : Type 0 where
     of-share : (n : Note) → In n ns → m ≡ messageOne σ o (noted σ o n) → Origin ns hs m
     of-one : (n : Note) → In n ns → (joined : List ℕ) → In joined hs → Joined σ o 34 (n .id) joined
-        → m ≡ answerTo σ o n joined → Origin ns hs m
+        → m ≡ secondAnswer σ o n joined → Origin ns hs m
     of-close : (l : Ledger) → m ≡ closingMessage σ o l → Origin ns hs m
 
   origin-more : {ns ms : List Note} {hs gs : List (List ℕ)} {m : List ℕ} → ((n : Note) → In n ns → In n ms)
@@ -33,19 +38,24 @@ module _ (σ : Setting) (o : Opened) where
   origin-more f g (of-one n h j k s e) = of-one n (f n h) j (g j k) s e
   origin-more f g (of-close l e) = of-close l e
 
-  -- the note that waits is noted
-  waits-in : (n : Note) (ds : List Decided) → In n (notesOf ds ++ (n ∷ []))
-  waits-in n ds = append-in n (notesOf ds) (n ∷ []) (inr (inl refl))
+  -- the note of a return that is found is noted, also with the sums
+  found-in : (ws : List Pending) (ds : List Decided) (id : ℕ) (p : Pending) (joined : List ℕ) → find pendingId id ws ≡ some p
+      → In (noteIn p) (notesOf ds ++ map noteIn (changed pendingId id (sumsOf σ o joined) ws))
+  found-in ws ds id p joined q =
+      append-in (noteIn p) (notesOf ds) (map noteIn (changed pendingId id (sumsOf σ o joined) ws))
+      (inr (subst (λ (v : List Note). In (noteIn p) v)
+      (sym (changed-keeps pendingId id noteIn (sumsOf σ o joined) (keeps-note σ o _ _) ws))
+      (in-map noteIn p ws (rearranged-in p (found-out pendingId id ws p q) (inl refl)))))
 
   first-origin : {l l′ : Ledger} {a : Answer} {h : List (List ℕ)} → Moves σ o l a h l′ → (m : List ℕ) → a ≡ wrote m
       → Origin (notesIn l′) h m
-  unfolding notesIn waitingNote
+  unfolding notesIn
   first-origin (stays l n) m e = absurd (let z : _≡_ {A = ℕ} 0 1 = cc in omega arith)
-  first-origin (notes ds n t) m e = of-share n (waits-in n ds) (cc)
-  first-origin (sums ds n joined s) m e = of-one n (waits-in n ds) joined (inl refl) s (cc)
-  first-origin (judges ds n d e joined s) m q = absurd (let z : _≡_ {A = ℕ} 0 1 = cc in omega arith)
-  first-origin (drops ds p n w) m e = absurd (let z : _≡_ {A = ℕ} 0 1 = cc in omega arith)
-  first-origin (closes ds) m e = of-close (at isIdle ds) (cc)
+  first-origin (notes ws ds n t) m e = of-share n (append-in n (notesOf ds) (n ∷ map noteIn ws) (inr (inl refl))) (cc)
+  first-origin (sums ws ds id n joined w s) m e = of-one n (found-in ws ds id (waitsOne n) joined w) joined (inl refl) s (cc)
+  first-origin (judges ws ds id p joined w s) m q = absurd (let z : _≡_ {A = ℕ} 0 1 = cc in omega arith)
+  first-origin (drops ws ds id p w) m e = absurd (let z : _≡_ {A = ℕ} 0 1 = cc in omega arith)
+  first-origin (closes ds) m e = of-close (at (isOpen []) ds) (cc)
 
   pub origin : {l l′ : Ledger} {xs : List Answer} {hs : List (List ℕ)} → History σ o l xs hs l′
       → (m : List ℕ) → In (wrote m) xs → Origin (notesIn l′) hs m
@@ -79,19 +89,19 @@ module _ (σ : Setting) (o : Opened) where
   first-judged : {l l′ : Ledger} {a : Answer} {h : List (List ℕ)} → Moves σ o l a h l′ → (k : Decided) → In k (l′ .decided)
       → isDropped (k .decision) ≡ false → In k (l .decided) ⊎ JudgedOn h k
   first-judged (stays l n) k h f = inl h
-  first-judged (notes ds n t) k h f = inl h
-  first-judged (sums ds n joined s) k h f = inl h
-  first-judged (judges ds n d e joined s) k h f =
-      ⊎-elim (λ q. inl q) (λ (q : verdictOn σ o n joined ≡ k). inr (subst (JudgedOn (joined ∷ [])) q (record {
+  first-judged (notes ws ds n t) k h f = inl h
+  first-judged (sums ws ds id n joined w s) k h f = inl h
+  first-judged (judges ws ds id p joined w s) k h f =
+      ⊎-elim (λ q. inl q) (λ (q : verdictOn σ o (noteIn p) joined ≡ k). inr (subst (JudgedOn (joined ∷ [])) q (record {
         joined = joined;
         handed = inl refl;
         sound = s;
         says = verdict-is (bothZero σ (o .servers) joined);
-      }))) (last-or ds (verdictOn σ o n joined) k h)
-  first-judged (drops ds p n w) k h f =
+      }))) (last-or ds (verdictOn σ o (noteIn p) joined) k h)
+  first-judged (drops ws ds id p w) k h f =
       ⊎-elim (λ q. inl q)
-      (λ (q : dropOf σ o n ≡ k). absurd (true≢false (ap (λ (v : Decided). isDropped (v .decision)) q ∙ f)))
-      (last-or ds (dropOf σ o n) k h)
+      (λ (q : dropOf σ o (noteIn p) ≡ k). absurd (true≢false (ap (λ (v : Decided). isDropped (v .decision)) q ∙ f)))
+      (last-or ds (dropOf σ o (noteIn p)) k h)
   first-judged (closes ds) k h f = inl h
 
   pub judged-on : {l l′ : Ledger} {xs : List Answer} {hs : List (List ℕ)} → History σ o l xs hs l′
@@ -104,25 +114,16 @@ module _ (σ : Setting) (o : Opened) where
 
   -- ---- closing
   abbrev pub ended : Progress → Bool
-  ended isIdle = false
-  ended (waitsOne n) = false
-  ended (waitsTwo n d e) = false
+  ended (isOpen ws) = false
   ended isClosed = true
-
-  waiting-open : (p : Progress) (n : Note) → waitingNote p ≡ n ∷ [] → ended p ≡ false
-  unfolding waitingNote
-  waiting-open isIdle n e = refl
-  waiting-open (waitsOne m) n e = refl
-  waiting-open (waitsTwo m x y) n e = refl
-  waiting-open isClosed n e = absurd (let z : _≡_ {A = ℕ} 0 1 = cc in omega arith)
 
   -- a closed ledger takes nothing
   move-closed : {l l′ : Ledger} {a : Answer} {h : List (List ℕ)} → Moves σ o l a h l′ → ended (l .progress) ≡ true → l′ ≡ l
   move-closed (stays l n) e = refl
-  move-closed (notes ds n t) e = absurd (true≢false (sym e))
-  move-closed (sums ds n joined s) e = absurd (true≢false (sym e))
-  move-closed (judges ds n d x joined s) e = absurd (true≢false (sym e))
-  move-closed (drops ds p n w) e = absurd (true≢false (sym e ∙ waiting-open p n w))
+  move-closed (notes ws ds n t) e = absurd (true≢false (sym e))
+  move-closed (sums ws ds id n joined w s) e = absurd (true≢false (sym e))
+  move-closed (judges ws ds id p joined w s) e = absurd (true≢false (sym e))
+  move-closed (drops ws ds id p w) e = absurd (true≢false (sym e))
   move-closed (closes ds) e = absurd (true≢false (sym e))
 
   stays-closed : {l l′ : Ledger} {xs : List Answer} {hs : List (List ℕ)} → History σ o l xs hs l′
@@ -136,10 +137,10 @@ module _ (σ : Setting) (o : Opened) where
       → (ended (l .progress) ≡ true) ⊎ (a ≡ wrote (closingMessage σ o l′))
   unfolding closingMessage
   first-closing (stays l n) e = inl e
-  first-closing (notes ds n t) e = absurd (true≢false (sym e))
-  first-closing (sums ds n joined s) e = absurd (true≢false (sym e))
-  first-closing (judges ds n d x joined s) e = absurd (true≢false (sym e))
-  first-closing (drops ds p n w) e = absurd (true≢false (sym e))
+  first-closing (notes ws ds n t) e = absurd (true≢false (sym e))
+  first-closing (sums ws ds id n joined w s) e = absurd (true≢false (sym e))
+  first-closing (judges ws ds id p joined w s) e = absurd (true≢false (sym e))
+  first-closing (drops ws ds id p w) e = absurd (true≢false (sym e))
   first-closing (closes ds) e = inr refl
 
   pub closing-written : {l l′ : Ledger} {xs : List Answer} {hs : List (List ℕ)} → History σ o l xs hs l′

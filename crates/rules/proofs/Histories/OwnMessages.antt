@@ -1,15 +1,17 @@
 -- What is read in the messages that a server writes: round, id and the elements that Judging works out, which are below p
 -- since each is a remainder. Assumes nothing.
 use mathlib.Core.Path.{_≡_, refl}
-use Prim.Native.Nat.{ℕ, _^_, _<_}
+use Prim.Native.Nat.{ℕ, zero, suc, _^_, _<_}
 use native.Mathlib.Nat.{mod-lt}
 use native.Mathlib.Omega.{arith}
+use Rattle.algebra.specs.Modulo.{modulo}
+use Rattle.algebra.specs.Sums.{sum}
 use Rattle.rules.specs.Settings.{Setting, Facts}
-use Rattle.rules.specs.Judging.{sigmaFrom}
+use Rattle.rules.specs.Judging.{dOf, eOf, sigmaFrom, tauOf, folded}
 use Rattle.rules.specs.Messages.{kindIn, idIn, firstIn, secondIn}
 use Rattle.rules.specs.Server.{Opened, Waiting, waitingOf, sigmaIn, messageOne, messageTwo, totalsMessage}
 use Rattle.rules.specs.Ledger.{Note, Ledger, noted, closingMessage}
-use Rattle.rules.proofs.Tables.Invariant.{positive}
+use Rattle.rules.proofs.Histories.Opening.{positive}
 use Rattle.rules.proofs.Histories.MessageBytes.{round-kind, round-id, round-first, round-second}
 
 -- ---- rounds and ids
@@ -39,7 +41,30 @@ module _ (σ : Setting) (o : Opened) where
   unfolding waitingOf
   id-noted n = refl
 
--- ---- elements
+-- ---- elements: numbers that Judging works out are below p
+module _ (σ : Setting) (facts : Facts σ) where
+  pub sum-below : (m : ℕ) (g : ℕ → ℕ) → sum (modulo (σ .modulus)) m g < σ .modulus
+  unfolding sum
+  sum-below zero g = positive σ facts
+  sum-below (suc m) g = mod-lt _ (positive σ facts)
+
+  module _ (o : Opened) (n : Note) where
+    pub d-below : noted σ o n .d < σ .modulus
+    unfolding waitingOf dOf
+    d-below = mod-lt _ (positive σ facts)
+
+    pub e-below : noted σ o n .e < σ .modulus
+    unfolding waitingOf eOf
+    e-below = mod-lt _ (positive σ facts)
+
+    pub rh-below : noted σ o n .rh < σ .modulus
+    unfolding waitingOf
+    rh-below = mod-lt _ (positive σ facts)
+
+    pub tau-below : noted σ o n .tau < σ .modulus
+    unfolding waitingOf tauOf folded
+    tau-below = sum-below _ _
+
 module _ (σ : Setting) (facts : Facts σ) (o : Opened) where
   abbrev Below : ℕ → Type 0
   Below x = x < σ .modulus

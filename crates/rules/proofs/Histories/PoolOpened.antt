@@ -6,14 +6,18 @@ use lib.ListN.{length}
 use Rattle.records.specs.Outcome.{ok}
 use Rattle.rules.specs.Settings.{Setting}
 use Rattle.rules.specs.Columns.{readSheet}
+use Rattle.rules.specs.Table.{Lent}
 use Rattle.rules.specs.WholeRun.{Pool, columns}
 use Rattle.rules.proofs.Circuits.Limits.{Limits, within-both}
 use Rattle.rules.proofs.Circuits.Refusals.{sheet-read, sheet-limits}
-use Rattle.rules.proofs.Tables.Opens.{Opening, opening}
+use Rattle.rules.proofs.Histories.Opening.{Opening, opening}
 
 module _ (σ : Setting) (𝓟 : Pool σ) where
-  pub opened : Opening σ (𝓟 .servers) 0 (𝓟 .sheet) (𝓟 .returns) (length (𝓟 .buffers 0))
-  opened = opening σ (𝓟 .servers) 0 (𝓟 .sheet) (𝓟 .returns) (length (𝓟 .buffers 0)) (𝓟 .opens 0 (𝓟 .some-server))
+  abbrev lent : Lent
+  lent = 𝓟 .buffers 0
+
+  pub opened : Opening σ (𝓟 .servers) 0 (𝓟 .sheet) (𝓟 .returns) (length (lent .bytes)) (length (lent .slots)) (length (lent .elements))
+  opened = opening σ (𝓟 .servers) 0 (𝓟 .sheet) (𝓟 .returns) _ _ _ (𝓟 .opens 0 (𝓟 .some-server))
 
   pub is-read : readSheet (𝓟 .sheet) ≡ ok (columns σ 𝓟)
   is-read = sheet-read (𝓟 .sheet) (opened .no-fault)

@@ -17,15 +17,14 @@ use Rattle.algebra.proofs.Sums.{sum-ext}
 use Rattle.rules.specs.Settings.{Setting, Facts}
 use Rattle.rules.specs.Messages.{kindIn, idIn, firstIn, secondIn, placeIn, firstSum, secondSum, bothZero}
 use Rattle.rules.specs.Server.{Waiting, sigmaIn, messageOne, messageTwo, withSums}
-use Rattle.rules.specs.Ledger.{Note, Decided, empty, isAccepted, isDropped, idsOf, noted}
+use Rattle.rules.specs.Ledger.{Note, Decided, empty, isAccepted, isDropped, idsOf, noted, secondAnswer}
 use Rattle.rules.specs.WholeRun.{Pool, openedAt, ledgerAt, answersAt, noteUnder, handedIn, notesAt, Conditions}
 use Rattle.rules.proofs.Histories.Checks.{IsOf}
-use Rattle.rules.proofs.Histories.Moves.{History, history, Joined, answerTo}
+use Rattle.rules.proofs.Histories.Moves.{History, history, Joined}
 use Rattle.rules.proofs.Histories.NotesGrow.{Sound, sound-notes}
 use Rattle.rules.proofs.Histories.Origins.{Origin, of-share, of-one, of-close, origin, JudgedOn, judged-on}
-use Rattle.rules.proofs.Tables.Invariant.{d-below, e-below, tau-below}
 use Rattle.rules.proofs.Histories.OwnMessages.{kind-one, id-one, first-one, second-one, kind-two}
-use Rattle.rules.proofs.Histories.OwnMessages.{id-two, first-two, second-two, id-noted, kind-closing}
+use Rattle.rules.proofs.Histories.OwnMessages.{id-two, first-two, second-two, id-noted, kind-closing, d-below, e-below, tau-below}
 
 -- the share under an id is the one that was noted
 pub noteUnder-in : (n : Note) (ns : List Note) → Distinct (idsOf ns) → In n ns → noteUnder (n .id) ns ≡ n
@@ -147,7 +146,7 @@ module _ (σ : Setting) (𝓟 : Pool σ) where
         go (of-one n a j k s e) =
             let o = openedAt σ 𝓟 q in
             let w = withSums (noted σ o n) (firstSum σ (𝓟 .servers) j) (secondSum σ (𝓟 .servers) j) in
-            let r : idIn (answerTo σ o n j) ≡ w .id =
+            let r : idIn (secondAnswer σ o n j) ≡ w .id =
             id-two σ o w (rw (id-noted σ o n) (sound-at q b .ids-fit n a)) in
             let same : n .id ≡ id = sym (id-noted σ o n) ∙ sym r ∙ ap idIn (sym e) ∙ f .id-is in
             let s′ : Joined σ o 34 id j = subst (λ (v : ℕ). Joined σ o 34 v j) same s in

@@ -1,10 +1,10 @@
 -- A return whose messages are those that making wrote, each taken at its server, is delivered whole: a share that is taken
--- stays noted to the end, ids in a ledger differ, and each part of making's bytes is read back as the share. Idle servers
--- take such messages and accept: the shares are sound, and every allowed pair lets them in. Assumes nothing.
+-- stays noted to the end, ids in a ledger differ, and each part of making's bytes is read back as the share. Servers with
+-- room take such messages and accept: the shares are sound, and every allowed pair lets them in. Assumes nothing.
 use mathlib.Core.Path.{_≡_, refl, sym, ap, _∙_, subst}
 use mathlib.Core.Logic.{inl, inr}
 use mathlib.Core.Bool.{Bool, true}
-use mathlib.Core.List.{List, [], _∷_, _++_}
+use mathlib.Core.List.{List, [], _∷_, _++_, map}
 use Prim.Native.Nat.{ℕ, _<_}
 use lib.ListN.{getD}
 use Rattle.algebra.specs.Lists.{All, all∷, In}
@@ -15,9 +15,10 @@ use Rattle.rules.specs.Settings.{Setting, Facts}
 use Rattle.rules.specs.Judging.{letsIn}
 use Rattle.rules.specs.Making.{makeRefusal}
 use Rattle.rules.specs.Server.{Opened, messageOne, messageTwo}
-use Rattle.rules.specs.Ledger.{Call, share, roundOne, roundTwo, wrote, judged, Note, waitsOne, Ledger, empty, notesOf}
+use Rattle.rules.specs.Ledger.{Call, share, roundOne, roundTwo, wrote, judged, Note, waitsOne, noteIn, isOpen, waiting, Ledger}
+use Rattle.rules.specs.Ledger.{empty, notesOf}
 use Rattle.rules.specs.Ledger.{noteOf, refusalOf, ledgerAfter, ledgerStep, runLedger, ledgerAnswers}
-use Rattle.rules.specs.WholeRun.{BytesIn, Pool, columns, openedAt, ledgerAt, waitingNote, notesIn, notesAt, Ready}
+use Rattle.rules.specs.WholeRun.{BytesIn, Pool, columns, openedAt, ledgerAt, notesIn, notesAt, Ready}
 use Rattle.rules.specs.WholeRun.{firstWait, firsts, secondWait, seconds}
 use Rattle.rules.specs.Made.{madePart, shareMade, MadeReturn, NotedFrom, Took, MadeOf, CanTake, MadeAccepted}
 use Rattle.rules.proofs.Returns.Shares.{Made, made}
@@ -37,9 +38,13 @@ module _ (σ : Setting) (o : Opened) where
   run-append l [] after = refl
   run-append l (c ∷ before) after = run-append (ledgerStep σ o l c (refusalOf σ o l c)) before after
 
+  -- a ledger where a share waits that was taken last
+  abbrev noting : Ledger → Note → Ledger
+  noting l n = at (isOpen (waitsOne n ∷ waiting (l .progress))) (l .decided)
+
   -- the ledger after a share that is not refused, and the calls behind it
   run-share : (l : Ledger) (m : List ℕ) (r s room : ℕ) (after : List Call) → refusalOf σ o l (share m r s room) ≡ 0
-      → runLedger σ o l (share m r s room ∷ after) ≡ runLedger σ o (at (waitsOne (noteOf σ o m r s)) (l .decided)) after
+      → runLedger σ o l (share m r s room ∷ after) ≡ runLedger σ o (noting l (noteOf σ o m r s)) after
   unfolding runLedger ledgerAfter
   run-share l m r s room after e =
       ap (λ (f : ℕ). runLedger σ o (ledgerStep σ o l (share m r s room) f) after) e
@@ -47,12 +52,12 @@ module _ (σ : Setting) (o : Opened) where
 module _ (σ : Setting) (𝓟 : Pool σ) where
   pub took-noted : (i : ℕ) → i < 𝓟 .servers → (m : List ℕ) (t : Took σ 𝓟 i m)
       → In (noteOf σ (openedAt σ 𝓟 i) m (t .r) (t .s)) (notesAt σ 𝓟 i)
-  unfolding notesIn waitingNote
+  unfolding notesIn
   took-noted i l m t =
       let o = openedAt σ 𝓟 i in
       let before : Ledger = runLedger σ o empty (t .before) in
       let n : Note = noteOf σ o m (t .r) (t .s) in
-      let now : Ledger = at (waitsOne n) (before .decided) in
+      let now : Ledger = noting σ o before n in
       let c : Call = share m (t .r) (t .s) (t .room) in
       let ends : runLedger σ o empty (𝓟 .calls i) ≡ runLedger σ o now (t .after) =
       ap (runLedger σ o empty) (t .among)
@@ -60,7 +65,8 @@ module _ (σ : Setting) (𝓟 : Pool σ) where
       ∙ run-share σ o before m (t .r) (t .s) (t .room) (t .after) (t .not-refused) in
       let bytes : All BytesIn (c ∷ t .after) =
       all-right (t .before) (c ∷ t .after) (subst (All BytesIn) (t .among) (𝓟 .call-bytes i l)) in
-      let here : In n (notesIn now) = append-in n (notesOf (before .decided)) (n ∷ []) (inr (inl refl)) in
+      let here : In n (notesIn now) =
+      append-in n (notesOf (before .decided)) (n ∷ map noteIn (waiting (before .progress))) (inr (inl refl)) in
       subst (λ (v : Ledger). In n (notesIn v)) (sym ends)
       (keeps-notes σ o (history σ o now (t .after) (behind bytes)) n here)
     where
@@ -102,7 +108,7 @@ module _ (σ : Setting) (facts : Facts σ) (𝓟 : Pool σ) (id : ℕ) (values r
   taken-whole fits took =
       noted-whole fits (λ i l. (took i l .r, took i l .s, took-noted σ 𝓟 i l (message i) (took i l)))
 
-  -- where the servers are idle and can take it
+  -- where the servers can take it
   module _ (r s lent : ℕ) (free : CanTake σ 𝓟 id r s lent) where
     abbrev shares : ℕ → List ℕ
     shares = shareMade σ (𝓟 .sheet) (𝓟 .servers) id values random
@@ -116,7 +122,9 @@ module _ (σ : Setting) (facts : Facts σ) (𝓟 : Pool σ) (id : ℕ) (values r
 
     pub made-ready : Ready σ 𝓟 id shares r s lent
     made-ready = record {
-      idle-all = free .idle-all;
+      waits = free .waits;
+      open-all = free .open-all;
+      below-eight = free .below-eight;
       fewer = free .fewer;
       unused = free .unused;
       id-fits = free .id-fits;
@@ -134,7 +142,7 @@ module _ (σ : Setting) (facts : Facts σ) (𝓟 : Pool σ) (id : ℕ) (values r
     pub made-accepted : MadeAccepted σ 𝓟 id values random r s lent
     made-accepted i l =
         let o = openedAt σ 𝓟 i in
-        let rest : List Call = roundOne (firsts σ 𝓟 id shares r s) lent ∷ roundTwo (seconds σ 𝓟 id shares r s) ∷ [] in
+        let rest : List Call = roundOne id (firsts σ 𝓟 id shares r s) lent ∷ roundTwo id (seconds σ 𝓟 id shares r s) ∷ [] in
         ap (λ (m : List ℕ). ledgerAnswers σ o (ledgerAt σ 𝓟 i) (share m r s lent ∷ rest)) (whole-of .message-is i l)
         ∙ handled σ facts 𝓟 id shares r s lent made-ready i l
         ∙ ap (λ (b : Bool). wrote (messageOne σ o (firstWait σ 𝓟 id shares r s i))

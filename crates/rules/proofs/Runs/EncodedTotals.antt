@@ -2,7 +2,6 @@
 -- and the joined totals are sums of encodings, as whole numbers. Column by column these are numbers of returns, or sums of
 -- values. Assumes the conditions of whole runs.
 use mathlib.Core.Path.{_≡_, refl, sym, ap, _∙_}
-use mathlib.Core.Logic.{inl, inr}
 use mathlib.Core.Bool.{Bool, true, false, cond}
 use mathlib.Core.List.{List, [], _∷_, _++_, map}
 use Prim.Native.Nat.{ℕ, zero, suc, _+_, _<_}
@@ -10,7 +9,7 @@ use native.Mathlib.Nat.{mod-eq-of-lt, zero-add, add-zero}
 use native.Mathlib.Omega.{arith}
 use lib.Dec.{eqb}
 use lib.ListN.{length, getD}
-use Rattle.algebra.specs.Lists.{In, Rearranged, none, keep, swap, chain, sumOver}
+use Rattle.algebra.specs.Lists.{In, Rearranged, sumOver}
 use Rattle.algebra.specs.Modulo.{modulo}
 use Rattle.algebra.proofs.Members.{all-in}
 use Rattle.algebra.proofs.Sums.{sum-ext}
@@ -28,7 +27,8 @@ use Rattle.rules.proofs.Circuits.Legal.{sheet-tests-say-legal}
 use Rattle.rules.proofs.Circuits.Encoding.{entry-below-modulus}
 use Rattle.rules.proofs.Circuits.Limits.{published-few-of}
 use Rattle.rules.proofs.Circuits.ColumnPlaces.{value-behind, entry-behind, published-behind, published-within}
-use Rattle.rules.proofs.Tables.Invariant.{sum-below}
+use Rattle.rules.proofs.Histories.OwnMessages.{sum-below}
+use Rattle.rules.proofs.Histories.Shuffled.{rearranged-in}
 use Rattle.rules.proofs.Returns.OnSheets.{sheet-entries-add-up}
 use Rattle.rules.proofs.Histories.PoolOpened.{is-read, limited}
 use Rattle.rules.proofs.Histories.ClosingBytes.{getD-map}
@@ -50,16 +50,6 @@ yes-is-one : (v : ℕ) → v < 2 → v ≡ cond (eqb v 1) 1 0
 yes-is-one zero l = refl
 yes-is-one (suc zero) l = refl
 yes-is-one (suc (suc v)) l = absurd (omega arith)
-
--- a member stays one
-rearranged-in : {s t : List ℕ} → Rearranged s t → (x : ℕ) → In x s → In x t
-rearranged-in none x h = h
-rearranged-in (keep y p) x (inl e) = inl e
-rearranged-in (keep y p) x (inr h) = inr (rearranged-in p x h)
-rearranged-in (swap y z s) x (inl e) = inr (inl e)
-rearranged-in (swap y z s) x (inr (inl e)) = inl e
-rearranged-in (swap y z s) x (inr (inr h)) = inr (inr h)
-rearranged-in (chain p q) x h = rearranged-in q x (rearranged-in p x h)
 
 -- ---- a return that is delivered whole
 module _ (σ : Setting) (facts : Facts σ) (𝓟 : Pool σ) (id : ℕ) (w : DeliveredWhole σ 𝓟 id) where
@@ -113,7 +103,7 @@ module _ (σ : Setting) (facts : Facts σ) (𝓟 : Pool σ) (closed : Closed σ 
   whole-totals : joinedTotals σ 𝓟 ≡ map coded (publishedFrom 0 cs)
   whole-totals =
       let same : Rearranged (closed .ids) ids = rearranged-sym (closed .same-ids i l) in
-      closed .whole (λ id h. keeps-form σ facts 𝓟 id (made id (rearranged-in same id h) .0))
+      closed .whole (λ id h. keeps-form σ facts 𝓟 id (made id (rearranged-in id same h) .0))
       ∙ map-same _ _ (publishedFrom 0 cs) (λ e k.
       rearranged-sum (λ id. addedEntry σ 𝓟 id e) same
       ∙ sum-cong _ _ ids (λ id h. entry-coded id h e k))

@@ -18,7 +18,7 @@ use Rattle.rules.specs.Run.{Valid}
 use Rattle.rules.specs.Judging.{addedUp, letsIn}
 use Rattle.rules.specs.Ledger.{Note}
 use Rattle.rules.specs.WholeRun.{Pool, columns, noteUnder, notesAt, returnOf, addedEntry, KeepsForm}
-use Rattle.rules.proofs.Tables.Invariant.{positive}
+use Rattle.rules.proofs.Histories.Opening.{positive}
 use Rattle.rules.proofs.Histories.PoolOpened.{is-read}
 use Rattle.rules.proofs.Returns.OnSheets.{sheet-few-pairs}
 use Rattle.rules.proofs.Runs.Agreement.{sound-at}

@@ -1,107 +1,43 @@
--- Field 8 of demand 3: a return of sound shares handed to idle servers is refused nowhere, and its verdict is that of its
--- pair. Each check is met by what the messages were written with. Assumes nothing.
+-- Field 8 of demand 3: a return of sound shares handed to servers that have room is refused nowhere, and its verdict is that
+-- of its pair: each check is met by what the messages were written with. Other calls mixed in change nothing, since each
+-- leaves the return as it waits. Assumes nothing.
 use mathlib.Core.Path.{_≡_, refl, sym, ap, ap₂, _∙_, subst}
-use mathlib.Core.Bool.{Bool, true, false}
-use mathlib.Core.Logic.{inl, inr}
-use mathlib.Core.List.{List, [], _∷_, _++_}
-use Prim.Native.Nat.{ℕ, zero, suc, _+_, _*_, _≤_, _<_}
-use native.Mathlib.Omega.{arith}
-use borrow.Author.Tests.{eq-eqb, ne-eqb, lt-ltb, le-leb}
-use lib.Dec.{eqb, ltb}
-use lib.ListN.{length, getD, length-map}
-use Rattle.algebra.specs.Lists.{All, In}
+use mathlib.Core.Bool.{Bool, true, cond}
+use mathlib.Core.List.{List, [], _∷_, _++_, map}
+use mathlib.Core.Option.{some}
+use Prim.Native.Nat.{ℕ, zero, suc, _<_}
+use borrow.Author.Tests.{eq-eqb, le-leb}
+use lib.Dec.{eqb}
+use lib.ListN.{getD}
+use Rattle.algebra.specs.Lists.{all[], all∷, In}
 use Rattle.algebra.specs.Ops.{Ops}
 use Rattle.algebra.specs.Modulo.{modulo}
 use Rattle.algebra.specs.Sums.{sum}
-use Rattle.words.specs.Bytes.{allBelow}
-use Rattle.words.proofs.Below.{below-of-all}
 use Rattle.records.specs.Outcome.{orElse}
 use Rattle.rules.specs.Settings.{Setting, Facts}
-use Rattle.rules.specs.Judging.{shareSize, firstOnly, sigmaOf, dSum, eSum, sigmaSum, tauSum, allowedPair, letsIn}
-use Rattle.rules.specs.Making.{shareMessage, shareLength}
-use Rattle.rules.specs.Messages.{kindIn, idIn, serverIn, shareElements, roundLength, headerFault, elementsFault}
+use Rattle.rules.specs.Judging.{firstOnly, sigmaOf, dSum, eSum, sigmaSum, tauSum, letsIn}
+use Rattle.rules.specs.Making.{shareMessage}
 use Rattle.rules.specs.Messages.{roundMessage, firstSum, secondSum, bothZero}
-use Rattle.rules.specs.Server.{Opened, Waiting, isMember, waitingOf, sigmaIn, messageOne, messageTwo, summed}
-use Rattle.rules.specs.Server.{shareRefusal, oneRefusal, twoRefusal, whileIdle, whileOne, whileTwo}
-use Rattle.rules.specs.Ledger.{Call, share, roundOne, roundTwo, Answer, wrote, judged, Note, isIdle, waitsOne, waitsTwo}
-use Rattle.rules.specs.Ledger.{Decided, Ledger, idsOf, notesOf, noted, noteOf, ledgerStage, ledgerState, refusalOf, sumsNoted}
-use Rattle.rules.specs.Ledger.{ledgerAfter, ledgerMessage, answerOf, ledgerAnswers, ledgerSays, ledgerStep}
+use Rattle.rules.specs.Keyed.{find, those}
+use Rattle.rules.specs.Server.{Opened, Waiting, waitingOf, sigmaIn, messageOne, messageTwo, summed}
+use Rattle.rules.specs.Server.{oneRefusal, twoRefusal, whileOpen, whileOne, whileTwo}
+use Rattle.rules.specs.Ledger.{Call, share, roundOne, roundTwo, Answer, wrote, judged, Note, Pending, waitsOne, waitsTwo}
+use Rattle.rules.specs.Ledger.{noteIn, pendingId, isOpen, waiting, Decided, Ledger, idsOf, notesOf}
+use Rattle.rules.specs.Ledger.{ledgerWait, ledgerStage, ledgerState, refusalOf, sumsNoted, ledgerAfter, secondMessage, answerOf}
+use Rattle.rules.specs.Ledger.{ledgerAnswers, ledgerSays, ledgerStep}
+use Rattle.rules.specs.Mixing.{on, answersTo}
 use Rattle.rules.specs.WholeRun.{Pool, columns, openedAt, ledgerAt, firstWait, firsts, firstsFrom, secondWait}
 use Rattle.rules.specs.WholeRun.{seconds, secondsFrom, threeCalls, Ready}
 use Rattle.rules.proofs.Histories.MessageBytes.{oneByOne}
-use Rattle.rules.proofs.Histories.ShareBytes.{length-share, share-kind, share-id, share-server, share-elements}
+use Rattle.rules.proofs.Histories.ShareBytes.{share-id}
 use Rattle.rules.proofs.Histories.Checks.{Written, written}
-use Rattle.rules.proofs.Histories.OwnMessages.{sigma-below}
-use Rattle.rules.proofs.Tables.Invariant.{d-below, e-below, tau-below}
-use Rattle.rules.proofs.Histories.Moves.{at}
+use Rattle.rules.proofs.Histories.OwnMessages.{sigma-below, d-below, e-below, tau-below}
+use Rattle.rules.proofs.Histories.Keyed.{found-here, changed-found}
+use Rattle.rules.proofs.Histories.Moves.{at, find-told, sumsOf}
+use Rattle.rules.proofs.Histories.NotesGrow.{keeps-id}
+use Rattle.rules.proofs.Runs.SoundShare.{notes-are, TakenShare, share-taken}
+use Rattle.rules.proofs.Runs.Holding.{Holds, holds, none-on, all-on, first-on}
 
-not-has : (x : ℕ) (s : List ℕ) → (In x s → ⊥) → isMember x s ≡ false
-unfolding isMember
-not-has x [] h = refl
-not-has x (y ∷ s) h = rw (ne-eqb y x (λ e. h (inl e))) (not-has x s (λ k. h (inr k)))
-
-module _ (σ : Setting) (o : Opened) where
-  -- the answers to a call that is not refused, and to those after it
-  answer-next : (l : Ledger) (c : Call) (cs : List Call) → refusalOf σ o l c ≡ 0
-      → ledgerAnswers σ o l (c ∷ cs) ≡ answerOf σ o l c ∷ ledgerAnswers σ o (ledgerAfter σ o l c) cs
-  unfolding ledgerAnswers
-  answer-next l c cs e =
-      ap (λ (f : ℕ). ledgerSays σ o l c f ∷ ledgerAnswers σ o (ledgerStep σ o l c f) cs) e
-
-  -- a share is taken, and noted as n
-  record TakenShare (l : Ledger) (c : Call) (n : Note) : Type 0 where
-    passes : refusalOf σ o l c ≡ 0
-    writes : answerOf σ o l c ≡ wrote (messageOne σ o (noted σ o n))
-    leaves : ledgerAfter σ o l c ≡ at (waitsOne n) (l .decided)
-
-  -- a sound share is
-  module _ (facts : Facts σ) (ds : List Decided) (id : ℕ) (xs : List ℕ) (r s room : ℕ)
-      (fewer : length ds < o .returns) (unused : In id (idsOf (notesOf ds)) → ⊥) (id-fits : id < 4294967296)
-      (sized : length xs ≡ shareSize (o .columns)) (below : All (λ x. x < σ .modulus) xs)
-      (pair : allowedPair σ (o .columns) r s ≡ true) (enough : roundLength σ ≤ room) where
-    abbrev sent : List ℕ
-    sent = shareMessage σ id (o .own) xs
-
-    long : length sent ≡ shareLength σ (o .columns)
-    unfolding shareLength
-    long = length-share σ id (o .own) xs ∙ ap (λ k. 6 + σ .width * k) sized
-
-    share-passes : refusalOf σ o (at isIdle ds) (share sent r s room) ≡ 0
-    unfolding refusalOf ledgerState ledgerStage shareRefusal whileIdle headerFault elementsFault orElse
-    share-passes =
-        let used : List ℕ = idsOf (notesOf ds) in
-        let many : length used ≡ length ds = length-map (notesOf ds) (λ n. n .id) ∙ length-map ds (λ k. k .note) in
-        let e₁ : ltb (length used) (o .returns) ≡ true = lt-ltb (length used) (o .returns) (omega arith) in
-        let e₂ : eqb (length sent) (shareLength σ (o .columns)) ≡ true = eq-eqb _ _ long in
-        let e₃ : eqb (kindIn sent) 33 ≡ true = eq-eqb _ _ (share-kind σ id (o .own) xs) in
-        let e₄ : eqb (serverIn sent) (o .own) ≡ true = eq-eqb _ _ (share-server σ id (o .own) xs) in
-        let e₅ : allBelow (σ .modulus) (shareElements σ sent) ≡ true =
-        ap (allBelow (σ .modulus)) (share-elements σ id (o .own) xs facts below) ∙ below-of-all (σ .modulus) xs below in
-        let e₆ : isMember (idIn sent) used ≡ false =
-        ap (λ k. isMember k used) (share-id σ id (o .own) xs id-fits) ∙ not-has id used unused in
-        rw (e₁, e₂, e₃, e₄, e₅, e₆, pair, le-leb _ _ enough)
-
-    -- what is noted of it
-    abbrev sentNote : Note
-    sentNote = record { id = id; elements = xs; r = r; s = s }
-
-    noted-share : noteOf σ o sent r s ≡ sentNote
-    noted-share = λ t. record {
-      id = share-id σ id (o .own) xs id-fits t;
-      elements = share-elements σ id (o .own) xs facts below t;
-      r = r;
-      s = s;
-    }
-
-    share-taken : TakenShare (at isIdle ds) (share sent r s room) sentNote
-    unfolding answerOf ledgerAfter ledgerMessage ledgerStage
-    share-taken = record {
-      passes = share-passes;
-      writes = ap (λ (n : Note). wrote (messageOne σ o (noted σ o n))) noted-share;
-      leaves = ap (λ (n : Note). at (waitsOne n) ds) noted-share;
-    }
-
--- ---- the three calls
 module _ (σ : Setting) (facts : Facts σ) (𝓟 : Pool σ) (id : ℕ) (shares : ℕ → List ℕ) (r s room : ℕ)
     (ready : Ready σ 𝓟 id shares r s room) where
   abbrev o : ℕ → Opened
@@ -148,26 +84,6 @@ module _ (σ : Setting) (facts : Facts σ) (𝓟 : Pool σ) (id : ℕ) (shares :
       (written σ facts S 35 id _ _ (ready .id-fits)
       (λ j h. sigma-below σ facts (o j) (wait₂ j)) (λ j h. tau-below σ facts (o j) (note j)))
 
-  module _ (i : ℕ) (l : i < S) (ds : List Decided) where
-    abbrev afterOne : Ledger
-    afterOne = at (waitsTwo (note i) (firstSum σ S joined₁) (secondSum σ S joined₁)) ds
-
-    one-passes : refusalOf σ (o i) (at (waitsOne (note i)) ds) (roundOne joined₁ room) ≡ 0
-    unfolding refusalOf ledgerState ledgerStage oneRefusal whileOne messageOne waitingOf orElse
-    one-passes = rw (round-one .passes i l, le-leb _ _ (ready .enough))
-
-    two-passes : refusalOf σ (o i) afterOne (roundTwo joined₂) ≡ 0
-    unfolding refusalOf ledgerState ledgerStage twoRefusal whileTwo messageTwo waitingOf summed
-    two-passes = round-two .passes i l
-
-    rounds-answers : ledgerAnswers σ (o i) (at (waitsOne (note i)) ds) (roundOne joined₁ room ∷ roundTwo joined₂ ∷ [])
-        ≡ wrote (messageTwo σ (o i) (wait₂ i)) ∷ judged (bothZero σ S joined₂) ∷ []
-    unfolding ledgerAfter sumsNoted answerOf ledgerMessage ledgerStage ledgerAnswers summed
-    rounds-answers =
-        answer-next σ (o i) (at (waitsOne (note i)) ds) (roundOne joined₁ room) (roundTwo joined₂ ∷ []) one-passes
-        ∙ ap (λ (v : List Answer). wrote (messageTwo σ (o i) (wait₂ i)) ∷ v)
-        (answer-next σ (o i) afterOne (roundTwo joined₂) [] two-passes)
-
   -- ---- the verdict
   abbrev x : ℕ → ℕ → ℕ
   x j e = getD (shares j) e 0
@@ -197,22 +113,84 @@ module _ (σ : Setting) (facts : Facts σ) (𝓟 : Pool σ) (id : ℕ) (shares :
   unfolding bothZero letsIn
   verdict-is = rw (ready .pair, sigma-is, tau-is)
 
-  -- 8
-  pub handled : (i : ℕ) → i < 𝓟 .servers
-      → ledgerAnswers σ (openedAt σ 𝓟 i) (ledgerAt σ 𝓟 i) (threeCalls σ 𝓟 id shares r s room i)
-      ≡ wrote (messageOne σ (openedAt σ 𝓟 i) (firstWait σ 𝓟 id shares r s i))
-      ∷ wrote (messageTwo σ (openedAt σ 𝓟 i) (secondWait σ 𝓟 id shares r s i))
-      ∷ judged (letsIn σ (columns σ 𝓟) (𝓟 .servers) (λ j e. getD (shares j) e 0) r s)
-      ∷ []
-  handled i l =
+  -- ---- the share
+  abbrev first : ℕ → Call
+  first i = share (shareMessage σ id i (shares i)) r s room
+
+  begun : (i : ℕ) → i < S → TakenShare σ (o i) (ledgerAt σ 𝓟 i) (first i) (note i)
+  begun i l =
       let ds : List Decided = ledgerAt σ 𝓟 i .decided in
-      let first : Call = share (shareMessage σ id i (shares i)) r s room in
-      let rest : List Call = roundOne joined₁ room ∷ roundTwo joined₂ ∷ [] in
-      let start : ledgerAt σ 𝓟 i ≡ at isIdle ds = λ t. record { progress = ready .idle-all i l t; decided = ds } in
-      let taken = share-taken σ (o i) facts ds id (shares i) r s room (ready .fewer i l) (ready .unused i l) (ready .id-fits)
-      (ready .sized i l) (ready .below i l) (ready .pair) (ready .enough) in
-      ap (λ (v : Ledger). ledgerAnswers σ (o i) v (first ∷ rest)) start
-      ∙ answer-next σ (o i) (at isIdle ds) first rest (taken .passes)
-      ∙ ap₂ (λ (a : Answer) (v : Ledger). a ∷ ledgerAnswers σ (o i) v rest) (taken .writes) (taken .leaves)
-      ∙ ap (λ (v : List Answer). wrote (messageOne σ (o i) (wait i)) ∷ v)
-      (rounds-answers i l ds ∙ ap (λ (b : Bool). wrote (messageTwo σ (o i) (wait₂ i)) ∷ judged b ∷ []) verdict-is)
+      let ws : List Pending = ready .waits i in
+      let start : at (isOpen ws) ds ≡ ledgerAt σ 𝓟 i = λ t. record { progress = sym (ready .open-all i l) t; decided = ds } in
+      let unused : In id (idsOf (notesOf ds ++ map noteIn ws)) → ⊥ =
+      λ h. ready .unused i l (subst (λ (v : List Note). In id (idsOf v)) (sym (notes-are (ledgerAt σ 𝓟 i) ws (ready .open-all i l))) h) in
+      subst (λ (v : Ledger). TakenShare σ (o i) v (first i) (note i)) start
+      (share-taken σ (o i) facts ws ds id (shares i) r s room (ready .below-eight i l) (ready .fewer i l) unused
+      (ready .id-fits) (ready .sized i l) (ready .below i l) (ready .pair) (ready .enough))
+
+  -- ---- both rounds, where the return waits
+  abbrev one : Call
+  one = roundOne id joined₁ room
+
+  abbrev two : Call
+  two = roundTwo id joined₂
+
+  one-there : (i : ℕ) (l : i < S) (ws : List Pending) (ds : List Decided) → find pendingId id ws ≡ some (waitsOne (note i))
+      → refusalOf σ (o i) (at (isOpen ws) ds) one ≡ 0
+  unfolding refusalOf ledgerState ledgerStage oneRefusal whileOpen whileOne ledgerWait messageOne waitingOf orElse
+  one-there i l ws ds h = rw (find-told σ (o i) id ws, h, round-one .passes i l, le-leb _ _ (ready .enough))
+
+  two-there : (i : ℕ) (l : i < S) (ws : List Pending) (ds : List Decided)
+      → find pendingId id ws ≡ some (waitsTwo (note i) (firstSum σ S joined₁) (secondSum σ S joined₁))
+      → refusalOf σ (o i) (at (isOpen ws) ds) two ≡ 0
+  unfolding refusalOf ledgerState ledgerStage twoRefusal whileOpen whileTwo ledgerWait messageTwo waitingOf summed
+  two-there i l ws ds h = rw (find-told σ (o i) id ws, h, round-two .passes i l)
+
+  module _ (i : ℕ) (l : i < S) where
+    abbrev first₂ : Pending
+    first₂ = waitsTwo (note i) (firstSum σ S joined₁) (secondSum σ S joined₁)
+
+    on-two : (v : Ledger) → Holds σ (o i) id first₂ v → (more : List Call) → those (on id) more ≡ two ∷ []
+        → answersTo σ (o i) id v more ≡ judged (bothZero σ S joined₂) ∷ []
+    unfolding answerOf
+    on-two =
+        first-on σ (o i) id first₂ two (judged (bothZero σ S joined₂)) [] [] (two-there i l) (λ ws ds h. refl)
+        (λ ws ds h cs q. none-on σ (o i) id _ cs q)
+
+    on-one : (v : Ledger) → Holds σ (o i) id (waitsOne (note i)) v → (more : List Call) → those (on id) more ≡ one ∷ two ∷ []
+        → answersTo σ (o i) id v more ≡ wrote (messageTwo σ (o i) (wait₂ i)) ∷ judged (bothZero σ S joined₂) ∷ []
+    unfolding answerOf secondMessage summed ledgerAfter sumsNoted
+    on-one =
+        first-on σ (o i) id (waitsOne (note i)) one (wrote (messageTwo σ (o i) (wait₂ i))) (two ∷ []) _ (one-there i l)
+        (λ ws ds h. rw h refl)
+        (λ ws ds h cs q. on-two _ (holds _ ds (changed-found pendingId id (sumsOf σ (o i) joined₁)
+        (keeps-id σ (o i) joined₁) ws (waitsOne (note i)) h)) cs q)
+
+    named : on id (first i) ≡ true
+    named = eq-eqb _ _ (share-id σ id i (shares i) (ready .id-fits))
+
+    -- 8, with other calls mixed in once the share is taken
+    pub handled-mixed : (more : List Call) → those (on id) more ≡ one ∷ two ∷ []
+        → answersTo σ (o i) id (ledgerAt σ 𝓟 i) (share (shareMessage σ id i (shares i)) r s room ∷ more)
+        ≡ wrote (messageOne σ (o i) (wait i)) ∷ wrote (messageTwo σ (o i) (wait₂ i)) ∷ judged (letsIn σ (columns σ 𝓟) S x r s) ∷ []
+    unfolding answersTo
+    handled-mixed more q =
+        let v : Ledger = ledgerAt σ 𝓟 i in
+        let rest : ℕ → List Answer = λ f. answersTo σ (o i) id (ledgerStep σ (o i) v (first i) f) more in
+        let f : ℕ = refusalOf σ (o i) v (first i) in
+        ap (λ (b : Bool). cond b (ledgerSays σ (o i) v (first i) f ∷ rest f) (rest f)) named
+        ∙ ap (λ (n : ℕ). ledgerSays σ (o i) v (first i) n ∷ rest n) (begun i l .passes)
+        ∙ ap₂ (λ (a : Answer) (u : Ledger). a ∷ answersTo σ (o i) id u more) (begun i l .writes) (begun i l .leaves)
+        ∙ ap (λ (u : List Answer). wrote (messageOne σ (o i) (wait i)) ∷ u)
+        (on-one _ (holds _ _ (found-here pendingId id (waitsOne (note i)) (waiting (v .progress)) refl)) more q
+        ∙ ap (λ (b : Bool). wrote (messageTwo σ (o i) (wait₂ i)) ∷ judged b ∷ []) verdict-is)
+
+    -- 8
+    pub handled : ledgerAnswers σ (o i) (ledgerAt σ 𝓟 i) (threeCalls σ 𝓟 id shares r s room i)
+        ≡ wrote (messageOne σ (o i) (wait i)) ∷ wrote (messageTwo σ (o i) (wait₂ i)) ∷ judged (letsIn σ (columns σ 𝓟) S x r s) ∷ []
+    unfolding those
+    handled =
+        let same : eqb id id ≡ true = eq-eqb id id refl in
+        let both : those (on id) (one ∷ two ∷ []) ≡ one ∷ two ∷ [] = rw same refl in
+        sym (all-on σ (o i) id (ledgerAt σ 𝓟 i) (first i ∷ one ∷ two ∷ []) (all∷ named (all∷ same (all∷ same all[]))))
+        ∙ handled-mixed (one ∷ two ∷ []) both

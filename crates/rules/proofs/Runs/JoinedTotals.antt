@@ -31,7 +31,7 @@ use Rattle.rules.specs.WholeRun.{Pool, columns, openedAt, ledgerAt, acce
 use Rattle.rules.specs.WholeRun.{Conditions, AllClosed, closingsFrom, closings}
 use Rattle.rules.proofs.Histories.MessageBytes.{oneByOne, length-one-by-one, part-one-by-one}
 use Rattle.rules.proofs.Histories.Checks.{at-every}
-use Rattle.rules.proofs.Tables.Invariant.{positive}
+use Rattle.rules.proofs.Histories.Opening.{positive}
 use Rattle.rules.proofs.Histories.PoolOpened.{opened, limited, returns-limits}
 use Rattle.rules.proofs.Runs.SameIds.{few-accepted, own-sum, same-ids}
 use Rattle.rules.proofs.Histories.ClosingBytes.{length-totals, totals-kind, totals-server, totals-count, totals-sums}

@@ -3,7 +3,7 @@
 use mathlib.Core.Path.{_≡_, refl, sym, ap, _∙_, subst}
 use mathlib.Core.Logic.{inl, inr, _≢_}
 use mathlib.Core.Bool.{Bool, true, false, cond}
-use mathlib.Core.List.{List, [], _∷_, _++_, append-nil}
+use mathlib.Core.List.{List, [], _∷_, _++_, map, append-nil}
 use Prim.Native.Nat.{ℕ, suc, _≤_, _<_}
 use native.Mathlib.Omega.{arith}
 use lib.ListN.{length, getD, length-map}
@@ -11,9 +11,9 @@ use Rattle.algebra.specs.Lists.{In, Distinct, distinct[], distinct∷, Rearrang
 use Rattle.algebra.proofs.Members.{in-all, in-map, of-map, all-in}
 use Rattle.algebra.proofs.Rearrangement.{same-members, sum-cong, sum-map}
 use Rattle.rules.specs.Settings.{Setting, Facts}
-use Rattle.rules.specs.Ledger.{Note, Progress, Decision, accepted, rejected, dropped, Decided, isAccepted, isDropped}
-use Rattle.rules.specs.Ledger.{notesWith, idsOf, notesOf}
-use Rattle.rules.specs.WholeRun.{Pool, ledgerAt, acceptedAt, waitingNote, notesIn, notesAt, returnOf}
+use Rattle.rules.specs.Ledger.{Note, noteIn, Progress, waiting, Decision, accepted, rejected, dropped, Decided}
+use Rattle.rules.specs.Ledger.{isAccepted, isDropped, notesWith, idsOf, notesOf}
+use Rattle.rules.specs.WholeRun.{Pool, ledgerAt, acceptedAt, notesIn, notesAt, returnOf}
 use Rattle.rules.specs.WholeRun.{Conditions, AllClosed}
 use Rattle.rules.proofs.Runs.Agreement.{noteUnder-in, sound-at, shareAt, verdictAll, Noted, agreed, noted-everywhere}
 
@@ -92,9 +92,9 @@ module _ (σ : Setting) (𝓟 : Pool σ) (closed : AllClosed σ 𝓟) where
   decided i = ledgerAt σ 𝓟 i .decided
 
   closed-notes : (i : ℕ) → i < 𝓟 .servers → notesAt σ 𝓟 i ≡ notesOf (decided i)
-  unfolding notesIn waitingNote
+  unfolding notesIn
   closed-notes i l =
-      ap (λ (p : Progress). notesOf (decided i) ++ waitingNote p) (closed i l) ∙ append-nil (notesOf (decided i))
+      ap (λ (p : Progress). notesOf (decided i) ++ map noteIn (waiting p)) (closed i l) ∙ append-nil (notesOf (decided i))
 
   pub distinct-accepted : (i : ℕ) → i < 𝓟 .servers → Distinct (acceptedAt σ 𝓟 i)
   distinct-accepted i l =

@@ -1,14 +1,30 @@
 -- DEMAND 3: what every list of calls at S servers comes to. Each field is a theorem of its own file. Assumes nothing.
+use mathlib.Core.Path.{_≡_, _∙_}
+use Prim.Native.Nat.{ℕ, _<_}
 use Rattle.rules.specs.Settings.{Setting, Facts, document01}
-use Rattle.rules.specs.WholeRun.{Pool, columns, WholeRun}
+use Rattle.rules.specs.Ledger.{empty}
+use Rattle.rules.specs.Runs.{tableAnswers}
+use Rattle.rules.specs.Mixing.{callsOn, answersOn}
+use Rattle.rules.specs.WholeRun.{Pool, columns, openedAt, tableAt, WholeRun}
 use Rattle.rules.proofs.Computed.Facts.{document01-facts}
 use Rattle.rules.proofs.Returns.OnSheets.{sheet-few-pairs}
-use Rattle.rules.proofs.Tables.Opens.{tables-tell}
-use Rattle.rules.proofs.Tables.Erased.{unused, erased}
+use Rattle.rules.proofs.Tables.Opens.{tables-tell, tables-answer}
+use Rattle.rules.proofs.Tables.Erased.{unused-zero, erased-zero}
 use Rattle.rules.proofs.Histories.PoolOpened.{is-read}
 use Rattle.rules.proofs.Runs.WholeTotals.{closed-together}
 use Rattle.rules.proofs.Runs.Verdicts.{verdict, honest}
-use Rattle.rules.proofs.Runs.Handled.{handled}
+use Rattle.rules.proofs.Runs.Handled.{handled, handled-mixed}
+use Rattle.rules.proofs.Runs.Mixed.{mixing, bytes-on}
+use Rattle.rules.proofs.Runs.WithinLimits.{within-returns, at-most-eight}
+
+-- 9, on the table
+alone : (σ : Setting) → Facts σ → (𝓟 : Pool σ) → (i : ℕ) → i < 𝓟 .servers → (id : ℕ)
+    → tableAnswers σ (tableAt σ 𝓟 i) (callsOn σ (openedAt σ 𝓟 i) id empty (𝓟 .calls i))
+    ≡ answersOn σ (openedAt σ 𝓟 i) id empty (𝓟 .calls i)
+alone σ facts 𝓟 i l id =
+    let o = openedAt σ 𝓟 i in
+    tables-answer σ facts 𝓟 i l (callsOn σ o id empty (𝓟 .calls i)) (bytes-on σ o id empty (𝓟 .calls i) (𝓟 .call-bytes i l))
+    ∙ mixing σ o id (𝓟 .calls i) .answers
 
 pub whole-run : (σ : Setting) → Facts σ → (𝓟 : Pool σ) → WholeRun σ 𝓟
 whole-run σ facts 𝓟 = record {
@@ -18,8 +34,13 @@ whole-run σ facts 𝓟 = record {
   honest = honest σ facts 𝓟;
   few = sheet-few-pairs σ facts (𝓟 .sheet) (columns σ 𝓟) (is-read σ 𝓟) (𝓟 .servers) (𝓟 .some-server);
   handled = handled σ facts 𝓟;
-  unused = unused σ facts 𝓟;
-  erased = erased σ facts 𝓟;
+  handled-mixed = handled-mixed σ facts 𝓟;
+  mixing = λ i l id. mixing σ (openedAt σ 𝓟 i) id (𝓟 .calls i);
+  alone = alone σ facts 𝓟;
+  within-returns = within-returns σ 𝓟;
+  at-most-eight = at-most-eight σ 𝓟;
+  unused = unused-zero σ facts 𝓟;
+  erased = erased-zero σ facts 𝓟;
 }
 
 -- at the setting of document 01

@@ -22,7 +22,8 @@ use Rattle.rules.specs.WholeRun.{Pool, columns, openedAt, ledgerAt, answ
 use Rattle.rules.specs.WholeRun.{Conditions, AllClosed, closings, Closed}
 use Rattle.rules.proofs.Circuits.Legal.{sheet-tests-say-legal}
 use Rattle.rules.proofs.Circuits.Published.{published-fits}
-use Rattle.rules.proofs.Tables.Invariant.{positive, sum-below}
+use Rattle.rules.proofs.Histories.Opening.{positive}
+use Rattle.rules.proofs.Histories.OwnMessages.{sum-below}
 use Rattle.rules.proofs.Histories.PoolOpened.{opened, is-read, limited, returns-limits}
 use Rattle.rules.proofs.Histories.Origins.{ended, closing-written}
 use Rattle.rules.proofs.Runs.Agreement.{history-at}

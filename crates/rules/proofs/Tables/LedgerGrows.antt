@@ -1,10 +1,9 @@
 -- A ledger with one return more decided: its accepted notes, its ids and its totals grow at their end. Assumes nothing.
-use mathlib.Core.Path.{_≡_, refl, sym, ap, ap₂, _∙_}
+use mathlib.Core.Path.{_≡_, refl, sym, ap, _∙_}
 use mathlib.Core.Bool.{Bool, true, false, cond}
 use mathlib.Core.List.{List, [], _∷_, _++_, map, map-append}
-use Prim.Native.Nat.{ℕ, zero, suc, _+_, _%_}
+use Prim.Native.Nat.{ℕ, _+_, _%_}
 use native.Mathlib.Nat.{mod-add-mod, add-zero}
-use native.Mathlib.Omega.{arith}
 use lib.ListN.{length, getD, length-append}
 use Rattle.algebra.specs.Lists.{sumOver, tabulate}
 use Rattle.algebra.proofs.Rearrangement.{sum-append}
@@ -12,7 +11,7 @@ use Rattle.algebra.proofs.Tables.{tabulate-none, tabulate-front}
 use Rattle.rules.specs.Settings.{Setting}
 use Rattle.rules.specs.Columns.{publishedFrom}
 use Rattle.rules.specs.Server.{Opened, publishedShares}
-use Rattle.rules.specs.Ledger.{Note, Decision, Decided, isAccepted, notesWith, idsOf, notesOf, ledgerTotals}
+use Rattle.rules.specs.Ledger.{Note, Decision, Decided, notesWith, idsOf, notesOf, ledgerTotals}
 
 abbrev pub decidedAs : Note → Decision → Decided
 decidedAs n d = record { note = n; decision = d }

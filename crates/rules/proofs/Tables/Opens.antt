@@ -1,39 +1,42 @@
 -- Opening: a table that opens stands beside the empty ledger, so every list of calls on it is answered as the ledger
--- tells. The table's bytes past the sheet are 0. Assumes nothing.
-use mathlib.Core.Path.{_≡_, refl, sym, ap, ap₂, _∙_, subst}
-use mathlib.Core.Bool.{Bool, true, false}
+-- tells. The table's bytes past the sheet are 0, its eight records are free and their numbers 0. Assumes nothing.
+use mathlib.Core.Path.{_≡_, refl, sym, ap, ap₂, _∙_}
+use mathlib.Core.Bool.{Bool}
 use mathlib.Core.List.{List, [], _∷_, _++_, map, append-assoc}
 use Prim.Native.Nat.{ℕ, zero, suc, _+_, _-_, _*_, _%_, _^_, _≤_, _<_}
-use native.Mathlib.Nat.{zero-mod, mul-suc, add-comm}
+use native.Mathlib.Nat.{zero-mod, mul-suc, mul-le-mul-left}
 use native.Mathlib.Omega.{arith}
-use borrow.Author.Tests.{leb-true, lt-ltb}
-use lib.Dec.{leb, ltb}
-use lib.ListN.{length, getD, take, drop, replicate, length-append, length-replicate, replicate-append-replicate}
-use Rattle.algebra.specs.Lists.{All, all[], all∷, sumOver}
-use Rattle.algebra.proofs.Members.{and-left, and-right}
-use Rattle.words.specs.Bytes.{bytesOf, bytesOfAll, splice, elementsOf, allBelow}
+use borrow.Author.Tests.{leb-true}
+use lib.Dec.{eqb, leb}
+use lib.ListN.{length, getD, take, drop, replicate, length-replicate, getD-replicate, replicate-append-replicate}
+use lib.Seq.{take-at, drop-at}
+use Rattle.algebra.specs.Lists.{All, all[], all∷, distinct[], Rearranged, sumOver, tabulate}
+use Rattle.algebra.proofs.Members.{and-right}
+use Rattle.words.specs.Bytes.{bytesOf, bytesOfAll, part, splice, elementsOf, allBelow}
+use Rattle.words.proofs.Splice.{part-of-take, take-end-splice, length-splice}
 use Rattle.words.proofs.Elements.{elements-bytes}
 use Rattle.words.proofs.Below.{below-of-all}
-use Rattle.records.specs.Outcome.{Outcome, ok, refused, orElse}
-use Rattle.records.proofs.Outcome.{or-zero}
+use Rattle.slots.specs.Slots.{freeSlot}
 use Rattle.rules.specs.Settings.{Setting, Facts}
-use Rattle.rules.specs.Columns.{Column, check, within, readSheet, sheetFault, columnsOf, publishedIn, publishedFrom, totalsFit}
-use Rattle.rules.specs.Columns.{serversFault, ownFault, returnsFault, totalsFault}
-use Rattle.rules.specs.Judging.{shareSize}
-use Rattle.rules.specs.Server.{Opened, openFault}
-use Rattle.rules.specs.Table.{waitLength, tableLength, openLength, openRefusal, openBytes}
-use Rattle.rules.specs.Ledger.{Call, Ledger, empty, notesWith, ledgerTotals, ledgerAnswers}
-use Rattle.rules.specs.Runs.{openedTable, runTable, tableAnswers}
-use Rattle.rules.specs.WholeRun.{Pool, BytesIn, columns, openedAt, tableAt, ledgerAt, answersAt}
+use Rattle.rules.specs.Columns.{Column, columnsOf, publishedIn, publishedFrom}
+use Rattle.rules.specs.Server.{Opened, mostWaiting}
+use Rattle.rules.specs.WaitingList.{placeSize, runSize, numbersAt, waitAt, recordsFrom, present, freeList}
+use Rattle.rules.specs.Table.{Lent, stageOpen, tableLength, openLength, openRoom, openBytes, openedTable}
+use Rattle.rules.specs.Ledger.{Call, empty, notesWith, ledgerTotals, ledgerAnswers}
+use Rattle.rules.specs.Runs.{runTable, tableAnswers}
+use Rattle.rules.specs.WholeRun.{BytesIn, opensIn, Pool, columns, openedAt, tableAt, ledgerAt, answersAt}
 use Rattle.rules.proofs.Circuits.Limits.{Limits, within-both}
 use Rattle.rules.proofs.Circuits.Refusals.{sheet-read, sheet-limits}
 use Rattle.rules.proofs.Histories.MessageBytes.{width-positive}
-use Rattle.rules.proofs.Tables.Parts.{Parts, Sized, header, body, assemble}
-use Rattle.rules.proofs.Tables.Invariant.{Opens, Beside, positive}
-use Rattle.rules.proofs.Tables.Taken.{fits-bytes}
-use Rattle.rules.proofs.Tables.Run.{passed, run-beside, answers-same}
+use Rattle.rules.proofs.Histories.Opening.{positive, Opening, opening}
+use Rattle.rules.proofs.Waiting.Said.{free-sound}
+use Rattle.rules.proofs.Tables.Parts.{Parts, header, assemble}
+use Rattle.rules.proofs.Tables.Listed.{Listed}
+use Rattle.rules.proofs.Tables.Invariant.{Opens, Beside}
+use Rattle.rules.proofs.Tables.Decided.{fits-bytes}
+use Rattle.rules.proofs.Tables.Run.{run-beside, answers-same}
 
--- the bytes of zeros
+-- ---- zeros
 zero-bytes : (w : ℕ) → bytesOf w 0 ≡ replicate w 0
 unfolding bytesOf
 zero-bytes zero = refl
@@ -51,44 +54,62 @@ all-zeros : (p : ℕ) → 0 < p → (n : ℕ) → All (λ x. x < p) (replicate n
 all-zeros p h zero = all[]
 all-zeros p h (suc n) = all∷ h (all-zeros p h n)
 
--- "it opens": what is known where opening is not refused
-pub record Opening (σ : Setting) (servers own : ℕ) (sheet : List ℕ) (returns room : ℕ) : Type 0 where
-  pub servers-fit : within 2 8 servers ≡ true
-  pub own-fits : ltb own servers ≡ true
-  pub no-fault : sheetFault sheet ≡ 0
-  pub returns-fit : within 1 1024 returns ≡ true
-  pub totals-fit : totalsFit σ returns (columnsOf sheet) ≡ true
-  pub enough : openLength σ sheet returns ≤ room
+-- a part of zeros
+pub zeros-part : (m n k : ℕ) → m + n ≤ k → part m n (replicate k 0) ≡ replicate n 0
+zeros-part m n k h =
+    let x : ℕ = k - (m + n) in
+    let e : k ≡ m + (n + x) = omega arith in
+    let rest : List ℕ = replicate n 0 ++ replicate x 0 in
+    let split : _≡_ {A = List ℕ} (replicate k 0) (replicate m 0 ++ rest) =
+    ap (λ (j : ℕ). replicate {A = ℕ} j 0) e
+    ∙ sym (replicate-append-replicate m (n + x) 0)
+    ∙ ap (λ (l : List ℕ). replicate m 0 ++ l) (sym (replicate-append-replicate n x 0)) in
+    ap (part m n) split
+    ∙ ap (take n) (drop-at (replicate m 0) rest m (length-replicate m 0))
+    ∙ take-at (replicate n 0) (replicate x 0) n (length-replicate n 0)
 
-pub opening : (σ : Setting) (servers own : ℕ) (sheet : List ℕ) (returns room : ℕ)
-    → openRefusal σ servers own sheet returns room ≡ 0 → Opening σ servers own sheet returns room
-unfolding openRefusal openFault
-opening σ servers own sheet returns room e =
-    let c0 = or-zero (openFault σ servers own sheet returns) (check (leb (openLength σ sheet returns) room) 14) e in
-    let c1 = or-zero (serversFault servers) _ (c0 .0) in
-    let c2 = or-zero (ownFault servers own) _ (c1 .1) in
-    let c3 = or-zero (sheetFault sheet) _ (c2 .1) in
-    let c4 = or-zero (returnsFault returns) (totalsFault σ returns (columnsOf sheet)) (c3 .1) in
-    record {
-      servers-fit = passed (within 2 8 servers) 2 (omega arith) (c1 .0);
-      own-fits = passed (ltb own servers) 2 (omega arith) (c2 .0);
-      no-fault = c3 .0;
-      returns-fit = passed (within 1 1024 returns) 2 (omega arith) (c4 .0);
-      totals-fit = passed (totalsFit σ returns (columnsOf sheet)) 4 (omega arith) (c4 .1);
-      enough =
-          leb-true (openLength σ sheet returns) room (passed (leb (openLength σ sheet returns) room) 14 (omega arith) (c0 .1));
-    }
+-- ---- eight free records
+module _ (σ : Setting) (o : Opened) (es : List ℕ) (enough : runSize (o .columns) ≤ length es) where
+  abbrev zeros : List ℕ
+  zeros = replicate (runSize (o .columns)) 0
 
-module _ (σ : Setting) (facts : Facts σ) (servers own : ℕ) (sheet : List ℕ) (returns : ℕ) (buffer : List ℕ)
-    (opens : openRefusal σ servers own sheet returns (length buffer) ≡ 0) where
+  zeros-long : length zeros ≡ runSize (o .columns)
+  zeros-long = length-replicate (runSize (o .columns)) 0
+
+  fit : 0 + length zeros ≤ length es
+  fit = omega (arith, zeros-long)
+
+  numbers-zero : (j : ℕ) → j < mostWaiting → numbersAt (o .columns) (splice es 0 zeros) j ≡ replicate (placeSize (o .columns)) 0
+  numbers-zero j h =
+      let size : ℕ = placeSize (o .columns) in
+      let within : size * j + size ≤ size * mostWaiting = omega (arith, mul-suc size j, mul-le-mul-left size h) in
+      sym (part-of-take (size * j) size (0 + length zeros) (splice es 0 zeros) (omega (arith, zeros-long)))
+      ∙ ap (part (size * j) size) (take-end-splice es 0 zeros fit)
+      ∙ zeros-part (size * j) size (runSize (o .columns)) within
+
+  none-listed : Listed σ o [] freeList (splice es 0 zeros)
+  unfolding recordsFrom waitAt present
+  none-listed = record {
+    eight = refl;
+    enough = omega (arith, enough, length-splice es 0 zeros fit);
+    fine = λ j h.
+        let free : getD freeList j freeSlot ≡ freeSlot = getD-replicate mostWaiting j freeSlot freeSlot h in
+        record { sound = rw free (free-sound σ (o .columns) _); erased = λ e. (free, numbers-zero j h) };
+    same = Rearranged.none;
+    apart = distinct[];
+    ids-fit = all[];
+  }
+
+module _ (σ : Setting) (facts : Facts σ) (servers own : ℕ) (sheet : List ℕ) (returns : ℕ) (B : Lent)
+    (opens : opensIn σ servers own sheet returns B ≡ 0) where
   abbrev cs : List Column
   cs = columnsOf sheet
 
   abbrev o : Opened
   o = record { servers = servers; own = own; columns = cs; returns = returns }
 
-  known-open : Opening σ servers own sheet returns (length buffer)
-  known-open = opening σ servers own sheet returns (length buffer) opens
+  known-open : Opening σ servers own sheet returns (length (B .bytes)) (length (B .slots)) (length (B .elements))
+  known-open = opening σ servers own sheet returns (length (B .bytes)) (length (B .slots)) (length (B .elements)) opens
 
   limited : Limits sheet cs
   limited = sheet-limits sheet (known-open .no-fault)
@@ -102,9 +123,17 @@ module _ (σ : Setting) (facts : Facts σ) (servers own : ℕ) (sheet : List ℕ
     totals-fit = known-open .totals-fit;
   }
 
+  numbers-enough : runSize cs ≤ length (B .elements)
+  unfolding openRoom
+  numbers-enough =
+      let bytes : Bool = leb (openLength σ sheet returns) (length (B .bytes)) in
+      let records : Bool = eqb (length (B .slots)) mostWaiting in
+      let numbers : Bool = leb (runSize cs) (length (B .elements)) in
+      leb-true _ _ (and-right records numbers (and-right bytes _ (known-open .enough)))
+
   abbrev parts : Parts
   parts = record {
-    stage = 0;
+    stage = stageOpen;
     servers = servers;
     own = own;
     returns = returns;
@@ -113,20 +142,16 @@ module _ (σ : Setting) (facts : Facts σ) (servers own : ℕ) (sheet : List ℕ
     sheet = sheet;
     totals = replicate (σ .width * publishedIn cs) 0;
     ids = replicate (4 * returns) 0;
-    wait = replicate (waitLength σ cs) 0;
-    rest = drop (0 + length (openBytes σ servers own sheet returns)) buffer;
+    rest = drop (0 + length (openBytes σ servers own sheet returns)) (B .bytes);
   }
 
-  zeros-are : replicate (openLength σ sheet returns - (12 + length sheet)) 0 ≡ parts .totals ++ (parts .ids ++ parts .wait)
+  zeros-are : replicate (openLength σ sheet returns - (12 + length sheet)) 0 ≡ parts .totals ++ parts .ids
   unfolding openLength tableLength
   zeros-are =
-      let size : openLength σ sheet returns - (12 + length sheet) ≡ σ .width * publishedIn cs + (4 * returns + waitLength σ cs)
-      = omega arith in
-      ap (λ (k : ℕ). replicate k 0) size
-      ∙ sym (replicate-append-replicate (σ .width * publishedIn cs) (4 * returns + waitLength σ cs) 0)
-      ∙ ap (parts .totals ++_) (sym (replicate-append-replicate (4 * returns) (waitLength σ cs) 0))
+      let size : openLength σ sheet returns - (12 + length sheet) ≡ σ .width * publishedIn cs + 4 * returns = omega arith in
+      ap (λ (k : ℕ). replicate k 0) size ∙ sym (replicate-append-replicate (σ .width * publishedIn cs) (4 * returns) 0)
 
-  opened-parts : openedTable σ servers own sheet returns buffer ≡ assemble σ parts
+  opened-parts : splice (B .bytes) 0 (openBytes σ servers own sheet returns) ≡ assemble σ parts
   unfolding splice openBytes assemble bytesOf
   opened-parts =
       ap (λ (z : List ℕ). header σ parts ++ (sheet ++ z) ++ parts .rest) zeros-are
@@ -137,7 +162,7 @@ module _ (σ : Setting) (facts : Facts σ) (servers own : ℕ) (sheet : List ℕ
   zeros-again =
       ap (elementsOf (σ .width)) (sym (zeros-bytes (σ .width) (publishedIn cs)))
       ∙ elements-bytes (σ .width) (width-positive σ facts) (replicate (publishedIn cs) 0)
-      (all-zeros (256 ^ σ .width) (fits-bytes σ facts o sheet 0 (positive σ facts)) (publishedIn cs))
+      (all-zeros (256 ^ σ .width) (fits-bytes σ facts 0 (positive σ facts)) (publishedIn cs))
 
   totals-none : elementsOf (σ .width) (parts .totals) ≡ ledgerTotals σ o []
   unfolding ledgerTotals sumOver
@@ -148,8 +173,8 @@ module _ (σ : Setting) (facts : Facts σ) (servers own : ℕ) (sheet : List ℕ
       each [] = refl
       each (e ∷ l) = ap₂ (λ (a : ℕ) (b : List ℕ). a ∷ b) (sym (zero-mod (σ .modulus))) (each l)
 
-  pub opened-beside : Beside σ o sheet (openedTable σ servers own sheet returns buffer) empty
-  unfolding notesWith elementsOf Rattle.algebra.specs.Lists.tabulate
+  pub opened-beside : Beside σ o (openedTable σ servers own sheet returns B) empty
+  unfolding notesWith elementsOf tabulate
   opened-beside =
       let few = within-both 1 1024 returns (known-open .returns-fit) in
       record {
@@ -159,7 +184,6 @@ module _ (σ : Setting) (facts : Facts σ) (servers own : ℕ) (sheet : List ℕ
           reads = open-facts .reads;
           totals-long = length-replicate (σ .width * publishedIn cs) 0;
           ids-long = length-replicate (4 * returns) 0;
-          wait-long = length-replicate (waitLength σ cs) 0;
           returns-fit = omega (arith, few .1);
           sheet-fits = omega (arith, limited .bytes-most, limited .entries-most);
           decided-few = omega arith;
@@ -176,7 +200,8 @@ module _ (σ : Setting) (facts : Facts σ) (servers own : ℕ) (sheet : List ℕ
               ap (allBelow (σ .modulus)) zeros-again
               ∙ below-of-all (σ .modulus) _ (all-zeros (σ .modulus) (positive σ facts) (publishedIn cs));
         };
-        staged = (refl, refl);
+        staged = refl;
+        listed = none-listed σ o (B .elements) numbers-enough;
         room = omega (arith, few .0);
       }
 
@@ -185,24 +210,25 @@ module _ (σ : Setting) (facts : Facts σ) (𝓟 : Pool σ) (i : ℕ) (h : i < �
   abbrev S : ℕ
   S = 𝓟 .servers
 
-  opens-at : openRefusal σ S i (𝓟 .sheet) (𝓟 .returns) (length (𝓟 .buffers i)) ≡ 0
-  opens-at = 𝓟 .opens i h
-
   opened-at : Opens σ (openedAt σ 𝓟 i) (𝓟 .sheet)
-  opened-at = open-facts σ facts S i (𝓟 .sheet) (𝓟 .returns) (𝓟 .buffers i) opens-at
+  opened-at = open-facts σ facts S i (𝓟 .sheet) (𝓟 .returns) (𝓟 .buffers i) (𝓟 .opens i h)
 
-  begins : Beside σ (openedAt σ 𝓟 i) (𝓟 .sheet) (tableAt σ 𝓟 i) empty
-  begins = opened-beside σ facts S i (𝓟 .sheet) (𝓟 .returns) (𝓟 .buffers i) opens-at
+  begins : Beside σ (openedAt σ 𝓟 i) (tableAt σ 𝓟 i) empty
+  begins = opened-beside σ facts S i (𝓟 .sheet) (𝓟 .returns) (𝓟 .buffers i) (𝓟 .opens i h)
 
   many : length (publishedFrom 0 (columns σ 𝓟)) ≡ publishedIn (columns σ 𝓟)
-  many =
-      sheet-limits (𝓟 .sheet) (opening σ S i (𝓟 .sheet) (𝓟 .returns) (length (𝓟 .buffers i)) opens-at .no-fault) .published-count
+  many = limited σ facts S i (𝓟 .sheet) (𝓟 .returns) (𝓟 .buffers i) (𝓟 .opens i h) .published-count
+
+  -- whatever list of calls a table gets
+  pub tables-answer : (cs : List Call) → All BytesIn cs
+      → tableAnswers σ (tableAt σ 𝓟 i) cs ≡ ledgerAnswers σ (openedAt σ 𝓟 i) empty cs
+  tables-answer cs bytes =
+      answers-same σ facts (openedAt σ 𝓟 i) (𝓟 .sheet) opened-at many cs (tableAt σ 𝓟 i) empty begins bytes
 
   -- 1. EACH TABLE HANDS BACK WHAT THE LEDGER TELLS
   pub tables-tell : tableAnswers σ (tableAt σ 𝓟 i) (𝓟 .calls i) ≡ answersAt σ 𝓟 i
-  tables-tell =
-      answers-same σ facts (openedAt σ 𝓟 i) (𝓟 .sheet) opened-at many (𝓟 .calls i) (tableAt σ 𝓟 i) empty begins (𝓟 .call-bytes i h)
+  tables-tell = tables-answer (𝓟 .calls i) (𝓟 .call-bytes i h)
 
-  pub table-after : Beside σ (openedAt σ 𝓟 i) (𝓟 .sheet) (runTable σ (tableAt σ 𝓟 i) (𝓟 .calls i)) (ledgerAt σ 𝓟 i)
+  pub table-after : Beside σ (openedAt σ 𝓟 i) (runTable σ (tableAt σ 𝓟 i) (𝓟 .calls i)) (ledgerAt σ 𝓟 i)
   table-after =
       run-beside σ facts (openedAt σ 𝓟 i) (𝓟 .sheet) opened-at many (𝓟 .calls i) (tableAt σ 𝓟 i) empty begins (𝓟 .call-bytes i h)

@@ -1,24 +1,19 @@
--- A table as its parts, one behind another. Reading it at the places of the layout gives the parts back, since each part
--- has the length that the layout says. Assumes nothing.
-use mathlib.Core.Path.{_≡_, refl, sym, ap, ap₂, _∙_}
-use mathlib.Core.Bool.{cond}
-use mathlib.Core.List.{List, [], _∷_, _++_, append-assoc}
-use Prim.Native.Nat.{ℕ, zero, suc, _+_, _*_, _≤_, _<_}
+-- The bytes of a table as their pieces, one behind another. Reading them at the places of the layout gives the pieces back,
+-- since each has the length that the layout says. Assumes nothing.
+use mathlib.Core.Path.{_≡_, refl, sym, ap, _∙_}
+use mathlib.Core.List.{List, _∷_, _++_, append-assoc}
+use Prim.Native.Nat.{ℕ, _+_, _*_, _≤_, _<_}
 use native.Mathlib.Omega.{arith}
-use lib.Dec.{eqb}
-use lib.ListN.{length, getD, take, drop, length-append, length-drop}
-use lib.Seq.{take-at, drop-at, take-append-le, drop-append-le, drop-drop, drop-append-add}
-use Rattle.words.specs.Bytes.{valueOf, bytesOf, part, splice, elementsOf}
-use Rattle.words.proofs.Numbers.{value-bytes, length-bytes}
+use lib.ListN.{length, take, drop, length-append, length-drop}
+use lib.Seq.{take-at, take-append-le, drop-append-le, drop-append-add}
+use Rattle.words.specs.Bytes.{bytesOf, part}
+use Rattle.words.proofs.Numbers.{value-bytes}
 use Rattle.words.proofs.Splice.{part-of-drop}
 use Rattle.records.specs.Outcome.{ok}
 use Rattle.rules.specs.Settings.{Setting}
 use Rattle.rules.specs.Columns.{Column, readSheet, columnsOf, listIn, publishedIn}
-use Rattle.rules.specs.Judging.{shareSize}
-use Rattle.rules.specs.Server.{Opened, Waiting, Stage, idle, awaitsOne, awaitsTwo, closed, ServerState}
-use Rattle.rules.specs.Table.{waitLength, totalsPlace, idsPlace, waitPlace, sharePlace, tableLength, waitingIn, stageIn, openedIn, tableState}
-use Rattle.rules.specs.Table.{serversIn, ownIn, returnsIn, decidedIn, acceptedIn, sheetSize, sheetIn, columnsIn}
-use Rattle.rules.specs.Table.{stageByte, totalsIn, idsIn, wordIn}
+use Rattle.rules.specs.Table.{totalsPlace, idsPlace}
+use Rattle.rules.specs.Table.{returnsIn, decidedIn, acceptedIn, sheetSize, sheetIn, columnsIn}
 
 pub record Parts : Type 0 where
   pub stage : ℕ
@@ -30,7 +25,6 @@ pub record Parts : Type 0 where
   pub sheet : List ℕ
   pub totals : List ℕ
   pub ids : List ℕ
-  pub wait : List ℕ
   pub rest : List ℕ
 
 -- the first twelve bytes
@@ -43,25 +37,24 @@ header σ g =
     ∷ (bytesOf 2 (g .returns) ++ (bytesOf 2 (g .decided) ++ (bytesOf 2 (g .accepted) ++ bytesOf 2 (length (g .sheet)))))
 
 abbrev pub body : Parts → List ℕ
-body g = g .sheet ++ (g .totals ++ (g .ids ++ (g .wait ++ g .rest)))
+body g = g .sheet ++ (g .totals ++ (g .ids ++ g .rest))
 
 unfoldable pub assemble : Setting → Parts → List ℕ
 assemble σ g = header σ g ++ body g
 
 -- the parts have the lengths of the layout, and the counts fit their bytes
 pub record SizedAs (σ : Setting) (cs : List Column) (sheet : List ℕ) (returns decided accepted : ℕ)
-    (totals ids wait : List ℕ) : Type 0 where
+    (totals ids : List ℕ) : Type 0 where
   pub reads : readSheet sheet ≡ ok cs
   pub totals-long : length totals ≡ σ .width * publishedIn cs
   pub ids-long : length ids ≡ 4 * returns
-  pub wait-long : length wait ≡ waitLength σ cs
   pub returns-fit : returns < 65536
   pub sheet-fits : length sheet < 65536
   pub decided-few : decided ≤ returns
   pub accepted-few : accepted ≤ decided
 
 abbrev pub Sized : Setting → List Column → Parts → Type 0
-Sized σ cs g = SizedAs σ cs (g .sheet) (g .returns) (g .decided) (g .accepted) (g .totals) (g .ids) (g .wait)
+Sized σ cs g = SizedAs σ cs (g .sheet) (g .returns) (g .decided) (g .accepted) (g .totals) (g .ids)
 
 -- a part within a list, by its place
 pub part-within : (a x b : List ℕ) (i n : ℕ) → i + n ≤ length x → part (length a + i) n (a ++ (x ++ b)) ≡ part i n x
@@ -118,24 +111,14 @@ module _ (σ : Setting) (cs : List Column) (g : Parts) (z : Sized σ cs g) where
   part-totals i n h =
       ap (λ (k : ℕ). part k n T) (let e : 12 + length (g .sheet) + i ≡ 12 + (length (g .sheet) + i) = omega arith in e)
       ∙ part-body (length (g .sheet) + i) n
-      ∙ part-within (g .sheet) (g .totals) (g .ids ++ (g .wait ++ g .rest)) i n h
+      ∙ part-within (g .sheet) (g .totals) (g .ids ++ g .rest) i n h
 
-  -- where the ids and the return that waits begin, behind the header
+  -- where the ids begin, behind the header
   pub ids-at : length (g .sheet ++ g .totals) ≡ length (g .sheet) + σ .width * publishedIn cs
   ids-at = length-append (g .sheet) (g .totals) ∙ ap (length (g .sheet) +_) (z .totals-long)
 
-  pub wait-at : length (g .sheet ++ (g .totals ++ g .ids)) ≡ length (g .sheet) + (σ .width * publishedIn cs + 4 * g .returns)
-  wait-at =
-      length-append (g .sheet) (g .totals ++ g .ids)
-      ∙ ap (length (g .sheet) +_) (length-append (g .totals) (g .ids) ∙ ap₂ _+_ (z .totals-long) (z .ids-long))
-
-  pub ids-body : body g ≡ (g .sheet ++ g .totals) ++ (g .ids ++ (g .wait ++ g .rest))
-  ids-body = sym (append-assoc (g .sheet) (g .totals) (g .ids ++ (g .wait ++ g .rest)))
-
-  pub wait-body : body g ≡ (g .sheet ++ (g .totals ++ g .ids)) ++ (g .wait ++ g .rest)
-  wait-body =
-      ap (g .sheet ++_) (sym (append-assoc (g .totals) (g .ids) (g .wait ++ g .rest)))
-      ∙ sym (append-assoc (g .sheet) (g .totals ++ g .ids) (g .wait ++ g .rest))
+  pub ids-body : body g ≡ (g .sheet ++ g .totals) ++ (g .ids ++ g .rest)
+  ids-body = sym (append-assoc (g .sheet) (g .totals) (g .ids ++ g .rest))
 
   pub part-ids : (i n : ℕ) → i + n ≤ length (g .ids)
       → part (idsPlace σ (length (g .sheet)) cs (g .returns) + i) n T ≡ part i n (g .ids)
@@ -146,15 +129,4 @@ module _ (σ : Setting) (cs : List Column) (g : Parts) (z : Sized σ cs g) where
       ap (λ (k : ℕ). part k n T) e
       ∙ part-body (length (g .sheet ++ g .totals) + i) n
       ∙ ap (part (length (g .sheet ++ g .totals) + i) n) ids-body
-      ∙ part-within (g .sheet ++ g .totals) (g .ids) (g .wait ++ g .rest) i n h
-
-  pub part-wait : (i n : ℕ) → i + n ≤ length (g .wait)
-      → part (waitPlace σ (length (g .sheet)) cs (g .returns) + i) n T ≡ part i n (g .wait)
-  unfolding waitPlace
-  part-wait i n h =
-      let e : 12 + length (g .sheet) + σ .width * publishedIn cs + 4 * g .returns + i
-      ≡ 12 + (length (g .sheet ++ (g .totals ++ g .ids)) + i) = omega (arith, wait-at) in
-      ap (λ (k : ℕ). part k n T) e
-      ∙ part-body (length (g .sheet ++ (g .totals ++ g .ids)) + i) n
-      ∙ ap (part (length (g .sheet ++ (g .totals ++ g .ids)) + i) n) wait-body
-      ∙ part-within (g .sheet ++ (g .totals ++ g .ids)) (g .wait) (g .rest) i n h
+      ∙ part-within (g .sheet ++ g .totals) (g .ids) (g .rest) i n h

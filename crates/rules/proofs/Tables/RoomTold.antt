@@ -5,7 +5,6 @@ use mathlib.Core.Bool.{true}
 use mathlib.Core.List.{List, [], _∷_}
 use Prim.Native.Nat.{ℕ, _+_, _*_, _≤_, _<_}
 use native.Mathlib.Omega.{arith}
-use borrow.Author.Tests.{le-leb}
 use Rattle.algebra.specs.Lists.{sumOver}
 use Rattle.records.specs.Outcome.{ok, orElse}
 use Rattle.rules.specs.Settings.{Setting, Facts}
@@ -16,7 +15,7 @@ use Rattle.rules.specs.Circuit.{constantsIn, addsIn, scalesIn, gatesIn}
 use Rattle.rules.specs.CircuitReader.{stepWires, stepGates, stepTests, circuitFault, countIn, sheetCircuit}
 use Rattle.rules.specs.Making.{shareLength}
 use Rattle.rules.specs.Server.{openFault}
-use Rattle.rules.specs.Table.{openLength, openRefusal}
+use Rattle.rules.specs.Table.{openRoom, openRefusal}
 use Rattle.rules.specs.Sizes.{sizesOf, greatestUpTo, ToldFromSheet, RoomTold}
 use Rattle.rules.proofs.Circuits.Limits.{within-both, within-is}
 use Rattle.rules.proofs.Circuits.Counts.{circuit-counts}
@@ -24,7 +23,7 @@ use Rattle.rules.proofs.Circuits.Size.{circuit-size-is}
 use Rattle.rules.proofs.Circuits.ReadBack as back
 use Rattle.rules.proofs.Circuits.Refusals.{sheet-read}
 use Rattle.rules.proofs.Histories.ShareBytes.{length-share}
-use Rattle.rules.proofs.Tables.Opens.{opening}
+use Rattle.rules.proofs.Histories.Opening.{opening}
 use Rattle.rules.proofs.Tables.Greatest.{fits-largest, largest-fits, greatest-most, greatest-reached, fewer-fit}
 
 -- kinds 1 to 5 make a wire each
@@ -59,23 +58,23 @@ module _ (σ : Setting) (facts : Facts σ) (sheet : List ℕ) (no-fault : sheetF
   counted f = rw (back.circuit-is-read σ facts sheet cs is-read) refl
 
   -- ---- opening
-  module _ (servers own returns room : ℕ) (S-fits : serversFault servers ≡ 0) (own-fits : ownFault servers own ≡ 0)
-      (enough : openLength σ sheet returns ≤ room) where
-    opens-few : openRefusal σ servers own sheet returns room ≡ 0
+  module _ (servers own returns room records numbers : ℕ) (S-fits : serversFault servers ≡ 0) (own-fits : ownFault servers own ≡ 0)
+      (enough : openRoom σ sheet returns room records numbers ≡ true) where
+    opens-few : openRefusal σ servers own sheet returns room records numbers ≡ 0
         → (1 ≤ returns) × (returns ≤ greatestUpTo σ cs mostReturns)
     opens-few e =
-        let o = opening σ servers own sheet returns room e in
+        let o = opening σ servers own sheet returns room records numbers e in
         let n = within-both 1 mostReturns returns (o .returns-fit) in
         (n .0, greatest-reached σ some cs mostReturns returns (n .1) (fits-largest σ some returns cs (o .totals-fit)))
 
     few-opens : (1 ≤ returns) × (returns ≤ greatestUpTo σ cs mostReturns)
-        → openRefusal σ servers own sheet returns room ≡ 0
+        → openRefusal σ servers own sheet returns room records numbers ≡ 0
     unfolding openRefusal openFault orElse
     few-opens h =
         let l = greatest-most σ some cs mostReturns in
         let n : within 1 mostReturns returns ≡ true = within-is 1 mostReturns returns (h .0) (omega (arith, h .1)) in
         let t : totalsFit σ returns cs ≡ true = largest-fits σ some returns cs (fewer-fit σ some cs mostReturns returns (h .1)) in
-        rw (S-fits, own-fits, no-fault, n, t, le-leb (openLength σ sheet returns) room enough) refl
+        rw (S-fits, own-fits, no-fault, n, t, enough) refl
 
   told-from-sheet : ToldFromSheet σ sheet
   unfolding sizesOf shareLength sheetCircuit
@@ -88,7 +87,7 @@ module _ (σ : Setting) (facts : Facts σ) (sheet : List ℕ) (no-fault : sheetF
     share-bytes-are = λ id server xs e. length-share σ id server xs ∙ ap (λ n. 6 + σ .width * n) e;
     greatest-most = greatest-most σ some cs mostReturns;
     greatest-opens =
-        λ S own N room a b c. (opens-few S own N room a b c, few-opens S own N room a b c);
+        λ S own N room records numbers a b c. (opens-few S own N room records numbers a b c, few-opens S own N room records numbers a b c);
   }
 
 pub room-told : (σ : Setting) → Facts σ → RoomTold σ

@@ -1,19 +1,18 @@
--- What each call writes into a table, by its parts: a run of bytes put at a place of the layout falls into one part.
+-- What each call writes into a table's bytes, by their pieces: a run put at a place of the layout falls into one piece.
 -- Assumes nothing.
 use mathlib.Core.Path.{_≡_, refl, sym, ap, ap₂, _∙_}
-use mathlib.Core.Bool.{Bool, true, false, cond}
 use mathlib.Core.List.{List, [], _∷_, _++_, append-assoc}
-use Prim.Native.Nat.{ℕ, zero, suc, _+_, _*_, _≤_, _<_}
+use Prim.Native.Nat.{ℕ, _+_, _*_, _≤_}
 use native.Mathlib.Nat.{add-zero}
 use native.Mathlib.Omega.{arith}
-use lib.ListN.{length, getD, take, drop, length-append}
+use lib.ListN.{length, take, drop}
 use lib.Seq.{take-append-add, drop-append-add, take-append-le, drop-append-le}
-use Rattle.words.specs.Bytes.{bytesOf, bytesOfAll, splice}
+use Rattle.words.specs.Bytes.{bytesOf, splice}
 use Rattle.words.proofs.Splice.{splice-all}
 use Rattle.rules.specs.Settings.{Setting}
 use Rattle.rules.specs.Columns.{Column, publishedIn}
-use Rattle.rules.specs.Table.{waitLength, totalsPlace, idsPlace, waitPlace, staged}
-use Rattle.rules.proofs.Tables.Parts.{Parts, Sized, header, body, assemble, ids-at, wait-at, ids-body, wait-body}
+use Rattle.rules.specs.Table.{totalsPlace, idsPlace}
+use Rattle.rules.proofs.Tables.Parts.{Parts, Sized, header, body, assemble, ids-at, ids-body}
 
 -- a run of bytes put within the middle of three lists
 pub splice-within : (a x b ys : List ℕ) (i : ℕ) → i + length ys ≤ length x
@@ -28,7 +27,7 @@ splice-within a x b ys i h =
     ∙ drop-append-le (i + length ys) x b h in
     ap₂ (λ (u v : List ℕ). u ++ ys ++ v) front back ∙ simp append-assoc
 
--- parts with one of them changed
+-- the pieces with some of them changed
 abbrev pub setStage : ℕ → Parts → Parts
 setStage b g = record {
   stage = b;
@@ -40,7 +39,6 @@ setStage b g = record {
   sheet = g .sheet;
   totals = g .totals;
   ids = g .ids;
-  wait = g .wait;
   rest = g .rest;
 }
 
@@ -55,13 +53,12 @@ setCounts d a g = record {
   sheet = g .sheet;
   totals = g .totals;
   ids = g .ids;
-  wait = g .wait;
   rest = g .rest;
 }
 
--- the totals, the ids and the return that waits
-abbrev pub setRuns : List ℕ → List ℕ → List ℕ → Parts → Parts
-setRuns totals ids wait g = record {
+-- the totals and the ids
+abbrev pub setRuns : List ℕ → List ℕ → Parts → Parts
+setRuns totals ids g = record {
   stage = g .stage;
   servers = g .servers;
   own = g .own;
@@ -71,22 +68,7 @@ setRuns totals ids wait g = record {
   sheet = g .sheet;
   totals = totals;
   ids = ids;
-  wait = wait;
   rest = g .rest;
-}
-
--- the sizes stay where the bytes of the return that waits change
-pub waits-sized : (σ : Setting) (cs : List Column) (g : Parts) → Sized σ cs g → (wait : List ℕ) → length wait ≡ waitLength σ cs
-    → Sized σ cs (setRuns (g .totals) (g .ids) wait g)
-waits-sized σ cs g z wait h = record {
-  reads = z .reads;
-  totals-long = z .totals-long;
-  ids-long = z .ids-long;
-  wait-long = h;
-  returns-fit = z .returns-fit;
-  sheet-fits = z .sheet-fits;
-  decided-few = z .decided-few;
-  accepted-few = z .accepted-few;
 }
 
 module _ (σ : Setting) (g : Parts) where
@@ -111,18 +93,18 @@ module _ (σ : Setting) (g : Parts) where
 module _ (σ : Setting) (cs : List Column) (g : Parts) (z : Sized σ cs g) where
   pub put-totals : (ys : List ℕ) → length ys ≡ length (g .totals)
       → splice (assemble σ g) (totalsPlace σ (length (g .sheet)) cs (g .returns)) ys
-      ≡ assemble σ (setRuns ys (g .ids) (g .wait) g)
+      ≡ assemble σ (setRuns ys (g .ids) g)
   unfolding totalsPlace assemble
   put-totals ys h =
       put-body σ g (length (g .sheet)) ys
       ∙ ap (header σ g ++_)
       (ap (λ (k : ℕ). splice (body g) k ys) (sym (add-zero (length (g .sheet))))
-      ∙ splice-within (g .sheet) (g .totals) (g .ids ++ (g .wait ++ g .rest)) ys 0 (omega arith)
-      ∙ ap (λ (t : List ℕ). g .sheet ++ (t ++ (g .ids ++ (g .wait ++ g .rest)))) (splice-all (g .totals) ys h))
+      ∙ splice-within (g .sheet) (g .totals) (g .ids ++ g .rest) ys 0 (omega arith)
+      ∙ ap (λ (t : List ℕ). g .sheet ++ (t ++ (g .ids ++ g .rest))) (splice-all (g .totals) ys h))
 
   pub put-ids : (i : ℕ) (ys : List ℕ) → i + length ys ≤ length (g .ids)
       → splice (assemble σ g) (idsPlace σ (length (g .sheet)) cs (g .returns) + i) ys
-      ≡ assemble σ (setRuns (g .totals) (splice (g .ids) i ys) (g .wait) g)
+      ≡ assemble σ (setRuns (g .totals) (splice (g .ids) i ys) g)
   unfolding idsPlace assemble
   put-ids i ys h =
       let before = g .sheet ++ g .totals in
@@ -132,22 +114,5 @@ module _ (σ : Setting) (cs : List Column) (g : Parts) (z : Sized σ cs g) where
       ∙ put-body σ g (length before + i) ys
       ∙ ap (header σ g ++_)
       (ap (λ (t : List ℕ). splice t (length before + i) ys) (ids-body σ cs g z)
-      ∙ splice-within before (g .ids) (g .wait ++ g .rest) ys i h
-      ∙ append-assoc (g .sheet) (g .totals) (splice (g .ids) i ys ++ (g .wait ++ g .rest)))
-
-  pub put-wait : (i : ℕ) (ys : List ℕ) → i + length ys ≤ length (g .wait)
-      → splice (assemble σ g) (waitPlace σ (length (g .sheet)) cs (g .returns) + i) ys
-      ≡ assemble σ (setRuns (g .totals) (g .ids) (splice (g .wait) i ys) g)
-  unfolding waitPlace assemble
-  put-wait i ys h =
-      let before = g .sheet ++ (g .totals ++ g .ids) in
-      let after = splice (g .wait) i ys ++ g .rest in
-      let place : 12 + length (g .sheet) + σ .width * publishedIn cs + 4 * g .returns + i ≡ 12 + (length before + i)
-      = omega (arith, wait-at σ cs g z) in
-      ap (λ (k : ℕ). splice (assemble σ g) k ys) place
-      ∙ put-body σ g (length before + i) ys
-      ∙ ap (header σ g ++_)
-      (ap (λ (t : List ℕ). splice t (length before + i) ys) (wait-body σ cs g z)
-      ∙ splice-within before (g .wait) (g .rest) ys i h
-      ∙ append-assoc (g .sheet) (g .totals ++ g .ids) after
-      ∙ ap (g .sheet ++_) (append-assoc (g .totals) (g .ids) after))
+      ∙ splice-within before (g .ids) (g .rest) ys i h
+      ∙ append-assoc (g .sheet) (g .totals) (splice (g .ids) i ys ++ g .rest))

@@ -1,9 +1,12 @@
--- `share_checks::last_refusal` meets its contract: the ids decided, the pair and the room are tested in turn (`last-used` and so
--- on). Assumes nothing.
-use Rattle.share_checks.proofs.Faults.{last-used, last-pair, last-short, last-none}
+-- `share_checks::last_refusal` meets its contract: the ids decided, those that wait, the pair and the room are tested in turn
+-- (`last-used` and so on). Assumes nothing.
+use Rattle.share_checks.proofs.Faults.{last-used, last-waits, last-pair, last-short, last-none}
 use borrow.Author.Needs.{needs}
 use Rattle.share_checks.proofs.last_refusal.Statement.{statement}
 use Rattle.share_checks.proofs.last_refusal.Tie as tie
+
+abbrev entry : tie.After-has-id → tie.Start
+entry u = u .before .before .before .before .before .before .before
 
 ids-place-requires : tie.Need-ids-place-requires
 ids-place-requires c κs = search needs
@@ -17,6 +20,9 @@ mul-end c = search needs
 add-end : tie.Need-add-end
 add-end c = search needs
 
+id-of-requires : tie.Need-id-of-requires
+id-of-requires c κs = search needs
+
 sub-has-id : tie.Need-sub-has-id
 sub-has-id c = search needs
 
@@ -26,53 +32,73 @@ part-has-id-start c = search needs
 part-has-id-end : tie.Need-part-has-id-end
 part-has-id-end c = search needs
 
-id-of-requires : tie.Need-id-of-requires
-id-of-requires c κs = search needs
-
 has-id-requires : tie.Need-has-id-requires
 has-id-requires c κs = search needs
 
 returns : tie.Need-returns
 returns c =
-    let a = c .before .before .before .before .before .before .before .before .args in
-    let i = c .before .before .before .before .before .ids-place in
-    let d = c .before .before .id-of in
-    let h = c .before .has-id in
-    last-used (a .t .now) (a .k) (a .m .now) (a .r) (a .s) (a .room) (i .result) (d .result) (i .ensures) (d .ensures) (h .result)
-    (h .ensures) (c .if1 .taken)
+    let u = c .before in
+    let a = entry u .args in
+    let d = u .before .before in
+    let i = d .before .before in
+    last-used (a .t .now) (a .k) (a .list) (a .m .now) (a .r) (a .s) (a .room) (i .ids-place .result) (d .id-of .result)
+    (i .ids-place .ensures) (d .id-of .ensures) (u .has-id .result) (u .has-id .ensures) (c .if1 .taken)
+
+place-of-requires : tie.Need-place-of-requires
+place-of-requires c κs = search needs
+
+returns-2 : tie.Need-returns-2
+returns-2 c =
+    let p = c .before in
+    let u = p .before .before in
+    let a = entry u .args in
+    let d = u .before .before in
+    let i = d .before .before in
+    last-waits (a .t .now) (a .k) (a .list) (a .m .now) (a .r) (a .s) (a .room) (i .ids-place .result) (d .id-of .result)
+    (i .ids-place .ensures) (d .id-of .ensures) (u .has-id .result) (u .has-id .ensures) (p .before .if1 .left)
+    (p .place-of .result) (p .place-of .ensures) (c .if2 .taken)
 
 pair-sound-requires : tie.Need-pair-sound-requires
 pair-sound-requires c κs = search needs
 
-returns-2 : tie.Need-returns-2
-returns-2 c =
-    let a = c .before .before .before .before .before .before .before .before .before .before .args in
-    let i = c .before .before .before .before .before .before .before .ids-place in
-    let d = c .before .before .before .before .id-of in
-    let h = c .before .before .before .has-id in
-    let p = c .before .pair-sound in
-    last-pair (a .t .now) (a .k) (a .m .now) (a .r) (a .s) (a .room) (i .result) (d .result) (i .ensures) (d .ensures) (h .result)
-    (h .ensures) (c .before .before .if1 .left) (p .result) (p .ensures) (c .if2 .taken)
-
 returns-3 : tie.Need-returns-3
 returns-3 c =
-    let a = c .before .before .before .before .before .before .before .before .before .before .before .args in
-    let i = c .before .before .before .before .before .before .before .before .ids-place in
-    let d = c .before .before .before .before .before .id-of in
-    let h = c .before .before .before .before .has-id in
-    let p = c .before .before .pair-sound in
-    last-short (a .t .now) (a .k) (a .m .now) (a .r) (a .s) (a .room) (i .result) (d .result) (i .ensures) (d .ensures) (h .result)
-    (h .ensures) (c .before .before .before .if1 .left) (p .result) (p .ensures) (c .before .if2 .left) (c .if3 .taken)
+    let q = c .before in
+    let p = q .before .before in
+    let u = p .before .before in
+    let a = entry u .args in
+    let d = u .before .before in
+    let i = d .before .before in
+    last-pair (a .t .now) (a .k) (a .list) (a .m .now) (a .r) (a .s) (a .room) (i .ids-place .result) (d .id-of .result)
+    (i .ids-place .ensures) (d .id-of .ensures) (u .has-id .result) (u .has-id .ensures) (p .before .if1 .left)
+    (p .place-of .result) (p .place-of .ensures) (q .before .if2 .left) (q .pair-sound .result) (q .pair-sound .ensures)
+    (c .if3 .taken)
 
 returns-4 : tie.Need-returns-4
 returns-4 c =
-    let a = c .before .before .before .before .before .before .before .before .before .before .before .args in
-    let i = c .before .before .before .before .before .before .before .before .ids-place in
-    let d = c .before .before .before .before .before .id-of in
-    let h = c .before .before .before .before .has-id in
-    let p = c .before .before .pair-sound in
-    last-none (a .t .now) (a .k) (a .m .now) (a .r) (a .s) (a .room) (i .result) (d .result) (i .ensures) (d .ensures) (h .result)
-    (h .ensures) (c .before .before .before .if1 .left) (p .result) (p .ensures) (c .before .if2 .left) (c .if3 .left)
+    let q = c .before .before in
+    let p = q .before .before in
+    let u = p .before .before in
+    let a = entry u .args in
+    let d = u .before .before in
+    let i = d .before .before in
+    last-short (a .t .now) (a .k) (a .list) (a .m .now) (a .r) (a .s) (a .room) (i .ids-place .result) (d .id-of .result)
+    (i .ids-place .ensures) (d .id-of .ensures) (u .has-id .result) (u .has-id .ensures) (p .before .if1 .left)
+    (p .place-of .result) (p .place-of .ensures) (q .before .if2 .left) (q .pair-sound .result) (q .pair-sound .ensures)
+    (c .before .if3 .left) (c .if4 .taken)
+
+returns-5 : tie.Need-returns-5
+returns-5 c =
+    let q = c .before .before in
+    let p = q .before .before in
+    let u = p .before .before in
+    let a = entry u .args in
+    let d = u .before .before in
+    let i = d .before .before in
+    last-none (a .t .now) (a .k) (a .list) (a .m .now) (a .r) (a .s) (a .room) (i .ids-place .result) (d .id-of .result)
+    (i .ids-place .ensures) (d .id-of .ensures) (u .has-id .result) (u .has-id .ensures) (p .before .if1 .left)
+    (p .place-of .result) (p .place-of .ensures) (q .before .if2 .left) (q .pair-sound .result) (q .pair-sound .ensures)
+    (c .before .if3 .left) (c .if4 .left)
 
 pub last-refusal-spec : {M : Type 1} → statement M
 last-refusal-spec =
@@ -82,13 +108,15 @@ last-refusal-spec =
     cast-end
     mul-end
     add-end
+    id-of-requires
     sub-has-id
     part-has-id-start
     part-has-id-end
-    id-of-requires
     has-id-requires
     returns
-    pair-sound-requires
+    place-of-requires
     returns-2
+    pair-sound-requires
     returns-3
-    returns-4)
+    returns-4
+    returns-5)

@@ -23,16 +23,16 @@ returns-2 c =
     let h = c .before .before .before in
     let p = h .before .before .before in
     let a = p .args in
-    message-sound (a .size) (a .own) (a .m .now) (rw (h .header-refusal .ensures) at (c .before .before .if1 .left)) (a .x .now) (p .pre .1)
-    (sym (c .before .below .ensures) ∙ c .if2 .taken)
+    message-sound (a .size) (a .own) (a .m .now) (rw (h .header-refusal .ensures) at (c .before .before .if1 .left)) (a .x .now)
+    (p .pre .1) (sym (c .before .below .ensures) ∙ c .if2 .taken)
 
 returns-3 : tie.Need-returns-3
 returns-3 c =
     let h = c .before .before .before in
     let p = h .before .before .before in
     let a = p .args in
-    message-over (a .size) (a .own) (a .m .now) (rw (h .header-refusal .ensures) at (c .before .before .if1 .left)) (a .x .now) (p .pre .1)
-    (sym (c .before .below .ensures) ∙ c .if2 .left)
+    message-over (a .size) (a .own) (a .m .now) (rw (h .header-refusal .ensures) at (c .before .before .if1 .left)) (a .x .now)
+    (p .pre .1) (sym (c .before .below .ensures) ∙ c .if2 .left)
 
 pub message-refusal-spec : {M : Type 1} → statement M
 message-refusal-spec =

@@ -1,10 +1,15 @@
 -- `share_checks::share_refusal` meets its contract: the table and the message decide, and where they do not the rest does
--- (`refused-first`, `refused-last`). Assumes nothing.
-use mathlib.Core.Path.{_∙_}
+-- (`refused-first`, `refused-last`), whatever the numbers are. Assumes nothing.
 use Rattle.share_checks.proofs.Refusing.{refused-first, refused-last, fitting}
 use borrow.Author.Needs.{needs}
 use Rattle.share_checks.proofs.share_refusal.Statement.{statement}
 use Rattle.share_checks.proofs.share_refusal.Tie as tie
+
+abbrev entry : tie.After-count → tie.Start
+entry u = u .before .before .before .before
+
+count-requires : tie.Need-count-requires
+count-requires c κs = search needs
 
 start-refusal-requires : tie.Need-start-refusal-requires
 start-refusal-requires c κs = search needs
@@ -13,9 +18,7 @@ share-size-requires : tie.Need-share-size-requires
 share-size-requires c κs = search needs
 
 message-refusal-requires : tie.Need-message-refusal-requires
-message-refusal-requires c κs =
-    let p = c .before .before .before .before .before in
-    (search needs, rw (c .share-size .ensures) (p .pre .1))
+message-refusal-requires c κs = (search needs, rw (c .share-size .ensures) (entry (c .before .before) .pre .1))
 
 or-else-requires : tie.Need-or-else-requires
 or-else-requires c κs = search needs
@@ -26,11 +29,12 @@ returns c =
     let y = n .before in
     let z = y .before in
     let x = z .before in
-    let p = x .before .before .before .before in
+    let w = x .before in
+    let p = entry w in
     let a = p .args in
-    refused-first (a .t .now) (a .m .now) (a .r) (a .s) (a .room) (a .k) (p .pre .0) (x .start-refusal .result) (z .share-size .result)
-    (y .message-refusal .result) (n .or-else .result) (x .start-refusal .ensures) (z .share-size .ensures)
-    (y .message-refusal .ensures) (n .or-else .ensures) (c .if1 .taken)
+    refused-first (a .t .now) (a .list) (a .m .now) (a .r) (a .s) (a .room) (a .k) (p .pre .0) (w .count .result)
+    (x .start-refusal .result) (z .share-size .result) (y .message-refusal .result) (n .or-else .result) (w .count .ensures)
+    (x .start-refusal .ensures) (z .share-size .ensures) (y .message-refusal .ensures) (n .or-else .ensures) (c .if1 .taken)
 
 last-refusal-requires : tie.Need-last-refusal-requires
 last-refusal-requires c κs =
@@ -38,11 +42,12 @@ last-refusal-requires c κs =
     let y = n .before in
     let z = y .before in
     let x = z .before in
-    let p = x .before .before .before .before in
+    let w = x .before in
+    let p = entry w in
     let a = p .args in
-    fitting (a .t .now) (a .m .now) (a .r) (a .s) (a .room) (a .k) (p .pre .0) (x .start-refusal .result) (z .share-size .result)
-    (y .message-refusal .result) (n .or-else .result) (x .start-refusal .ensures) (z .share-size .ensures)
-    (y .message-refusal .ensures) (n .or-else .ensures) (c .if1 .left)
+    fitting (a .t .now) (a .list) (a .m .now) (a .r) (a .s) (a .room) (a .k) (p .pre .0) (w .count .result)
+    (x .start-refusal .result) (z .share-size .result) (y .message-refusal .result) (n .or-else .result) (w .count .ensures)
+    (x .start-refusal .ensures) (z .share-size .ensures) (y .message-refusal .ensures) (n .or-else .ensures) (c .if1 .left)
 
 returns-2 : tie.Need-returns-2
 returns-2 c =
@@ -50,17 +55,19 @@ returns-2 c =
     let y = n .before in
     let z = y .before in
     let x = z .before in
-    let p = x .before .before .before .before in
+    let w = x .before in
+    let p = entry w in
     let a = p .args in
-    c .last-refusal .ensures
-    ∙ refused-last (a .t .now) (a .m .now) (a .r) (a .s) (a .room) (a .k) (p .pre .0) (x .start-refusal .result) (z .share-size .result)
-    (y .message-refusal .result) (n .or-else .result) (x .start-refusal .ensures) (z .share-size .ensures)
-    (y .message-refusal .ensures) (n .or-else .ensures) (c .before .if1 .left)
+    refused-last (a .t .now) (a .list) (a .m .now) (a .r) (a .s) (a .room) (a .k) (p .pre .0) (w .count .result)
+    (x .start-refusal .result) (z .share-size .result) (y .message-refusal .result) (n .or-else .result) (w .count .ensures)
+    (x .start-refusal .ensures) (z .share-size .ensures) (y .message-refusal .ensures) (n .or-else .ensures) (c .before .if1 .left)
+    (c .last-refusal .result) (c .last-refusal .ensures)
 
 pub share-refusal-spec : {M : Type 1} → statement M
 share-refusal-spec =
     tie.close
     (tie.spec
+    count-requires
     start-refusal-requires
     share-size-requires
     message-refusal-requires

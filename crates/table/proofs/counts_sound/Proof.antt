@@ -9,7 +9,7 @@ use lib.ListN.{length}
 use Rattle.rules.specs.Settings.{document01}
 use Rattle.rules.specs.Columns.{totalsFit}
 use Rattle.rules.specs.Table.{columnsIn}
-use Rattle.waiting.specs.Places.{lengthOf}
+use Rattle.table.specs.Reading.{lengthOf}
 use Rattle.table.proofs.Judged.{cut-reads, fits, fits-not, counts-unfit, counts-short, counts-over, counts-but}
 use borrow.Author.Needs.{needs}
 use Rattle.table.proofs.counts_sound.Statement.{statement}
@@ -47,7 +47,7 @@ returns c =
     let x = c .before in
     let k = given x .args .k in
     let r = x .returns-refusal in
-    counts-unfit k (bytes x)
+    counts-unfit k (given x .args .waiting) (bytes x)
     (fits-not (bytes x) k (given x .pre) _ (x .before .sheet-part .ensures) (r .result) (r .ensures) (c .if1 .taken))
 
 length-requires : tie.Need-length-requires
@@ -56,35 +56,34 @@ length-requires c κs = search needs
 returns-2 : tie.Need-returns-2
 returns-2 c =
     let one = c .before .before in
-    counts-short (given (one .before) .args .k) (bytes (one .before)) (totals-fit one)
+    counts-short (given (one .before) .args .k) (given (one .before) .args .waiting) (bytes (one .before)) (totals-fit one)
     (omega (arith, c .if2 .taken, c .before .length .ensures))
 
 returns-3 : tie.Need-returns-3
 returns-3 c =
     let two = c .before .before in
     let one = two .before .before in
-    counts-over (given (one .before) .args .k) (bytes (one .before)) (totals-fit one) (long-enough two)
-    (omega (arith, c .if3 .taken))
-
-count-requires : tie.Need-count-requires
-count-requires c κs = search needs
+    let a = given (one .before) .args in
+    counts-over (a .k) (a .waiting) (a .t .now) (totals-fit one) (long-enough two) (omega (arith, c .if3 .taken))
 
 returns-4 : tie.Need-returns-4
 returns-4 c =
-    let three = c .before .before .before in
+    let three = c .before .before in
     let two = three .before .before in
     let one = two .before .before in
-    counts-over (given (one .before) .args .k) (bytes (one .before)) (totals-fit one) (long-enough two)
-    (omega (arith, c .if4 .taken, c .before .count .ensures, three .if3 .left))
+    let a = given (one .before) .args in
+    counts-over (a .k) (a .waiting) (a .t .now) (totals-fit one) (long-enough two)
+    (omega (arith, c .if4 .taken, three .if3 .left))
 
 returns-5 : tie.Need-returns-5
 returns-5 c =
     let four = c .before in
-    let three = four .before .before .before in
+    let three = four .before .before in
     let two = three .before .before in
     let one = two .before .before in
-    counts-but (given (one .before) .args .k) (bytes (one .before)) (totals-fit one) (long-enough two)
-    (omega (arith, four .if4 .left, four .before .count .ensures, three .if3 .left))
+    let a = given (one .before) .args in
+    counts-but (a .k) (a .waiting) (a .t .now) (totals-fit one) (long-enough two)
+    (omega (arith, four .if4 .left, three .if3 .left))
 
 pub counts-sound-spec : {M : Type 1} → statement M
 counts-sound-spec =
@@ -96,6 +95,5 @@ counts-sound-spec =
     length-requires
     returns-2
     returns-3
-    count-requires
     returns-4
     returns-5)

@@ -2,51 +2,59 @@
 -- part that fails, or none, decides what is found (`found-counts` and so on). Assumes nothing.
 use mathlib.Core.Path.{_≡_, sym, _∙_}
 use mathlib.Core.Bool.{true}
-use mathlib.Core.List.{List}
-use Prim.Native.Nat.{ℕ}
-use borrow.Author.Tests.{not-true, not-false}
-use Rattle.layout.specs.declared.Table.{Table}
-use Rattle.rules.specs.Settings.{document01}
-use Rattle.rules.specs.Table.{waitingSound}
-use Rattle.table.specs.Reading.{countsSoundAt, totalsSoundAt, Headed, foundIn}
-use Rattle.table.proofs.Answers.{foundBy, headed, whole, stands}
-use Rattle.table.proofs.Answers.{found-headless, found-counts, found-totals, found-quiet, found-waiting}
+use native.Mathlib.Omega.{arith}
 use borrow.Author.Needs.{needs}
+use borrow.Author.Tests.{not-true, not-false}
+use lib.ListN.{length}
+use Rattle.rules.specs.Table.{Lent}
+use Rattle.rules.specs.WaitingList.{waitingCount}
+use Rattle.layout.specs.declared.Table.{Table}
+use Rattle.waiting.specs.Changes.{lent}
+use Rattle.table.specs.Reading.{countsSoundAt, totalsSoundAt, Headed, foundIn}
+use Rattle.table.proofs.Answers.{foundBy, recordsKeep, headed, whole}
+use Rattle.table.proofs.Answers.{found-headless, found-counts, found-totals, found-records}
 use Rattle.table.proofs.read.Statement.{statement}
 use Rattle.table.proofs.read.Tie as tie
 
-abbrev bytes : tie.After-k → List ℕ
-bytes u = u .before .before .before .before .args .t .now
+abbrev given : tie.After-k → tie.Start
+given u = u .before .before .before .before .before
+
+abbrev three : tie.After-k → Lent
+three u = let a = given u .args in lent (a .t .now) (a .list) (a .numbers .now)
 
 abbrev table : tie.After-k → Table
 table u = u .k .given .0 .0
 
 -- ---- what is known past each test
-header : (u : tie.After-k) → Headed (bytes u) (table u)
-header u = headed (bytes u) _ (sym (u .before .before .head .ensures) ∙ u .k .given .1)
+header : (u : tie.After-k) → Headed (three u .bytes) (table u)
+header u = headed (three u .bytes) _ (sym (u .before .before .head .ensures) ∙ u .k .given .1)
 
-abbrev first : tie.Else1 → tie.After-k
+abbrev first : tie.After-counts-sound → tie.After-k
 first c = c .before .before .before
 
-counts-hold : (c : tie.Else1) → countsSoundAt (table (first c)) (bytes (first c)) ≡ true
-counts-hold c = sym (c .before .counts-sound .ensures) ∙ not-false _ (c .if1 .left)
+counts-are : (c : tie.After-counts-sound)
+    → c .counts-sound .result ≡ countsSoundAt (table (first c)) (waitingCount (three (first c) .slots)) (three (first c) .bytes)
+counts-are c = rw (c .before .count .ensures) at (c .counts-sound .ensures)
+
+counts-hold : (c : tie.Else1)
+    → countsSoundAt (table (first (c .before))) (waitingCount (three (first (c .before)) .slots)) (three (first (c .before)) .bytes) ≡ true
+counts-hold c = sym (counts-are (c .before)) ∙ not-false _ (c .if1 .left)
 
 abbrev second : tie.Else2 → tie.Else1
 second c = c .before .before
 
-totals-hold : (c : tie.Else2) → totalsSoundAt (table (first (second c))) (bytes (first (second c))) ≡ true
+totals-hold : (c : tie.Else2) → let u = first (second c .before) in totalsSoundAt (table u) (three u .bytes) ≡ true
 totals-hold c = sym (c .before .totals-sound .ensures) ∙ not-false _ (c .if2 .left)
 
-abbrev third : tie.Else3 → tie.Else2
-third c = c .before .before
-
-one-waits : (c : tie.Else3) → let u = first (second (third c)) in
-    foundBy (waitingSound document01 (bytes u)) (table u) ≡ foundIn (bytes u)
-one-waits c =
-    let two = third c in
+records-decide : (c : tie.After-sound) → let u = first (second (c .before .before) .before) in
+    foundBy (c .sound .result) (table u) ≡ foundIn (three u)
+records-decide c =
+    let two = c .before .before in
     let one = second two in
-    found-waiting (bytes (first one)) _ (header (first one)) (counts-hold one) (totals-hold two)
-    (sym (c .before .waits .ensures) ∙ not-false _ (c .if3 .left))
+    let u = first (one .before) in
+    let keep : c .sound .result ≡ recordsKeep (table u) (three u) = rw (c .before .place-size .ensures) at (c .sound .ensures) in
+    let eight : length (three u .slots) ≡ 8 = given u .good .1 .0 .1 .0 .1 in
+    rw keep (found-records (three u) (table u) (header u) (counts-hold one) (totals-hold two) eight)
 
 -- ---- the steps
 head-requires : tie.Need-head-requires
@@ -58,50 +66,48 @@ enum-known-fault c = search needs
 enum-known-k : tie.Need-enum-known-k
 enum-known-k c = search needs
 
+count-requires : tie.Need-count-requires
+count-requires c κs = search needs
+
 counts-sound-requires : tie.Need-counts-sound-requires
-counts-sound-requires c κs = header (c .before)
+counts-sound-requires c κs = header (c .before .before)
 
 returns : tie.Need-returns
 returns c =
-    let u = c .before .before .before in
-    found-counts (bytes u) _ (header u) (sym (c .before .counts-sound .ensures) ∙ not-true _ (c .if1 .taken))
+    let u = first (c .before) in
+    found-counts (three u) (table u) (header u) (sym (counts-are (c .before)) ∙ not-true _ (c .if1 .taken))
 
 totals-sound-requires : tie.Need-totals-sound-requires
-totals-sound-requires c κs = whole (bytes (first c)) _ (header (first c)) (counts-hold c)
+totals-sound-requires c κs =
+    let u = first (c .before) in whole (three u .bytes) (table u) _ (header u) (counts-hold c)
 
 returns-2 : tie.Need-returns-2
 returns-2 c =
     let one = c .before .before in
-    found-totals (bytes (first one)) _ (header (first one)) (counts-hold one)
+    let u = first (one .before) in
+    found-totals (three u) (table u) (header u) (counts-hold one)
     (sym (c .before .totals-sound .ensures) ∙ not-true _ (c .if2 .taken))
 
-waits-requires : tie.Need-waits-requires
-waits-requires c κs = search needs
-
-returns-3 : tie.Need-returns-3
-returns-3 c =
-    let two = c .before .before in
-    let one = second two in
-    found-quiet (bytes (first one)) _ (header (first one)) (counts-hold one) (totals-hold two)
-    (sym (c .before .waits .ensures) ∙ not-true _ (c .if3 .taken))
+place-size-requires : tie.Need-place-size-requires
+place-size-requires c κs = header (first (second c .before)) .limited
 
 sound-requires : tie.Need-sound-requires
 sound-requires c κs =
-    let one = second (third c) in stands (bytes (first one)) _ (header (first one)) (counts-hold one)
+    let l = header (first (second (c .before) .before)) .limited in
+    (omega (arith, c .place-size .ensures), omega (arith, c .place-size .ensures, l .entries-most, l .gates-most))
+
+returns-3 : tie.Need-returns-3
+returns-3 c = rw (not-true (c .before .sound .result) (c .if3 .taken)) at (records-decide (c .before))
 
 returns-4 : tie.Need-returns-4
 returns-4 c =
-    rw (sym (c .before .sound .ensures) ∙ not-true _ (c .if4 .taken)) at (one-waits (c .before .before))
-
-returns-5 : tie.Need-returns-5
-returns-5 c =
     let u = c .before in
     let h = u .before .before in
-    found-headless (h .before .before .args .t .now) _ (sym (h .head .ensures) ∙ u .fault .given .1)
+    let a = h .before .before .before .args in
+    found-headless (lent (a .t .now) (a .list) (a .numbers .now)) _ (sym (h .head .ensures) ∙ u .fault .given .1)
 
-returns-6 : tie.Need-returns-6
-returns-6 c =
-    rw (sym (c .before .sound .ensures) ∙ not-false _ (c .if4 .left)) at (one-waits (c .before .before))
+returns-5 : tie.Need-returns-5
+returns-5 c = rw (not-false (c .before .sound .result) (c .if3 .left)) at (records-decide (c .before))
 
 pub read-spec : {M : Type 1} → statement M
 read-spec =
@@ -110,13 +116,13 @@ read-spec =
     head-requires
     enum-known-fault
     enum-known-k
+    count-requires
     counts-sound-requires
     returns
     totals-sound-requires
     returns-2
-    waits-requires
-    returns-3
+    place-size-requires
     sound-requires
+    returns-3
     returns-4
-    returns-5
-    returns-6)
+    returns-5)

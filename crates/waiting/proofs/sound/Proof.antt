@@ -1,121 +1,139 @@
--- `waiting::sound` meets its contract: the pair, the six numbers and the share are tested in turn (`pair-fails`, `words-fail`,
--- `share-decides`). Assumes nothing.
-use Rattle.waiting.proofs.Soundness.{pair-fails, words-fail, share-decides}
+-- `waiting::sound` meets its contract. The loop's invariant: `at` is where the place of record i starts, and the answer is that of
+-- the records from i on, those before keep to the limits (`sound-next`); the measure is what is left of the places. Assumes nothing.
+use mathlib.Core.Path.{_≡_, refl, sym, ap, _∙_}
+use Prim.Native.Nat.{_+_, _*_, _≤_, _<_, _-_}
+use native.Mathlib.Omega.{arith}
 use borrow.Author.Needs.{needs}
+use borrow.Author.Tests.{not-true, not-false}
+use lib.Dec.{lit≤}
+use lib.ListN.{length, drop}
+use Rattle.steps.proofs.Parts.{span}
+use Rattle.waiting.specs.Soundness.{recordsSoundAt}
+use Rattle.waiting.proofs.Places.{sound-next, sound-not, sound-end, place-within, one-of-eight, past-eight, run-short, run-enough}
 use Rattle.waiting.proofs.sound.Statement.{statement}
 use Rattle.waiting.proofs.sound.Tie as tie
 
-read-requires : tie.Need-read-requires
-read-requires c κs = search needs
+abbrev Inv-loop : tie.InvT-loop
+Inv-loop numbers gates size list end i₀ at₀ i at =
+    (i ≤ 8)
+    × (at ≡ size * i)
+    × (recordsSoundAt gates size numbers 0 list ≡ recordsSoundAt gates size numbers i (drop i list))
 
-cast-pair-sound : tie.Need-cast-pair-sound
-cast-pair-sound c = search needs
+abbrev μ-loop : tie.MeasureT-loop
+μ-loop numbers gates size list end i₀ at₀ i at = end - at
 
-cast-pair-sound-2 : tie.Need-cast-pair-sound-2
-cast-pair-sound-2 c = search needs
+-- ---- in a turn: record i is one of the eight, its place starts at `at` and ends within the run, and the list has it
+turn : (c : tie.In-loop Inv-loop μ-loop) → c .before .loop .i < 8
+turn c =
+    let z = c .before .before .before .before .args .size in
+    let l = c .before .loop in
+    one-of-eight z (l .i) (omega (arith, l .inv .1, c .loop-test .taken))
 
-pair-sound-requires : tie.Need-pair-sound-requires
-pair-sound-requires c κs = search needs
+last : (c : tie.In-loop Inv-loop μ-loop) → let z = c .before .before .before .before .args .size in
+    z * c .before .loop .i + z ≤ z * 8
+last c = place-within _ _ (turn c)
 
-returns : tie.Need-returns
-returns c =
-    let g = c .before in
-    let r = g .before .before .before in
-    let a = r .before .before in
-    pair-fails (a .args .t .now) (a .args .k) (a .pre) (r .read .result) (r .read .ensures) (g .pair-sound .result)
-    (g .pair-sound .ensures) (c .if1 .taken)
+enough : (c : tie.In-loop Inv-loop μ-loop) → let a = c .before .before .before .before .args in
+    a .size * 8 ≤ length (a .numbers .now)
+enough c = omega (arith, c .before .before .if1 .left)
 
-wait-place-requires : tie.Need-wait-place-requires
-wait-place-requires c κs = search needs
+listed : (c : tie.In-loop Inv-loop μ-loop) → c .before .loop .i < length (c .before .before .before .before .args .t1)
+listed c =
+    let n : length (c .before .before .before .before .args .t1) ≡ 8 = c .before .before .before .before .good .0 .1 .0 .1 in
+    omega (arith, n, turn c)
 
-add-at : tie.Need-add-at
-add-at c = search needs
-
-add-share : tie.Need-add-share
-add-share c = search needs
-
-sub-below : tie.Need-sub-below
-sub-below c = search needs
-
-part-below-start : tie.Need-part-below-start
-part-below-start c = search needs
-
-part-below-end : tie.Need-part-below-end
-part-below-end c = search needs
-
-below-requires : tie.Need-below-requires
-below-requires c κs = search needs
-
-returns-2 : tie.Need-returns-2
-returns-2 c =
-    let six = c .before .below in
-    let p = c .before .before .before in
-    let one = p .before in
-    let g = one .before in
-    let r = g .before .before .before in
-    let a = r .before .before in
-    words-fail (a .args .t .now) (a .args .k) (a .pre) (r .read .result) (r .read .ensures) (g .pair-sound .result)
-    (g .pair-sound .ensures) (one .if1 .left) (p .wait-place .result) (p .wait-place .ensures) (six .result) (six .ensures)
-    (c .if2 .taken)
-
-share-size-requires : tie.Need-share-size-requires
-share-size-requires c κs = search needs
-
-mul-end : tie.Need-mul-end
+-- ---- the steps
+mul-end : tie.Need-mul-end Inv-loop μ-loop
 mul-end c = search needs
 
-add-end : tie.Need-add-end
-add-end c = search needs
+returns : tie.Need-returns Inv-loop μ-loop
+returns c =
+    let a = c .before .before .args in
+    run-short (a .gates) (a .size) (a .t1) (a .numbers .now) (omega (arith, c .if1 .taken))
 
-sub-below-2 : tie.Need-sub-below-2
-sub-below-2 c = search needs
+loop-holds : tie.Need-loop-holds Inv-loop μ-loop
+loop-holds c = (lit≤ tt, omega arith, refl)
 
-part-below-start-2 : tie.Need-part-below-start-2
-part-below-start-2 c = search needs
+add-next : tie.Need-add-next Inv-loop μ-loop
+add-next c = omega (arith, last c, enough c, c .before .loop .inv .1)
 
-part-below-end-2 : tie.Need-part-below-end-2
-part-below-end-2 c = search needs
+mul-record-sound : tie.Need-mul-record-sound Inv-loop μ-loop
+mul-record-sound c = omega (arith, turn c)
 
-below-requires-2 : tie.Need-below-requires-2
-below-requires-2 c κs = search needs
+array-copy-out-record-sound : tie.Need-array-copy-out-record-sound Inv-loop μ-loop
+array-copy-out-record-sound c = omega (arith, turn c)
 
-returns-3 : tie.Need-returns-3
+mul-record-sound-2 : tie.Need-mul-record-sound-2 Inv-loop μ-loop
+mul-record-sound-2 c = omega (arith, last (c .before), enough (c .before), c .before .before .loop .inv .1)
+
+sub-record-sound : tie.Need-sub-record-sound Inv-loop μ-loop
+sub-record-sound c = search needs
+
+part-record-sound-start : tie.Need-part-record-sound-start Inv-loop μ-loop
+part-record-sound-start c = search needs
+
+part-record-sound-end : tie.Need-part-record-sound-end Inv-loop μ-loop
+part-record-sound-end c = omega (arith, last (c .before), enough (c .before), c .before .before .loop .inv .1)
+
+record-sound-requires : tie.Need-record-sound-requires Inv-loop μ-loop
+record-sound-requires c κs = search needs
+
+returns-2 : tie.Need-returns-2 Inv-loop μ-loop
+returns-2 c =
+    let t = c .before .before .before .before in
+    let l = t .before .loop in
+    let a = t .before .before .before .before .args in
+    sym (l .inv .2
+    ∙ sound-not (a .gates) (a .size) (a .numbers .now) (a .t1) (l .i) _ (listed t) (rw (span, l .inv .1) at (sym (c .before .record-sound .ensures)) ∙ not-true _ (c .if2 .taken)))
+    ∙ run-enough (a .gates) (a .size) (a .t1) (a .numbers .now) (enough t)
+
+add-i : tie.Need-add-i Inv-loop μ-loop
+add-i c = omega (arith, turn (c .before .before .before .before))
+
+loop-less : tie.Need-loop-less Inv-loop μ-loop
+loop-less c = omega (arith, c .before .before .before .before .loop-test .taken, c .before .before .before .before .before .before .before .before .pre .0)
+
+loop-again : tie.Need-loop-again Inv-loop μ-loop
+loop-again c =
+    let t = c .before .before .before .before in
+    let l = t .before .loop in
+    let a = t .before .before .before .before .args in (
+      omega (arith, turn t),
+      omega (arith, l .inv .1),
+      l .inv .2
+          ∙ sound-next (a .gates) (a .size) (a .numbers .now) (a .t1) (l .i) _ (listed t)
+          (rw (span, l .inv .1) at (sym (c .before .record-sound .ensures)) ∙ not-false _ (c .if2 .left)),
+    )
+
+returns-3 : tie.Need-returns-3 Inv-loop μ-loop
 returns-3 c =
-    let size = c .before .before .share-size in
-    let two = c .before .before .before in
-    let six = two .before .below in
-    let p = two .before .before .before in
-    let one = p .before in
-    let g = one .before in
-    let r = g .before .before .before in
-    let a = r .before .before in
-    share-decides (a .args .t .now) (a .args .k) (a .pre) (r .read .result) (r .read .ensures) (g .pair-sound .result)
-    (g .pair-sound .ensures) (one .if1 .left) (p .wait-place .result) (p .wait-place .ensures) (six .result) (six .ensures)
-    (two .if2 .left) (size .result) (size .ensures) (c .below2 .result)
-    (c .below2 .ensures)
+    let l = c .before .loop in
+    let g = c .before .before .before .before in
+    let a = g .args in
+    let n : length (a .t1) ≡ 8 = g .good .0 .1 .0 .1 in
+    let past : 8 ≤ l .i = past-eight (a .size) (l .i) (g .pre .0) (omega (arith, l .inv .1, c .loop-test .left)) in
+    sym (l .inv .2 ∙ sound-end (a .gates) (a .size) (a .numbers .now) (a .t1) (l .i) (omega (arith, n, past)))
+    ∙ run-enough (a .gates) (a .size) (a .t1) (a .numbers .now) (omega (arith, c .before .before .if1 .left))
 
 pub sound-spec : {M : Type 1} → statement M
 sound-spec =
     tie.close
     (tie.spec
-    read-requires
-    cast-pair-sound
-    cast-pair-sound-2
-    pair-sound-requires
-    returns
-    wait-place-requires
-    add-at
-    add-share
-    sub-below
-    part-below-start
-    part-below-end
-    below-requires
-    returns-2
-    share-size-requires
+    Inv-loop
+    μ-loop
     mul-end
-    add-end
-    sub-below-2
-    part-below-start-2
-    part-below-end-2
-    below-requires-2
+    returns
+    loop-holds
+    add-next
+    mul-record-sound
+    array-copy-out-record-sound
+    mul-record-sound-2
+    sub-record-sound
+    part-record-sound-start
+    part-record-sound-end
+    record-sound-requires
+    returns-2
+    add-i
+    loop-less
+    loop-again
     returns-3)

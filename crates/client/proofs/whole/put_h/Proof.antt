@@ -5,7 +5,7 @@ use native.Mathlib.Omega.{arith}
 use borrow.Rule.Slice.PartMut.{mid-len}
 use Rattle.words.specs.Bytes.{splice}
 use Rattle.client.specs.Pieces.{hValues}
-use Rattle.client.proofs.Filling.{part-put}
+use Rattle.words.proofs.Loops.{part-put}
 use borrow.Author.Needs.{needs}
 use Rattle.client.proofs.whole.put_h.Statement.{statement}
 use Rattle.client.proofs.whole.put_h.Tie as tie

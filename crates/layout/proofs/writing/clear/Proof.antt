@@ -7,8 +7,7 @@ use native.Mathlib.Omega.{arith}
 use borrow.Author.Needs.{needs}
 use lib.ListN.{length, set, take, replicate, length-set}
 use Rattle.words.specs.Bytes.{splice}
-use Rattle.words.proofs.Loops.{copy-none}
-use Rattle.layout.proofs.Pieces.{clear-next, clear-all}
+use Rattle.words.proofs.Loops.{copy-none, clear-next, clear-all}
 use Rattle.layout.proofs.writing.clear.Statement.{statement}
 use Rattle.layout.proofs.writing.clear.Tie as tie
 

@@ -13,16 +13,16 @@ use Rattle.rounds.proofs.adding.add_words.Statement.{statement}
 use Rattle.rounds.proofs.adding.add_words.Tie as tie
 
 abbrev Inv-loop : tie.InvT-loop
-Inv-loop t₀ to from n i₀ t i =
-    (i ≤ n) × (t ≡ splice t₀ to (bytesOfAll 4 (tabulate (wordsAdded t₀ to from) i))) × (length t ≡ length t₀)
+Inv-loop t₀ to xs from n i₀ t i =
+    (i ≤ n) × (t ≡ splice t₀ to (bytesOfAll 4 (tabulate (wordsAdded t₀ to xs from) i))) × (length t ≡ length t₀)
 
 abbrev μ-loop : tie.MeasureT-loop
-μ-loop t₀ to from n i₀ t i = n - i
+μ-loop t₀ to xs from n i₀ t i = n - i
 
 loop-holds : tie.Need-loop-holds Inv-loop μ-loop
 loop-holds c =
-    let a = c .before in
-    (search needs, run-none (wordsAdded (a .args .t .now) (a .args .to) (a .args .from)) (a .args .t .now) (a .args .to), refl)
+    let a = c .before .before .args in
+    (search needs, run-none (wordsAdded (a .t .now) (a .to) (a .xs .now) (a .from)) (a .t .now) (a .to), refl)
 
 mul-read-u32 : tie.Need-mul-read-u32 Inv-loop μ-loop
 mul-read-u32 c = search needs
@@ -33,22 +33,21 @@ add-read-u32 c = search needs
 read-u32-requires : tie.Need-read-u32-requires Inv-loop μ-loop
 read-u32-requires c κs = search needs
 
-mul-read-u32-2 : tie.Need-mul-read-u32-2 Inv-loop μ-loop
-mul-read-u32-2 c = search needs
+add-add : tie.Need-add-add Inv-loop μ-loop
+add-add c = search needs
 
-add-read-u32-2 : tie.Need-add-read-u32-2 Inv-loop μ-loop
-add-read-u32-2 c = search needs
+mul-add : tie.Need-mul-add Inv-loop μ-loop
+mul-add c = search needs
 
-read-u32-requires-2 : tie.Need-read-u32-requires-2 Inv-loop μ-loop
-read-u32-requires-2 c κs = search needs
+shared-slice-read-add : tie.Need-shared-slice-read-add Inv-loop μ-loop
+shared-slice-read-add c = search needs
 
 add-requires : tie.Need-add-requires Inv-loop μ-loop
 add-requires c κs =
-    let l = c .before .before .before .before .before in
-    let a = l .before .before in
-    let i = c .before .before .before .before .loop-test .taken in
-    words-below (a .args .t .now) (a .args .to) (a .args .from) (a .args .n) (l .loop .i) (a .pre) i
-    (l .loop .t) (l .loop .inv .1) _ _ (c .before .before .read-u32 .ensures) (c .read-u322 .ensures)
+    let l = c .before .before .before .before in
+    let a = l .before .before .before in
+    words-below (a .args .t .now) (a .args .to) (a .args .xs .now) (a .args .from) (a .args .n) (l .loop .i) (a .pre)
+    (c .before .before .before .loop-test .taken) (l .loop .t) (l .loop .inv .1) _ (c .before .read-u32 .ensures)
 
 mul-write-u32 : tie.Need-mul-write-u32 Inv-loop μ-loop
 mul-write-u32 c = search needs
@@ -67,16 +66,13 @@ loop-less c = search needs
 
 loop-again : tie.Need-loop-again Inv-loop μ-loop
 loop-again c =
-    let w = c .before .before in
-    let s = w .before .before in
-    let y = s .before in
-    let x = y .before .before in
+    let s = c .before .before .before .before in
+    let x = s .before .before in
     let l = x .before .before .before in
-    let i = x .before .before .loop-test .taken in
-    let a = l .before .before in (
+    let a = l .before .before .before in (
       search needs,
-      cc (words-turn (a .args .t .now) (a .args .to) (a .args .from) (a .args .n) (l .loop .i) (a .pre) i
-          (l .loop .t) (l .loop .inv .1) _ _ _ (x .read-u32 .ensures) (y .read-u322 .ensures) (s .add .ensures)),
+      cc (words-turn (a .args .t .now) (a .args .to) (a .args .xs .now) (a .args .from) (a .args .n) (l .loop .i) (a .pre)
+          (x .before .before .loop-test .taken) (l .loop .t) (l .loop .inv .1) _ _ (x .read-u32 .ensures) (s .add .ensures)),
       search needs,
     )
 
@@ -86,7 +82,7 @@ same-length c = search needs
 returns : tie.Need-returns Inv-loop μ-loop
 returns c =
     let l = c .before in
-    let a = l .before .before in
+    let a = l .before .before .before in
     let e : l .loop .i ≡ a .args .n = omega (arith, l .loop .inv .0, c .loop-test .left) in
     rw e at (l .loop .inv .1)
 
@@ -100,9 +96,9 @@ add-words-spec =
     mul-read-u32
     add-read-u32
     read-u32-requires
-    mul-read-u32-2
-    add-read-u32-2
-    read-u32-requires-2
+    add-add
+    mul-add
+    shared-slice-read-add
     add-requires
     mul-write-u32
     add-write-u32

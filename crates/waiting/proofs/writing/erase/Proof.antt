@@ -1,53 +1,72 @@
--- `waiting::writing::erase` meets its contract: the bytes from the place of the return to the table's end are those kept for it.
--- Assumes nothing.
-use mathlib.Core.Path.{_≡_, refl}
-use Prim.Native.Nat.{_-_}
+-- `waiting::writing::erase` meets its contract. The loop's invariant: the first i numbers are erased (`clear-next`); the
+-- measure is what is left of them. Assumes nothing.
+use mathlib.Core.Path.{_≡_, refl, ap, _∙_}
+use mathlib.Core.List.{List}
+use Prim.Native.Nat.{ℕ, _+_, _≤_, _-_}
 use native.Mathlib.Omega.{arith}
-use Rattle.limits.specs.Sheets.{sizeOf}
-use Rattle.layout.specs.Places.{waitAt}
-use Rattle.layout.specs.declared.Table.{Table}
-use Rattle.waiting.specs.Places.{keptAt, lengthOf}
 use borrow.Author.Needs.{needs}
+use lib.ListN.{length, set, take, replicate, length-set}
+use Rattle.words.specs.Bytes.{splice}
+use Rattle.words.proofs.Loops.{copy-none, clear-next, clear-all}
 use Rattle.waiting.proofs.writing.erase.Statement.{statement}
 use Rattle.waiting.proofs.writing.erase.Tie as tie
 
-kept : (k : Table) → lengthOf k - waitAt (k .sheet) (k .published) (k .returns) ≡ keptAt (sizeOf (k .entries) (k .gates))
-kept k = omega arith
+abbrev Inv-loop : tie.InvT-loop
+Inv-loop numbers₀ at n i₀ numbers i =
+    (i ≤ n) × (numbers ≡ splice numbers₀ at (take i (replicate n 0))) × (length numbers ≡ length numbers₀)
 
-wait-place-requires : tie.Need-wait-place-requires
-wait-place-requires c κs = search needs
+abbrev μ-loop : tie.MeasureT-loop
+μ-loop numbers₀ at n i₀ numbers i = n - i
 
-length-requires : tie.Need-length-requires
-length-requires c κs = search needs
+loop-holds : tie.Need-loop-holds Inv-loop μ-loop
+loop-holds c = (search needs, copy-none (c .args .numbers .now) (c .args .at) (replicate (c .args .n) 0), refl)
 
-sub-clear : tie.Need-sub-clear
-sub-clear c = search needs
+add-numbers : tie.Need-add-numbers Inv-loop μ-loop
+add-numbers c = search needs
 
-clear-requires : tie.Need-clear-requires
-clear-requires c κs = search needs
+mul-numbers : tie.Need-mul-numbers Inv-loop μ-loop
+mul-numbers c = search needs
 
-same-length : tie.Need-same-length
+slice-write-numbers : tie.Need-slice-write-numbers Inv-loop μ-loop
+slice-write-numbers c = search needs
+
+add-i : tie.Need-add-i Inv-loop μ-loop
+add-i c = search needs
+
+loop-less : tie.Need-loop-less Inv-loop μ-loop
+loop-less c = search needs
+
+loop-again : tie.Need-loop-again Inv-loop μ-loop
+loop-again c =
+    let l = c .before in
+    let a = l .before in (
+      search needs,
+      ap (λ (s : List ℕ). set s (a .args .at + l .loop .i) 0) (l .loop .inv .1)
+          ∙ clear-next (a .args .numbers .now) (a .args .at) (a .args .n) (l .loop .i) (a .pre) (c .loop-test .taken),
+      simp length-set (omega arith),
+    )
+
+same-length : tie.Need-same-length Inv-loop μ-loop
 same-length c = search needs
 
-returns : tie.Need-returns
+returns : tie.Need-returns Inv-loop μ-loop
 returns c =
-    let z = c .before .before in
-    let p = z .before .before .before in
-    rw (
-      z .clear .ensures,
-      z .before .length .ensures,
-      p .wait-place .ensures,
-      kept (p .before .before .args .k),
-    )
-    refl
+    let l = c .before in
+    let a = l .before in
+    cc (clear-all (a .args .numbers .now) (a .args .at) (a .args .n) (l .loop .i) (c .loop-test .left))
 
 pub erase-spec : {M : Type 1} → statement M
 erase-spec =
     tie.close
     (tie.spec
-    wait-place-requires
-    length-requires
-    sub-clear
-    clear-requires
+    Inv-loop
+    μ-loop
+    loop-holds
+    add-numbers
+    mul-numbers
+    slice-write-numbers
+    add-i
+    loop-less
+    loop-again
     same-length
     returns)

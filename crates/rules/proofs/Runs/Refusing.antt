@@ -1,0 +1,88 @@
+-- "13 is given when they reach it; .. An id that waits is refused 10; a ninth return, an id not waiting, or a close while any
+-- waits is refused 11." Of a ledger where the returns ws wait and ds are decided; each by computing the first check that
+-- fails. Assumes nothing.
+use mathlib.Core.Path.{_≡_, refl, ap, _∙_}
+use mathlib.Core.Bool.{Bool, true, false}
+use mathlib.Core.List.{List, _++_, map}
+use mathlib.Core.Option.{none}
+use Prim.Native.Nat.{ℕ, _+_, _<_}
+use native.Mathlib.Omega.{arith}
+use borrow.Author.Tests.{lt-ltb, ltb-true, ne-eqb}
+use lib.Dec.{ltb}
+use lib.ListN.{length}
+use Rattle.algebra.specs.Lists.{In}
+use Rattle.records.specs.Outcome.{orElse}
+use Rattle.rules.specs.Settings.{Setting}
+use Rattle.rules.specs.Messages.{idIn, headerFault, elementsFault}
+use Rattle.rules.specs.Keyed.{find}
+use Rattle.rules.specs.Server.{Opened, Wait, heldId, mostWaiting, isMember, whileOpen, whileOne, whileTwo, whileWaiting}
+use Rattle.rules.specs.Server.{shareRefusal, oneRefusal, twoRefusal, dropRefusal, closeRefusal}
+use Rattle.rules.specs.Ledger.{share, roundOne, roundTwo, drop, close, Pending, noteIn, pendingId, isOpen, Decided}
+use Rattle.rules.specs.Ledger.{idsOf, notesOf, ledgerWait, ledgerStage, ledgerState, refusalOf}
+use Rattle.rules.proofs.Histories.Keyed.{in-member, not-found, through}
+use Rattle.rules.proofs.Histories.Moves.{at, many-used, many-told, all-ids, find-told}
+
+-- a number that is not below
+not-below : (a b : ℕ) → (a < b → ⊥) → ltb a b ≡ false
+not-below a b h = go (ltb a b) refl
+  where
+    go : (t : Bool) → ltb a b ≡ t → t ≡ false
+    go true e = absurd (h (ltb-true a b e))
+    go false e = refl
+
+module _ (σ : Setting) (o : Opened) (ws : List Pending) (ds : List Decided) where
+  abbrev ts : List Wait
+  ts = map (ledgerWait σ o) ws
+
+  none-told : (id : ℕ) → (In id (map pendingId ws) → ⊥) → find heldId id ts ≡ none
+  none-told id h = find-told σ o id ws ∙ ap (through (ledgerWait σ o)) (not-found pendingId id ws h)
+
+  -- "a ninth return .. is refused 11", whatever its message
+  pub ninth : length ws ≡ mostWaiting → (m : List ℕ) (r s room : ℕ) → refusalOf σ o (at (isOpen ws) ds) (share m r s room) ≡ 11
+  unfolding refusalOf ledgerState ledgerStage shareRefusal whileOpen orElse
+  ninth e m r s room =
+      let f : length ts < mostWaiting → ⊥ = λ h. omega (arith, many-told σ o ws) in
+      rw (not-below (length ts) mostWaiting f) refl
+
+  -- "Decided and waiting together never exceed N, and 13 is given when they reach it"
+  pub full : length ws < mostWaiting → length ds + length ws ≡ o .returns → (m : List ℕ) (r s room : ℕ)
+      → refusalOf σ o (at (isOpen ws) ds) (share m r s room) ≡ 13
+  unfolding refusalOf ledgerState ledgerStage shareRefusal whileOpen orElse
+  full h e m r s room =
+      let g : length ts < mostWaiting = omega (arith, many-told σ o ws) in
+      let f : length (idsOf (notesOf ds)) + length ts < o .returns → ⊥ = λ k. omega (arith, many-told σ o ws, many-used ds) in
+      rw (lt-ltb (length ts) mostWaiting g, not-below (length (idsOf (notesOf ds)) + length ts) (o .returns) f) refl
+
+  -- "An id that waits is refused 10", and so is one that was decided
+  pub again : length ws < mostWaiting → length ds + length ws < o .returns → (m : List ℕ) (r s room : ℕ)
+      → headerFault σ (o .columns) (o .own) m ≡ 0 → elementsFault σ m ≡ 0
+      → In (idIn m) (idsOf (notesOf ds ++ map noteIn ws)) → refusalOf σ o (at (isOpen ws) ds) (share m r s room) ≡ 10
+  unfolding refusalOf ledgerState ledgerStage shareRefusal whileOpen orElse
+  again h e m r s room a b k =
+      let g : length ts < mostWaiting = omega (arith, many-told σ o ws) in
+      let f : length (idsOf (notesOf ds)) + length ts < o .returns = omega (arith, many-told σ o ws, many-used ds) in
+      let is : isMember (idIn m) (idsOf (notesOf ds) ++ map heldId ts) ≡ true =
+      ap (isMember (idIn m)) (all-ids σ o ws ds) ∙ in-member (idIn m) (idsOf (notesOf ds ++ map noteIn ws)) k in
+      rw (lt-ltb (length ts) mostWaiting g, lt-ltb (length (idsOf (notesOf ds)) + length ts) (o .returns) f, a, b, is) refl
+
+  -- "an id not waiting .. is refused 11": in both rounds, and in a drop
+  pub not-waiting-one : (id : ℕ) → (In id (map pendingId ws) → ⊥) → (joined : List ℕ) (room : ℕ)
+      → refusalOf σ o (at (isOpen ws) ds) (roundOne id joined room) ≡ 11
+  unfolding refusalOf ledgerState ledgerStage oneRefusal whileOpen whileOne
+  not-waiting-one id h joined room = rw (none-told id h) refl
+
+  pub not-waiting-two : (id : ℕ) → (In id (map pendingId ws) → ⊥) → (joined : List ℕ)
+      → refusalOf σ o (at (isOpen ws) ds) (roundTwo id joined) ≡ 11
+  unfolding refusalOf ledgerState ledgerStage twoRefusal whileOpen whileTwo
+  not-waiting-two id h joined = rw (none-told id h) refl
+
+  pub not-waiting-drop : (id : ℕ) → (In id (map pendingId ws) → ⊥) → refusalOf σ o (at (isOpen ws) ds) (drop id) ≡ 11
+  unfolding refusalOf ledgerState ledgerStage dropRefusal whileOpen whileWaiting
+  not-waiting-drop id h = rw (none-told id h) refl
+
+  -- "a close while any waits is refused 11"
+  pub close-waiting : 0 < length ws → (room : ℕ) → refusalOf σ o (at (isOpen ws) ds) (close room) ≡ 11
+  unfolding refusalOf ledgerState ledgerStage closeRefusal whileOpen orElse
+  close-waiting h room =
+      let some : length ts ≡ 0 → ⊥ = λ e. omega (arith, many-told σ o ws) in
+      rw (ne-eqb (length ts) 0 some) refl

@@ -35,6 +35,8 @@ struct Setting<'a> {
 
 const SERVERS: u32 = 2;
 const ROOM: usize = usize::MAX;
+/// The id of the return that is made once.
+const ID: u32 = 7;
 /// A fresh table every so many returns.
 const LIMIT: u32 = 64;
 
@@ -48,7 +50,7 @@ impl Setting<'_> {
         let challenges = (0..256)
             .map(|_| (rng.between(gates + 1, P - 1), rng.below(P)))
             .collect();
-        let made = fast::make(bytes, SERVERS, 7, &values, &random, ROOM)?;
+        let made = fast::make(bytes, SERVERS, ID, &values, &random, ROOM)?;
         let shares = made.chunks(sheet.share_length());
         Ok(Setting {
             bytes,
@@ -106,7 +108,7 @@ impl Setting<'_> {
             message[1..5].copy_from_slice(&number.to_le_bytes());
             let (r, s) = self.challenges[number as usize % 256];
             let _ = black_box(fast::share(&mut table, &message, r, s, 14));
-            let _ = fast::drop(&mut table);
+            let _ = fast::drop(&mut table, number);
         }))
     }
 
@@ -120,15 +122,15 @@ impl Setting<'_> {
             tables.push(table);
         }
         for table in &tables {
-            second.extend(fast::round_one(&mut table.clone(), &first, 14)?);
+            second.extend(fast::round_one(&mut table.clone(), ID, &first, 14)?);
         }
         let cloned = time(20_000, |_| {
             black_box(tables[0].clone());
         });
         let both = time(20_000, |_| {
             let mut table = tables[0].clone();
-            let _ = black_box(fast::round_one(&mut table, &first, 14));
-            let _ = black_box(fast::round_two(&mut table, &second));
+            let _ = black_box(fast::round_one(&mut table, ID, &first, 14));
+            let _ = black_box(fast::round_two(&mut table, ID, &second));
         });
         Ok(both - cloned)
     }

@@ -66,10 +66,15 @@ pub(crate) fn words(bytes: &[u8]) -> impl ExactSizeIterator<Item = u32> + '_ {
 
 /// Whether every 4-byte number of a run is below p.
 pub(crate) fn all_elements(bytes: &[u8]) -> bool {
+    all_below(words(bytes))
+}
+
+/// Whether every number of a run is below p.
+pub(crate) fn all_below(run: impl Iterator<Item = u32>) -> bool {
     // No early exit: the pass is the same for every run. A number is p = 2^31 - 1 or more
     // when it or the next one has the top bit.
-    let tops = |tops, word: u32| tops | word | word.wrapping_add(1);
-    words(bytes).fold(0, tops) >> 31 == 0
+    let tops = |tops, number: u32| tops | number | number.wrapping_add(1);
+    run.fold(0, tops) >> 31 == 0
 }
 
 /// Reads a run of elements. `None` when one is not below p or bytes are left over.

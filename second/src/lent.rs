@@ -1,204 +1,282 @@
-//! The lent form: a table in bytes that the host lends, looked over at every call.
+//! The lent form: a table in three parts that the host lends, looked over at every call.
 //!
-//! The calls and answers are those of the plain form, with buffers in place of vectors. A
-//! slice may be longer than its table; the bytes past it are neither read nor written. A
-//! refusal changes nothing in any buffer. Nothing is allocated.
+//! The calls and answers are those of the plain form, with buffers in place of vectors. A slice
+//! of bytes and a run of numbers may be longer than the table needs; what lies past is neither
+//! read nor written. A refusal changes nothing in any buffer. Nothing is allocated.
 //!
 //! # The bytes of a table
 //!
 //! | from | bytes | what |
 //! | --- | --- | --- |
-//! | 0 | 1 | stage: 0 idle, 1 awaits round one, 2 awaits round two, 3 closed |
-//! | 1 | 1 | S |
-//! | 2 | 1 | own number |
-//! | 3 | 2 | length of the sheet (a sheet that is read has 1 to 426 bytes) |
-//! | 5 | 2 | N |
-//! | 7 | 2 | returns decided, dropped ones included |
-//! | 9 | 2 | returns accepted |
-//! | 11 | 4 | id that waits |
-//! | 15 | 8 | the two elements of the message that was written last for it |
-//! | 23 | 20 | a, b, c, r × h(r) and tau of its share |
-//! | 43 | | the sheet |
-//! | | | the totals, an element for each published entry |
-//! | | | the published entries of the share that waits |
-//! | | | N ids, the decided ones first |
+//! | 0 | 1 | table byte: 2 |
+//! | 1 | 1 | stage: 0 open, 1 closed |
+//! | 2 | 1 | S |
+//! | 3 | 1 | own number |
+//! | 4 | 2 | N |
+//! | 6 | 2 | returns decided, dropped ones included |
+//! | 8 | 2 | returns accepted |
+//! | 10 | 2 | n, the length of the sheet (a sheet that is read has 1 to 426 bytes) |
+//! | 12 | n | the sheet |
+//! | | 4 P | the totals, an element for each of the P published entries |
+//! | | 4 N | N ids, the decided ones first, in the order in which they were |
 //!
-//! Bytes 11 to 22 and the share's published entries are held while a return waits, bytes 23
-//! to 42 while it awaits round one. What is not held is free, as are the ids' places past the
-//! decided ones. A table is refused 11 when its slice is too short for it, or when S, own
-//! number, N, sheet, refusal 4's rule, stage, an element that is held or a count breaks its
-//! limit. The counts: accepted at most decided, decided at most N, and below N while a return
-//! waits.
+//! # The waiting list
 //!
-//! Every table that is not refused has parts that some calls could have left in it, each by
-//! itself: a waiting share's u_0, v_0, h and the challenges can be chosen so that any elements
-//! stand in bytes 15 to 42. So no call trusts what it has not looked at.
+//! Exactly eight records, [`Slot`]. A share goes into the first free one, and a return that is
+//! decided leaves its record all 0.
+//!
+//! | field | stage 1, awaits round one | stage 2, awaits round two |
+//! | --- | --- | --- |
+//! | id | of the return | the same |
+//! | r, s | the challenges of its share | the same |
+//! | d, e | d_i and e_i of this server | the sums of round one |
+//!
+//! Stage 0 is a free record. The record of an id is the first one that waits under it.
+//!
+//! # The run of numbers
+//!
+//! Each record has a place of E + 2 numbers, where E = L + 2M + 6 is the number of elements of a
+//! share. That of record i starts at i × (E + 2), so the run has at least 8 × (E + 2) numbers,
+//! which is 6,208 at most.
+//!
+//! | from | numbers | what |
+//! | --- | --- | --- |
+//! | 0 | E | the elements of the share |
+//! | E | 1 | r × h_i(r) |
+//! | E + 1 | 1 | tau_i |
+//!
+//! A return that is decided leaves its place all 0.
+//!
+//! # Which tables are refused 11
+//!
+//! Those whose bytes or numbers are too few, whose records are not eight, or whose table byte,
+//! stage, S, own number, N, sheet or refusal 4's rule breaks its limit. The counts: accepted at
+//! most decided, decided and waiting together at most N. Totals are below p. A record has stage
+//! 0, 1 or 2; where it waits, r is above M and below p, s, d and e are below p, and so are all
+//! numbers of its place.
+//!
+//! All else is free: what a free record holds and the numbers of its place, the ids' places past
+//! the decided ones, which ids were decided, an id that waits twice or is decided too, and a d,
+//! e, r × h(r) or tau that the share does not give.
 
 mod judge;
 mod layout;
 mod points;
 mod shape;
+mod slot;
+mod totals;
 
-use crate::field::{self, P};
+use crate::field;
 use crate::judging::{
-    check_challenges, parts_of_length, round_message, round_sums, sigma, Round, ROUND_LENGTH,
-    ROUND_ONE, ROUND_TWO,
+    check_challenges, parts_of_length, round_message, round_sums, sigma, Findings, Round,
+    ROUND_LENGTH, ROUND_ONE, ROUND_TWO,
 };
 use crate::refusal;
 use crate::sheet::check_servers;
 use crate::table::{Verdict, CLOSING};
-use layout::{Table, Word, AWAITS_ONE, AWAITS_TWO, CLOSED, IDLE};
+use layout::{Table, Word};
 use shape::Shape;
+pub use slot::{Slot, AWAITS_ONE, AWAITS_TWO, FREE, SLOTS};
 
-/// The bytes of a table with this sheet and N. Order of refusals: sheet, N, 4.
+/// The length of a table's bytes with this sheet and N. Order of refusals: sheet, N, 4.
 pub fn length(sheet: &[u8], limit: u32) -> Result<usize, u32> {
     let shape = Shape::opening(sheet, limit)?;
     Ok(layout::length(sheet.len(), &shape, limit as usize))
 }
 
-/// Opens a table with S, the own number, a sheet and N; gives its length. Order of refusals:
-/// S and own number, sheet, N, 4, 14.
+/// The length of a table's run of numbers with this sheet. Refusals of the sheet.
+pub fn run_length(sheet: &[u8]) -> Result<usize, u32> {
+    Ok(Shape::read(sheet)?.run_length())
+}
+
+/// Opens a table with S, the own number, a sheet and N: writes all three parts and gives the
+/// length of the bytes. Order of refusals: S and own number, sheet, N, 4, 14.
 pub fn open(
     servers: u32,
     own: u32,
     sheet: &[u8],
     limit: u32,
     table: &mut [u8],
+    slots: &mut [Slot],
+    elements: &mut [u32],
 ) -> Result<usize, u32> {
     check_servers(servers)?;
     if own >= servers {
         return Err(refusal::LIMIT);
     }
-    let length = length(sheet, limit)?;
+    let shape = Shape::opening(sheet, limit)?;
+    let length = layout::length(sheet.len(), &shape, limit as usize);
     let bytes = table.get_mut(..length).ok_or(refusal::ROOM)?;
+    let numbers = elements.get_mut(..shape.run_length());
+    let numbers = numbers.ok_or(refusal::ROOM)?;
+    if slots.len() != SLOTS {
+        return Err(refusal::ROOM);
+    }
     layout::write(bytes, servers as u8, own as u8, sheet, limit as u16);
+    slots.fill(Slot::default());
+    numbers.fill(0);
     Ok(length)
 }
 
-/// Takes a share; writes the server's round one message and gives its length. Order of
-/// refusals: 11, 13, 7, 8, 10, 9, 14.
+/// Takes a share into the first free record; writes the server's round one message and gives
+/// its length. Order of refusals: 11, 13, 7, 8, 10, 9, 14.
 pub fn share(
     table: &mut [u8],
+    slots: &mut [Slot],
+    elements: &mut [u32],
     message: &[u8],
     r: u64,
     s: u64,
     out: &mut [u8],
 ) -> Result<usize, u32> {
-    let mut table = Table::look_over(table, |stage| stage == IDLE)?;
+    let mut table = Table::look_over(table, slots, elements)?;
     let shape = table.shape;
-    if table.decided >= table.ids.len() {
+    let free = table.free().ok_or(refusal::STAGE)?;
+    if table.decided + table.waiting >= table.ids.len() {
         return Err(refusal::FULL);
     }
     let (id, bytes) = parts_of_length(shape.share_length(), table.own(), message)?;
     if !field::all_elements(bytes) {
         return Err(refusal::ELEMENT);
     }
-    if table.has_decided(id) {
+    if table.has_decided(id) || table.waits(id).is_some() {
         return Err(refusal::DECIDED);
     }
     check_challenges(shape.gates, r, s)?;
     let out = out.first_chunk_mut().ok_or(refusal::ROOM)?;
 
-    let (elements, _) = bytes.as_chunks();
-    let first = table.own() == 0;
-    let found = judge::find(table.sheet, &shape, first, elements, r, s, table.published);
-    table.set_waiting(id, &found);
-    table.set_stage(AWAITS_ONE);
+    let (words, _) = bytes.as_chunks();
+    let found = judge::find(table.sheet, &shape, table.own() == 0, words, r, s);
+    note_share(&mut table, free, words, &found);
+    table.slots[free] = Slot {
+        id,
+        stage: AWAITS_ONE,
+        r,
+        s,
+        d: found.d,
+        e: found.e,
+    };
     *out = round_message(ROUND_ONE, id, table.own(), found.d, found.e);
     Ok(ROUND_LENGTH)
 }
 
-/// Takes round one's joined messages; writes the server's round two message and gives its
-/// length. Order of refusals: 11, 12, 14.
-pub fn round_one(table: &mut [u8], joined: &[u8], out: &mut [u8]) -> Result<usize, u32> {
-    let mut table = Table::look_over(table, |stage| stage == AWAITS_ONE)?;
-    let (d, e) = sums(&table, ROUND_ONE, joined)?;
+/// Notes the elements of a share, r × h(r) and tau at a place.
+fn note_share(table: &mut Table, at: usize, words: &[Word], found: &Findings) {
+    let (elements, rest) = table.place_mut(at).split_at_mut(words.len());
+    for (element, &word) in elements.iter_mut().zip(words) {
+        *element = u32::from_le_bytes(word);
+    }
+    rest.copy_from_slice(&[found.rh as u32, found.tau as u32]);
+}
+
+/// Takes round one's joined messages for the return that waits under an id; writes the server's
+/// round two message and gives its length. Order of refusals: 11, 12, 14.
+pub fn round_one(
+    table: &mut [u8],
+    slots: &mut [Slot],
+    elements: &mut [u32],
+    id: u32,
+    joined: &[u8],
+    out: &mut [u8],
+) -> Result<usize, u32> {
+    let table = Table::look_over(table, slots, elements)?;
+    let at = awaits(&table, id, AWAITS_ONE)?;
+    let own = table.own();
+    let found = table.findings(at);
+    let written = round_message(ROUND_ONE, id, own, found.d, found.e);
+    let (d, e) = sums(&table, id, &written, joined)?;
     let out = out.first_chunk_mut().ok_or(refusal::ROOM)?;
 
-    let found = table.findings();
-    let sigma = sigma(&found, table.own() == 0, d, e);
-    table.set_message(sigma, found.tau);
-    table.set_stage(AWAITS_TWO);
-    *out = round_message(ROUND_TWO, table.id(), table.own(), sigma, found.tau);
+    let sigma = sigma(&found, own == 0, d, e);
+    let slot = &mut table.slots[at];
+    slot.stage = AWAITS_TWO;
+    (slot.d, slot.e) = (d, e);
+    *out = round_message(ROUND_TWO, id, own, sigma, found.tau);
     Ok(ROUND_LENGTH)
 }
 
-/// Takes round two's joined messages; gives the verdict. Order of refusals: 11, 12.
-pub fn round_two(table: &mut [u8], joined: &[u8]) -> Result<Verdict, u32> {
-    let mut table = Table::look_over(table, |stage| stage == AWAITS_TWO)?;
-    let sums = sums(&table, ROUND_TWO, joined)?;
-    let verdict = if sums == (0, 0) {
-        add_up(table.totals, table.published);
-        table.set_accepted(table.accepted + 1);
+/// Takes round two's joined messages for the return that waits under an id; gives the verdict.
+/// Order of refusals: 11, 12.
+pub fn round_two(
+    table: &mut [u8],
+    slots: &mut [Slot],
+    elements: &mut [u32],
+    id: u32,
+    joined: &[u8],
+) -> Result<Verdict, u32> {
+    let mut table = Table::look_over(table, slots, elements)?;
+    let at = awaits(&table, id, AWAITS_TWO)?;
+    let own = table.own();
+    let found = table.findings(at);
+    let sigma = sigma(&found, own == 0, found.d, found.e);
+    let written = round_message(ROUND_TWO, id, own, sigma, found.tau);
+    let verdict = if sums(&table, id, &written, joined)? == (0, 0) {
+        table.accept(at);
         Verdict::Accepted
     } else {
         Verdict::Rejected
     };
-    table.decide();
+    table.decide(at);
     Ok(verdict)
 }
 
-/// Drops the return that waits. Its id stays used. Refusal: 11.
-pub fn drop(table: &mut [u8]) -> Result<(), u32> {
-    let waits = |stage| stage == AWAITS_ONE || stage == AWAITS_TWO;
-    Table::look_over(table, waits)?.decide();
+/// Drops the return that waits under an id, which stays used. Refusal: 11.
+pub fn drop(
+    table: &mut [u8],
+    slots: &mut [Slot],
+    elements: &mut [u32],
+    id: u32,
+) -> Result<(), u32> {
+    let mut table = Table::look_over(table, slots, elements)?;
+    let at = table.waits(id).ok_or(refusal::STAGE)?;
+    table.decide(at);
     Ok(())
 }
 
 /// Closes the table; writes the closing message and gives its length. Order of refusals: 11,
 /// 14.
-pub fn close(table: &mut [u8], out: &mut [u8]) -> Result<usize, u32> {
-    let mut table = Table::look_over(table, |stage| stage == IDLE)?;
+pub fn close(
+    table: &mut [u8],
+    slots: &mut [Slot],
+    elements: &mut [u32],
+    out: &mut [u8],
+) -> Result<usize, u32> {
+    let mut table = Table::look_over(table, slots, elements)?;
+    if table.waiting > 0 {
+        return Err(refusal::STAGE);
+    }
     let length = 6 + field::WIDTH * table.totals.len();
     let out = out.get_mut(..length).ok_or(refusal::ROOM)?;
     out[0] = CLOSING;
     out[1] = table.own() as u8;
     out[2..6].copy_from_slice(&(table.accepted as u32).to_le_bytes());
     out[6..].copy_from_slice(table.totals.as_flattened());
-    table.set_stage(CLOSED);
+    table.close();
     Ok(length)
 }
 
-/// Judges a round's joined messages (refusal 12) for the return that waits; gives both sums.
-fn sums(table: &Table, kind: u8, joined: &[u8]) -> Result<(u64, u64), u32> {
-    let (id, own) = (table.id(), table.own());
-    let (x, y) = table.message();
+/// Where the return that waits under an id has its record, when it is at this stage (refusal
+/// 11).
+fn awaits(table: &Table, id: u32, stage: u32) -> Result<usize, u32> {
+    let at = table.waits(id);
+    let at = at.filter(|&at| table.slots[at].stage == stage);
+    at.ok_or(refusal::STAGE)
+}
+
+/// Judges a round's joined messages (refusal 12) for an id, of which the own one must be the one
+/// that was written; gives both sums.
+fn sums(
+    table: &Table,
+    id: u32,
+    written: &[u8; ROUND_LENGTH],
+    joined: &[u8],
+) -> Result<(u64, u64), u32> {
     let round = Round {
         servers: table.servers(),
-        kind,
+        kind: written[0],
         id,
-        own,
-        written: &round_message(kind, id, own, x, y),
+        own: table.own(),
+        written,
     };
     round_sums(&round, joined)
-}
-
-/// Adds elements to totals, modulo p.
-fn add_up(totals: &mut [Word], elements: &[Word]) {
-    for (total, &element) in totals.iter_mut().zip(elements) {
-        // Both are below p = 2^31 - 1, so the sum fits. Where sum + 1 has the top bit, p is
-        // taken off: 1 is added and the top bit cleared.
-        let sum = u32::from_le_bytes(*total) + u32::from_le_bytes(element);
-        let sum = (sum + ((sum + 1) >> 31)) & P as u32;
-        *total = sum.to_le_bytes();
-    }
-}
-
-#[cfg(test)]
-mod tests {
-    use super::layout::value;
-    use super::*;
-
-    #[test]
-    fn totals_add_up_modulo_p() {
-        let p = P as u32;
-        for a in [0, 1, p / 2, p / 2 + 1, p - 2, p - 1] {
-            for b in [0, 1, p / 2, p / 2 + 1, p - 2, p - 1] {
-                let mut totals = [a.to_le_bytes(); 5];
-                add_up(&mut totals, &[b.to_le_bytes(); 5]);
-                let sum = field::add(u64::from(a), u64::from(b));
-                assert!(totals.iter().all(|&total| value(total) == sum));
-            }
-        }
-    }
 }

@@ -7,7 +7,7 @@
 //!   [`mod@circuit`], [`mod@sizes`], [`values`], [`listing`], [`making`], [`judging`],
 //!   [`table`], [`joining`], [`mod@recount`] and [`shelf`];
 //! * the fast form, [`fast`], with the same calls and the same answers;
-//! * the lent form, [`lent`], with the calls on a table in bytes that the host lends.
+//! * the lent form, [`lent`], with the calls on a table in three parts that the host lends.
 //!
 //! [`gen`] makes random sheets, values, elements and whole scripts of calls from a
 //! seed.
@@ -44,4 +44,4 @@ pub use recount::recount;
 pub use sheet::{Column, Sheet};
 pub use shelf::{shelve, unshelve};
 pub use sizes::{sizes, Sizes};
-pub use table::{close, drop, open, round_one, round_two, share, Stage, Table, Verdict};
+pub use table::{close, drop, open, round_one, round_two, share, Stage, Table, Verdict, PLACES};

@@ -18,13 +18,13 @@ pub const SHARE: u32 = 7;
 pub const ELEMENT: u32 = 8;
 /// r or s outside its range.
 pub const CHALLENGE: u32 = 9;
-/// Id already decided.
+/// Id already decided, or waiting.
 pub const DECIDED: u32 = 10;
-/// A call the stage does not allow.
+/// A call the stage does not allow, or a table that comes from no opening.
 pub const STAGE: u32 = 11;
 /// Joined round or totals messages at fault.
 pub const JOINED: u32 = 12;
-/// N returns decided.
+/// N returns decided or waiting.
 pub const FULL: u32 = 13;
 /// Output buffer too short.
 pub const ROOM: u32 = 14;

@@ -11,17 +11,16 @@ use state::State;
 /// The kind byte of a closing message.
 pub const CLOSING: u8 = 36;
 
-/// Where a table stands.
+/// How many returns a table holds that are not decided yet.
+pub const PLACES: usize = 8;
+
+/// Where a return that waits stands.
 #[derive(Clone, Copy, Debug, PartialEq, Eq)]
 pub enum Stage {
-    /// Takes a share or a close.
-    Idle,
     /// Takes round one's joined messages or a drop.
     AwaitsRoundOne,
     /// Takes round two's joined messages or a drop.
     AwaitsRoundTwo,
-    /// Takes nothing.
-    Closed,
 }
 
 /// The verdict on a return.
@@ -83,9 +82,9 @@ impl<F, G> PartialEq<Table<G>> for Table<F> {
 impl<F> Eq for Table<F> {}
 
 impl<F> Table<F> {
-    /// Where the table stands.
-    pub fn stage(&self) -> Stage {
-        self.state.stage()
+    /// Whether the table is closed: it takes nothing then.
+    pub fn closed(&self) -> bool {
+        self.state.closed
     }
 
     /// The ids decided so far, in order.
@@ -98,14 +97,22 @@ impl<F> Table<F> {
         self.state.accepted
     }
 
-    /// The id that waits, if one does.
-    pub fn waiting_id(&self) -> Option<u32> {
-        self.state.waiting().map(|waiting| waiting.id)
+    /// The ids that wait with their stages, in the order of their places.
+    pub fn waiting(&self) -> Vec<(u32, Stage)> {
+        let waiting = self.state.waiting();
+        waiting.map(|own| (own.id, own.stage)).collect()
     }
 
-    /// The message that this table wrote last for the id that waits.
-    pub fn waiting_message(&self) -> Option<[u8; ROUND_LENGTH]> {
-        self.state.waiting().map(|waiting| waiting.message)
+    /// The stage of the return that waits under an id, if one does.
+    pub fn stage(&self, id: u32) -> Option<Stage> {
+        let mut waiting = self.state.waiting();
+        waiting.find(|own| own.id == id).map(|own| own.stage)
+    }
+
+    /// The message that this table wrote last for an id that waits.
+    pub fn waiting_message(&self, id: u32) -> Option<[u8; ROUND_LENGTH]> {
+        let mut waiting = self.state.waiting();
+        waiting.find(|own| own.id == id).map(|own| own.message)
     }
 }
 
@@ -139,27 +146,29 @@ pub fn share<F: Form>(
     let Table { state, form } = table;
     let (id, elements) = state.check_share(message, r, s, room)?;
     let worked = form.work(&state.sheet, state.first(), elements, r, s);
-    Ok(state.note_share(id, worked))
+    state.note_share(id, worked)
 }
 
-/// Takes round one's joined messages; gives the server's round two message. Order of
-/// refusals: 11, 12, 14.
+/// Takes round one's joined messages for the return that waits under an id; gives the
+/// server's round two message. Order of refusals: 11, 12, 14.
 pub fn round_one<F>(
     table: &mut Table<F>,
+    id: u32,
     joined: &[u8],
     room: usize,
 ) -> Result<[u8; ROUND_LENGTH], u32> {
-    table.state.round_one(joined, room)
+    table.state.round_one(id, joined, room)
 }
 
-/// Takes round two's joined messages; gives the verdict. Order of refusals: 11, 12.
-pub fn round_two<F>(table: &mut Table<F>, joined: &[u8]) -> Result<Verdict, u32> {
-    table.state.round_two(joined)
+/// Takes round two's joined messages for the return that waits under an id; gives the
+/// verdict. Order of refusals: 11, 12.
+pub fn round_two<F>(table: &mut Table<F>, id: u32, joined: &[u8]) -> Result<Verdict, u32> {
+    table.state.round_two(id, joined)
 }
 
-/// Drops the return that waits. Its id stays used. Refusal: 11.
-pub fn drop<F>(table: &mut Table<F>) -> Result<(), u32> {
-    table.state.drop()
+/// Drops the return that waits under an id, which stays used. Refusal: 11.
+pub fn drop<F>(table: &mut Table<F>, id: u32) -> Result<(), u32> {
+    table.state.drop(id)
 }
 
 /// Closes the table; gives the closing message. Order of refusals: 11, 14.

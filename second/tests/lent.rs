@@ -2,11 +2,12 @@
 
 mod common;
 
-use common::lent_table::{Lent, FILL};
+use common::lent_table::{Lent, FILL, FILL_NUMBER, FILL_SLOT};
 use common::*;
 use second::field::P;
 use second::gen::{Answer, Call, Case, Origin, Return, Rng, Script, Server};
-use second::{lent, table, Sheet};
+use second::lent::{self, Slot};
+use second::{table, Sheet};
 
 #[test]
 fn scripts_agree() {
@@ -34,23 +35,43 @@ fn openings_agree() {
         let plain = table::open(*servers, *own, sheet, *limit);
         let lent = Lent::open(*servers, *own, sheet, *limit);
         assert_eq!(lent.as_ref().err(), plain.as_ref().err(), "{case:?}");
-        let Ok(Lent { length, bytes }) = lent else {
-            continue;
-        };
-        for room in [0, 1, 42, length / 2, length - 1] {
-            let mut short = vec![FILL; room];
-            assert_eq!(
-                lent::open(*servers, *own, sheet, *limit, &mut short),
-                Err(14)
-            );
-            assert!(short.iter().all(|&byte| byte == FILL));
+        if let Ok(lent) = lent {
+            openings_in_any_room(&lent, |b, slots, n| {
+                lent::open(*servers, *own, sheet, *limit, b, slots, n)
+            });
         }
-        let mut exact = vec![FILL; length];
-        assert_eq!(
-            lent::open(*servers, *own, sheet, *limit, &mut exact),
-            Ok(length)
-        );
-        assert_eq!(exact, bytes[..length]);
+    }
+}
+
+/// Opens a table in exactly enough room, and in too little of each part, which is refused 14
+/// and writes nothing.
+fn openings_in_any_room(
+    opened: &Lent,
+    open: impl Fn(&mut [u8], &mut [Slot], &mut [u32]) -> Result<usize, u32>,
+) {
+    let Lent { length, run, .. } = *opened;
+    let short = |needed: usize| [0, 1, 11, needed / 2, needed - 1];
+    let mut rooms = vec![(length, 8, run)];
+    rooms.extend(short(length).map(|length| (length, 8, run)));
+    rooms.extend(short(run).map(|run| (length, 8, run)));
+    rooms.extend([0, 1, 7, 9, 16].map(|slots| (length, slots, run)));
+    rooms.push((length - 1, 7, run - 1));
+    for room in rooms {
+        let mut bytes = vec![FILL; room.0];
+        let mut slots = vec![FILL_SLOT; room.1];
+        let mut numbers = vec![FILL_NUMBER; room.2];
+        let answer = open(&mut bytes, &mut slots, &mut numbers);
+        if room == (length, 8, run) {
+            assert_eq!(answer, Ok(length));
+            assert_eq!(bytes, opened.bytes[..length]);
+            assert_eq!(slots, opened.slots);
+            assert_eq!(numbers, opened.numbers[..run]);
+        } else {
+            assert_eq!(answer, Err(14), "{room:?}");
+            assert!(bytes.iter().all(|&byte| byte == FILL));
+            assert!(slots.iter().all(|&slot| slot == FILL_SLOT));
+            assert!(numbers.iter().all(|&number| number == FILL_NUMBER));
+        }
     }
 }
 
@@ -107,7 +128,11 @@ fn share_and_round_one(bytes: &[u8], given: &Return, r: u64) {
             joined.extend(message);
         }
     }
-    let call = Call::RoundOne { joined, room: 14 };
+    let call = Call::RoundOne {
+        id: given.id,
+        joined,
+        room: 14,
+    };
     for (lent, plain) in lents.iter_mut().zip(&mut plains) {
         assert_eq!(lent.call(&call), plain.call(&call), "{bytes:?}");
     }
@@ -130,7 +155,7 @@ fn a_thousand_ids() {
             }
         }
         assert!(matches!(table.call(&share(id)), Answer::Message(_)));
-        assert_eq!(table.call(&Call::Drop), Answer::Dropped);
+        assert_eq!(table.call(&Call::Drop { id }), Answer::Dropped);
     }
     assert_eq!(table.call(&share(1024)), Answer::Refused(13));
     assert_eq!(table.call(&share(3)), Answer::Refused(13));

@@ -2,150 +2,44 @@
 
 mod common;
 
-use common::lent_table::{Lent, LONGEST};
-use second::field::{self, P};
-use second::gen::{Answer, Call, Origin, Return, Rng, Server};
-use second::{table, Sheet, Verdict};
+use common::lent_model::{check, sound, stages, taken, Stages};
+use common::lent_table::{Lent, FILL_SLOT};
+use common::P32;
+use second::field::P;
+use second::gen::{Answer, Call, Server};
+use second::lent::Slot;
+use second::Sheet;
 
-/// One table at each stage, with a return accepted and one rejected, and calls of which each
-/// stage takes one at least.
-struct Stages {
-    sheet: Vec<u8>,
-    tables: Vec<Lent>,
-    calls: Vec<Call>,
-}
+/// Sheets of every kind, all small.
+const SHEETS: [&[u8]; 5] = [
+    &[17, 18, 3, 19, 5],
+    &[17],
+    &[17; 9],
+    &[18, 2, 18, 4],
+    &[20, 6, 0, 0, 0, 18, 2],
+];
 
-fn stages(sheet: &[u8], limit: u32) -> Stages {
-    let shape = Sheet::read(sheet).unwrap();
-    let mut rng = Rng::new(43);
-    let lents = (0..2).map(|own| Lent::open(2, own, sheet, limit).unwrap());
-    let mut lents: Vec<Lent> = lents.collect();
-    let mut last = (Vec::new(), Vec::new());
-    for (id, origin, verdict) in [
-        (1, Origin::Honest, Verdict::Accepted),
-        (2, Origin::FalseTriple, Verdict::Rejected),
-        (3, Origin::Honest, Verdict::Accepted),
-    ] {
-        let given = Return::random(&mut rng, &shape, 2, id, origin);
-        last = judged(&mut lents, &given, verdict);
-    }
-    let (mut tables, mut calls) = last;
-    calls.push(Call::Drop);
-    calls.push(Call::Close { room: LONGEST });
-    let mut closed = lents[0].clone();
-    message(closed.call(&calls[4]));
-    tables.push(closed);
-    Stages {
-        sheet: sheet.to_vec(),
-        tables,
-        calls,
-    }
-}
-
-/// Takes a return to its verdict; gives server 0's table before each of its calls, and these.
-fn judged(lents: &mut [Lent], given: &Return, verdict: Verdict) -> (Vec<Lent>, Vec<Call>) {
-    let share = |own: usize| Call::Share {
-        message: given.shares[own].clone(),
-        r: given.r,
-        s: given.s,
-        room: 14,
-    };
-    let mut tables = vec![lents[0].clone()];
-    let shared = lents.iter_mut().enumerate();
-    let joined = shared.flat_map(|(own, lent)| message(lent.call(&share(own))));
-    let joined = joined.collect();
-    tables.push(lents[0].clone());
-    let one = Call::RoundOne { joined, room: 14 };
-    let joined = lents.iter_mut().flat_map(|lent| message(lent.call(&one)));
-    let joined = joined.collect();
-    tables.push(lents[0].clone());
-    let two = Call::RoundTwo { joined };
-    for lent in lents {
-        assert_eq!(lent.call(&two), Answer::Verdict(verdict));
-    }
-    (tables, vec![share(0), one, two])
-}
-
-fn message(answer: Answer) -> Vec<u8> {
-    match answer {
-        Answer::Message(message) => message,
-        other => panic!("{other:?}"),
-    }
-}
-
-/// The stage of a table that obeys the limits, read from the layout that `lent` tells.
-fn sound(bytes: &[u8]) -> Option<u8> {
-    let number = |at: usize| u32::from(bytes[at]) + 256 * u32::from(bytes[at + 1]);
-    let (stage, servers, own) = (bytes[0], bytes[1], bytes[2]);
-    let end = 43 + number(3) as usize;
-    let sheet = bytes.get(43..end)?;
-    let (limit, decided, accepted) = (number(5), number(7), number(9));
-    table::open(servers.into(), own.into(), sheet, limit).ok()?;
-    let published = 4 * Sheet::read(sheet).ok()?.published();
-    let totals = bytes.get(end..end + published)?;
-    let entries = bytes.get(end + published..end + 2 * published)?;
-    bytes.get(..end + 2 * published + 4 * limit as usize)?;
-    field::elements(totals)?;
-    let held = match stage {
-        0 | 3 => &[],
-        1 => &bytes[15..43],
-        2 => &bytes[15..23],
-        _ => return None,
-    };
-    field::elements(held)?;
-    let waits = stage == 1 || stage == 2;
-    if waits {
-        field::elements(entries)?;
-    }
-    (accepted <= decided && decided + u32::from(waits) <= limit).then_some(stage)
-}
-
-/// Which calls are not refused 11 by a table, and that a refusal changes nothing.
-fn taken(table: &Lent, calls: &[Call]) -> Vec<bool> {
-    let takes = |call| table.clone().call(call) != Answer::Refused(11);
-    calls.iter().map(takes).collect()
-}
-
-/// A table is refused 11 by every call, or obeys the limits and takes what its stage allows.
-fn check(table: &Lent, calls: &[Call]) {
-    let expected = match sound(&table.bytes) {
-        Some(0) => [true, false, false, false, true],
-        Some(1) => [false, true, false, true, false],
-        Some(2) => [false, false, true, true, false],
-        _ => [false; 5],
-    };
-    assert_eq!(taken(table, calls), expected, "{:?}", &table.bytes[..48]);
-}
-
-/// The whole buffer counts as the table's: another header may make a longer table of it.
-fn whole(table: &Lent) -> Lent {
-    let bytes = table.bytes.clone();
-    Lent {
-        length: bytes.len(),
-        bytes,
-    }
+/// The table with something changed.
+fn changed(table: &Lent, change: impl FnOnce(&mut Lent)) -> Lent {
+    let mut table = table.clone();
+    change(&mut table);
+    table
 }
 
 #[test]
 fn header_and_sheet_bytes_changed() {
     for (sheet, limit) in [
-        (&[17, 18, 3, 19, 24][..], 3),
-        (&[17], 4),
-        (&[17; 40], 1024),
-        (&[20, 5, 0, 0, 0, 17], 3),
+        (&[17, 18, 3, 19, 24][..], 5),
+        (&[17], 6),
+        (&[17; 9], 1024),
+        (&[20, 5, 0, 0, 0, 17], 5),
     ] {
-        let Stages {
-            tables,
-            calls,
-            sheet,
-        } = stages(sheet, limit.max(3));
-        for table in &tables {
-            let table = whole(table);
-            check(&table, &calls);
-            for at in 0..43 + sheet.len() {
+        let Stages { tables, calls } = stages(sheet, limit);
+        for (number, table) in tables.iter().enumerate() {
+            assert_eq!(check(table, &calls), number < 4);
+            for at in 0..12 + sheet.len() {
                 for byte in 0..=255 {
-                    let mut other = table.clone();
-                    other.bytes[at] = byte;
+                    let other = changed(table, |t| t.bytes[at] = byte);
                     check(&other, &calls);
                 }
             }
@@ -153,72 +47,230 @@ fn header_and_sheet_bytes_changed() {
     }
 }
 
+/// N, the counts and the table byte at both sides of their limits.
 #[test]
-fn elements_not_below_p() {
-    let p = P as u32;
-    for sheet in [
-        &[17, 18, 3, 19, 5][..],
-        &[17],
-        &[17; 37],
-        &[18, 2, 18, 9],
-        &[20, 200, 0, 0, 0, 18, 2],
-    ] {
-        let Stages {
-            tables,
-            calls,
-            sheet,
-        } = stages(sheet, 5);
-        let published = Sheet::read(&sheet).unwrap().published();
-        for (stage, table) in tables.iter().enumerate() {
-            let totals = 43 + sheet.len();
-            let entries = totals + 4 * published;
-            let ids = entries + 4 * published;
-            let mut places: Vec<(usize, bool)> = vec![(11, false)];
-            places.extend((15..23).step_by(4).map(|at| (at, stage == 1 || stage == 2)));
-            places.extend((23..43).step_by(4).map(|at| (at, stage == 1)));
-            places.extend((totals..entries).step_by(4).map(|at| (at, true)));
-            places.extend(
-                (entries..ids)
-                    .step_by(4)
-                    .map(|at| (at, stage == 1 || stage == 2)),
-            );
-            places.extend((ids..table.length).step_by(4).map(|at| (at, false)));
-            for (at, held) in places {
-                for word in [p, p + 1, 1 << 31, u32::MAX] {
-                    let mut other = table.clone();
-                    other.bytes[at..at + 4].copy_from_slice(&word.to_le_bytes());
-                    check(&other, &calls);
-                    assert!(!held || taken(&other, &calls) == [false; 5]);
-                }
-            }
+fn counts_at_their_limits() {
+    let Stages { tables, calls } = stages(&[17], 6);
+    let put = |table: &Lent, at: usize, number: u16| {
+        let other = changed(table, |t| {
+            t.bytes[at..at + 2].copy_from_slice(&number.to_le_bytes())
+        });
+        check(&other, &calls)
+    };
+    let counts = [(2, 0), (2, 1), (2, 1), (3, 2)];
+    for (table, (decided, waiting)) in tables.iter().zip(counts) {
+        assert_eq!(table.bytes[4..10], [6, 0, decided as u8, 0, 1, 0]);
+        assert!(put(table, 6, 6 - waiting) && !put(table, 6, 7 - waiting));
+        assert!(put(table, 6, 1) && !put(table, 6, 0));
+        assert!(put(table, 8, decided) && !put(table, 8, decided + 1));
+        let least = decided + waiting;
+        assert!(put(table, 4, least) && !put(table, 4, least - 1));
+        // The buffer has room for 16 ids.
+        assert!(put(table, 4, 16) && !put(table, 4, 17));
+        for byte in [0, 1, 3, 255] {
+            let other = changed(table, |t| t.bytes[0] = byte);
+            assert!(!check(&other, &calls));
         }
     }
 }
 
+/// Each field of a record at both sides of its limits. A free record's are free.
 #[test]
-fn short_and_long_slices() {
-    let Stages { tables, calls, .. } = stages(&[17, 18, 3, 19, 5], 5);
-    for table in &tables {
-        let expected = taken(table, &calls);
-        for length in 0..table.bytes.len() {
-            let mut other = table.clone();
-            other.bytes.truncate(length);
-            other.length = length.min(table.length);
-            let takes = if length < table.length {
-                vec![false; 5]
-            } else {
-                expected.clone()
+fn records_at_their_limits() {
+    for sheet in SHEETS {
+        let Stages { tables, calls } = stages(sheet, 8);
+        let gates = Sheet::read(sheet).unwrap().multiplications() as u64;
+        for (table, record) in tables[..4].iter().flat_map(|t| (0..8).map(move |i| (t, i))) {
+            let free = table.slots[record].stage == 0;
+            let with = |change: &dyn Fn(&mut Slot)| {
+                let other = changed(table, |t| change(&mut t.slots[record]));
+                check(&other, &calls)
             };
-            assert_eq!(taken(&other, &calls), takes);
+            for r in [0, 1, gates, P, P + 1, (1 << 32) + gates + 1, u64::MAX] {
+                assert_eq!(with(&|slot| slot.r = r), free);
+            }
+            for r in [gates + 1, 2 * gates, P - 1] {
+                assert!(with(&|slot| slot.r = r));
+            }
+            for element in [0, P - 1, P, P + 1, 1 << 32, u64::MAX] {
+                let fits = free || element < P;
+                assert_eq!(with(&|slot| slot.s = element), fits);
+                assert_eq!(with(&|slot| slot.d = element), fits);
+                assert_eq!(with(&|slot| slot.e = element), fits);
+            }
+            for id in [0, 1, 2, 3, 5, u32::MAX] {
+                assert!(with(&|slot| slot.id = id));
+            }
+            for stage in [3, 4, 255, 256, 257, 1 << 31, u32::MAX] {
+                assert!(!with(&|slot| slot.stage = stage));
+            }
+            // A record of 0 has no r above M.
+            assert!(with(&|slot| slot.stage = 0));
+            assert_eq!(with(&|slot| slot.stage = 1), !free);
+            assert_eq!(with(&|slot| slot.stage = 2), !free);
         }
     }
-    for length in [0, 1, 42, 43, 44, 7000] {
+}
+
+/// Each number of each place, and each total, at both sides of its limit.
+#[test]
+fn elements_at_their_limits() {
+    for sheet in SHEETS {
+        let Stages { tables, calls } = stages(sheet, 5);
+        let published = Sheet::read(sheet).unwrap().published();
+        for table in &tables[..4] {
+            let width = table.run / 8;
+            for at in 0..table.numbers.len() {
+                // Past the run all is free as well.
+                let free = at >= table.run || table.slots[at / width].stage == 0;
+                let with = |number: u32| {
+                    let other = changed(table, |t| t.numbers[at] = number);
+                    check(&other, &calls)
+                };
+                assert!(with(0) && with(P32 - 1));
+                for number in [P32, P32 + 1, 1 << 31, u32::MAX] {
+                    assert_eq!(with(number), free, "{at}");
+                }
+            }
+            let totals = 12 + sheet.len();
+            let ids = totals + 4 * published;
+            for at in (totals..table.length).step_by(4) {
+                let with = |number: u32| {
+                    let other = changed(table, |t| {
+                        t.bytes[at..at + 4].copy_from_slice(&number.to_le_bytes())
+                    });
+                    check(&other, &calls)
+                };
+                assert!(with(0) && with(P32 - 1));
+                for number in [P32, P32 + 1, 1 << 31, u32::MAX] {
+                    assert_eq!(with(number), at >= ids);
+                }
+            }
+        }
+    }
+}
+
+/// Too few bytes, too few numbers, other than eight records.
+#[test]
+fn short_and_long_parts() {
+    let Stages { tables, calls } = stages(&[17, 18, 3, 19, 5], 5);
+    for (number, table) in tables.iter().enumerate() {
+        let fits = |fits: bool| fits && number < 4;
+        for length in 0..table.bytes.len() {
+            let other = changed(table, |t| t.bytes.truncate(length));
+            assert_eq!(check(&other, &calls), fits(length >= table.length));
+        }
+        for run in 0..table.numbers.len() {
+            let other = changed(table, |t| t.numbers.truncate(run));
+            assert_eq!(check(&other, &calls), fits(run >= table.run));
+        }
+        for slots in [0, 1, 7, 8, 9, 16] {
+            let other = changed(table, |t| t.slots.resize(slots, Slot::default()));
+            assert_eq!(check(&other, &calls), fits(slots == 8));
+        }
+    }
+    for (length, run) in [(0, 0), (11, 7000), (12, 7000), (44, 0), (7000, 7000)] {
         for byte in [0, 1, 2, 17, 255] {
             let table = Lent {
                 bytes: vec![byte; length],
+                slots: vec![Slot::default(); 8],
+                numbers: vec![0; run],
                 length,
+                run,
             };
-            assert_eq!(taken(&table, &calls), [false; 5]);
+            assert_eq!(taken(&table, &calls), [false; 6]);
+        }
+    }
+}
+
+/// An id that waits in two records, or waits and is decided: the first record that waits under
+/// it counts.
+#[test]
+fn ids_that_come_twice() {
+    let Stages { tables, calls } = stages(&[17, 19, 3], 8);
+    let both = &tables[3];
+    assert_eq!((both.slots[0].id, both.slots[0].stage), (3, 1));
+    assert_eq!((both.slots[2].id, both.slots[2].stage), (5, 2));
+    // Both records under 5: the first one awaits round one.
+    let twice = changed(both, |t| t.slots[0].id = 5);
+    assert!(check(&twice, &calls));
+    assert_eq!(twice.clone().call(&calls[2]), Answer::Refused(11));
+    let mut dropped = twice.clone();
+    assert_eq!(dropped.call(&Call::Drop { id: 5 }), Answer::Dropped);
+    assert_eq!(dropped.slots[0], Slot::default());
+    assert_eq!(dropped.slots[2], both.slots[2]);
+    assert!(matches!(dropped.call(&calls[2]), Answer::Verdict(_)));
+    // A free record that holds the id is no record of it.
+    let free = changed(both, |t| t.slots[0].stage = 0);
+    let free = changed(&free, |t| t.slots[0].id = 5);
+    assert!(matches!(free.clone().call(&calls[2]), Answer::Verdict(_)));
+    assert_eq!(free.clone().call(&calls[1]), Answer::Refused(11));
+    // A decided id that waits.
+    let decided = changed(both, |t| {
+        let ids = t.length - 4 * 8;
+        t.bytes[ids..ids + 4].copy_from_slice(&5u32.to_le_bytes());
+    });
+    assert!(check(&decided, &calls));
+    assert!(matches!(
+        decided.clone().call(&calls[2]),
+        Answer::Verdict(_)
+    ));
+    assert_eq!(sound(&decided), sound(both));
+}
+
+/// Eight records that wait in a table with N = 1,024: the last place counts as the others.
+#[test]
+fn all_eight_places() {
+    let Stages { tables, calls } = stages(&[18, 3], 1024);
+    let mut table = tables[1].clone();
+    let width = table.run / 8;
+    let first = table.place(0).to_vec();
+    for record in 1..8 {
+        table.slots[record] = table.slots[0];
+        table.slots[record].id += 100 * record as u32;
+        table.numbers[width * record..][..width].copy_from_slice(&first);
+    }
+    assert!(check(&table, &calls));
+    assert_eq!(table.clone().call(&calls[0]), Answer::Refused(11));
+    for record in 0..8 {
+        for at in [width * record, width * (record + 1) - 1] {
+            let other = changed(&table, |t| t.numbers[at] = P32);
+            assert!(!check(&other, &calls));
+            let other = changed(&other, |t| t.slots[record].stage = 0);
+            assert!(check(&other, &calls));
+        }
+    }
+}
+
+/// What is free has no say: records and places that are free, ids that are not decided yet.
+#[test]
+fn free_parts_have_no_say() {
+    for sheet in SHEETS {
+        let Stages { tables, calls } = stages(sheet, 8);
+        for table in &tables[..4] {
+            let width = table.run / 8;
+            let full = changed(table, |t| {
+                for record in (0..8).filter(|&i| table.slots[i].stage == 0) {
+                    t.slots[record] = Slot {
+                        stage: 0,
+                        ..FILL_SLOT
+                    };
+                    t.numbers[width * record..][..width].fill(u32::MAX);
+                }
+                let decided = usize::from(t.bytes[6]);
+                let ids = t.length - 4 * 8 + 4 * decided;
+                t.bytes[ids..].fill(0xFF);
+                t.numbers[table.run..].fill(0);
+            });
+            assert!(check(&full, &calls));
+            for call in &calls {
+                let (mut full, mut table) = (full.clone(), table.clone());
+                assert_eq!(full.call(call), table.call(call));
+                for record in (0..8).filter(|&i| table.slots[i].stage != 0) {
+                    assert_eq!(full.slots[record], table.slots[record]);
+                    assert_eq!(full.place(record), table.place(record));
+                }
+            }
         }
     }
 }

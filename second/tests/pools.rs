@@ -9,12 +9,13 @@ use second::field;
 use second::gen::{self, added_up, lets_in, Answer, Call, CaseAnswer, Origin, Rng, Script};
 use second::{Circuit, Joined, Sheet, Verdict};
 
-/// What a ledger notes of one server: the shares it took, by id, and the ids it accepted
-/// and dropped.
+/// What a ledger notes of one server: the shares it took, by id, the ids that wait with their
+/// rounds, and those it accepted, rejected and dropped.
 #[derive(Default)]
 struct Ledger {
     taken: BTreeMap<u32, (Vec<u64>, u64, u64)>,
-    waiting: Option<u32>,
+    waiting: BTreeMap<u32, u32>,
+    most: usize,
     accepted: Vec<u32>,
     rejected: Vec<u32>,
     dropped: Vec<u32>,
@@ -30,23 +31,31 @@ fn ledgers(script: &Script) -> Vec<Ledger> {
             (_, Answer::Refused(_)) => {}
             (Call::Share { message, r, s, .. }, Answer::Message(written)) => {
                 assert_eq!(written.len(), 14);
-                let id = u32::from_le_bytes(message[1..5].try_into().unwrap());
+                let id = id_of(message);
                 let elements = field::elements(&message[6..]).unwrap();
                 assert!(ledger.taken.insert(id, (elements, *r, *s)).is_none());
-                ledger.waiting = Some(id);
+                ledger.waiting.insert(id, 1);
+                ledger.most = ledger.most.max(ledger.waiting.len());
             }
-            (Call::RoundOne { .. }, Answer::Message(written)) => assert_eq!(written.len(), 14),
-            (Call::RoundTwo { joined }, Answer::Verdict(verdict)) => {
-                let id = ledger.waiting.take().unwrap();
+            (Call::RoundOne { id, .. }, Answer::Message(written)) => {
+                assert_eq!(written.len(), 14);
+                assert_eq!(ledger.waiting.insert(*id, 2), Some(1));
+            }
+            (Call::RoundTwo { id, joined }, Answer::Verdict(verdict)) => {
+                assert_eq!(ledger.waiting.remove(id), Some(2));
                 if *verdict == Verdict::Accepted {
-                    ledger.accepted.push(id);
+                    ledger.accepted.push(*id);
                 } else {
-                    ledger.rejected.push(id);
+                    ledger.rejected.push(*id);
                 }
                 assert_eq!(sums(joined) == (0, 0), *verdict == Verdict::Accepted);
             }
-            (Call::Drop, Answer::Dropped) => ledger.dropped.push(ledger.waiting.take().unwrap()),
+            (Call::Drop { id }, Answer::Dropped) => {
+                assert!(ledger.waiting.remove(id).is_some());
+                ledger.dropped.push(*id);
+            }
             (Call::Close { .. }, Answer::Message(message)) => {
+                assert!(ledger.waiting.is_empty());
                 assert!(ledger.closing.replace(message.clone()).is_none());
             }
             other => panic!("an answer of the wrong kind: {other:?}"),
@@ -73,7 +82,8 @@ fn check(script: &Script, met: &mut BTreeSet<u32>, verdicts: &mut BTreeMap<Strin
     let ledgers = ledgers(script);
     for (server, ledger) in ledgers.iter().enumerate() {
         let decided = ledger.accepted.len() + ledger.rejected.len() + ledger.dropped.len();
-        assert!(decided <= script.limit as usize);
+        assert!(decided + ledger.waiting.len() <= script.limit as usize);
+        assert!(ledger.most <= 8);
         if let Some(message) = &ledger.closing {
             assert_eq!(*message, expected_closing(&sheet, server, ledger));
         }
@@ -97,8 +107,11 @@ fn check(script: &Script, met: &mut BTreeSet<u32>, verdicts: &mut BTreeMap<Strin
 /// Under demand 3's conditions the accepted ids are the same at each server, and joining
 /// gives their number and the sums of the added-up published entries.
 fn check_truth(script: &Script, sheet: &Sheet, ledgers: &[Ledger], truth: &Joined) {
-    assert!(ledgers.iter().all(|l| l.accepted == ledgers[0].accepted));
-    assert!(ledgers.iter().all(|l| l.rejected == ledgers[0].rejected));
+    let set = |ids: &[u32]| ids.iter().copied().collect::<BTreeSet<u32>>();
+    let mut accepted = ledgers.iter().map(|l| set(&l.accepted));
+    assert!(accepted.all(|ids| ids == set(&ledgers[0].accepted)));
+    let mut rejected = ledgers.iter().map(|l| set(&l.rejected));
+    assert!(rejected.all(|ids| ids == set(&ledgers[0].rejected)));
     assert_eq!(script.joins[0].answer, CaseAnswer::Joined(truth.clone()));
     let mut totals = vec![0; sheet.published()];
     for id in &ledgers[0].accepted {
@@ -150,13 +163,16 @@ fn orderly_pools() {
     let mut met = BTreeSet::new();
     let mut verdicts = BTreeMap::new();
     let mut servers = BTreeSet::new();
+    let mut full = 0;
     for seed in 0..250 {
         let script = Script::orderly(seed);
         assert!(script.truth.is_some());
         servers.insert(script.servers);
         check(&script, &mut met, &mut verdicts);
+        full += usize::from(ledgers(&script).iter().any(|ledger| ledger.most == 8));
     }
     assert_eq!(servers, (2..=8).collect());
+    assert!(full > 25, "{full} pools in which eight waited");
     assert!((7..=14).all(|number| met.contains(&number)), "{met:?}");
     assert_eq!(verdicts.len(), 7, "{verdicts:?}");
     assert_eq!(verdicts["Honest"][0], 0);
@@ -172,6 +188,7 @@ fn wild_lists() {
     let mut accepted = 0;
     let mut rejected = 0;
     let mut dropped = 0;
+    let mut full = 0;
     for seed in 0..200 {
         let script = Script::wild(seed);
         assert!(script.truth.is_none());
@@ -180,10 +197,12 @@ fn wild_lists() {
             accepted += ledger.accepted.len();
             rejected += ledger.rejected.len();
             dropped += ledger.dropped.len();
+            full += usize::from(ledger.most == 8);
         }
     }
     assert!((7..=14).all(|number| met.contains(&number)), "{met:?}");
     assert!(accepted > 200 && rejected > 200 && dropped > 200);
+    assert!(full > 25, "{full} tables at which eight waited");
 }
 
 #[test]

@@ -216,9 +216,9 @@ fn any_bytes_at_every_call() {
         let _ = unshelve(number, number % 5000, &bytes, length);
         let mut table = open(2, round % 2, &[17], 3).unwrap();
         let _ = share(&mut table, &bytes, r, s, ROOM);
-        let _ = round_one(&mut table, &bytes, ROOM);
-        let _ = round_two(&mut table, &bytes);
-        let _ = drop(&mut table);
+        let _ = round_one(&mut table, number, &bytes, ROOM);
+        let _ = round_two(&mut table, number, &bytes);
+        let _ = drop(&mut table, number);
         let _ = close(&mut table, length);
     }
 }

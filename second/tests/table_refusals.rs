@@ -30,7 +30,10 @@ fn waiting(sheet: &[u8], limit: u32) -> (Vec<Table>, Vec<u8>) {
 
 /// Takes round one at every table; gives the joined messages of round two.
 fn second_round(tables: &mut [Table], first: &[u8]) -> Vec<u8> {
-    let messages = tables.iter_mut().map(|table| round_one(table, first, 14));
+    let id = id_of(first);
+    let messages = tables
+        .iter_mut()
+        .map(|table| round_one(table, id, first, 14));
     messages.flat_map(Result::unwrap).collect()
 }
 
@@ -41,10 +44,9 @@ fn share_order() {
     let (mut tables, _) = waiting(&sheet, 1);
     let table = &mut tables[0];
 
-    // 11 while a return waits, however broken the share.
-    refused(table, 11, |t| share(t, &[], 0, P, 0));
-    // 13 when N are decided, however broken the share.
-    drop(table).unwrap();
+    // 13 when N wait or are decided, however broken the share; 11 in a closed table.
+    refused(table, 13, |t| share(t, &[], 0, P, 0));
+    drop(table, 7).unwrap();
     refused(table, 13, |t| share(t, &[], 0, P, 0));
     close(table, ROOM).unwrap();
     refused(table, 11, |t| share(t, &[], 0, P, 0));
@@ -52,7 +54,7 @@ fn share_order() {
     // The rest with room for another return. One fault after the other goes away.
     let (mut tables, _) = waiting(&sheet, 2);
     let table = &mut tables[0];
-    drop(table).unwrap();
+    drop(table, 7).unwrap();
     let used = &honest(&sheet, 2, 7)[0];
     let fresh = &honest(&sheet, 2, 8)[0];
     assert_eq!(used.len(), shape.share_length());
@@ -128,38 +130,38 @@ fn stages() {
     let sheet = [17];
     let (mut tables, first) = waiting(&sheet, 3);
     let mut idle = open(2, 0, &sheet, 3).unwrap();
-    assert_eq!(idle.stage(), Stage::Idle);
-    // Idle takes a share or a close.
-    refused(&mut idle, 11, |t| round_one(t, &first, 14));
-    refused(&mut idle, 11, |t| round_two(t, &first));
-    refused(&mut idle, 11, drop);
-    // Awaiting round one takes that round or a drop.
+    assert_eq!(idle.waiting(), []);
+    // A table at which nothing waits takes a share or a close.
+    refused(&mut idle, 11, |t| round_one(t, 7, &first, 14));
+    refused(&mut idle, 11, |t| round_two(t, 7, &first));
+    refused(&mut idle, 11, |t| drop(t, 7));
+    // A return that awaits round one takes that round or a drop.
     let shares = honest(&sheet, 2, 9);
     let table = &mut tables[0];
-    assert_eq!(table.stage(), Stage::AwaitsRoundOne);
-    refused(table, 11, |t| share(t, &shares[0], 100, 0, 14));
-    refused(table, 11, |t| round_two(t, &first));
+    assert_eq!(table.waiting(), [(7, Stage::AwaitsRoundOne)]);
+    refused(table, 11, |t| round_two(t, 7, &first));
     refused(table, 11, |t| close(t, ROOM));
-    assert_eq!(drop(&mut table.clone()), Ok(()));
+    assert_eq!(table.waiting_message(7).unwrap(), first[..14]);
+    assert_eq!(drop(&mut table.clone(), 7), Ok(()));
     // Awaiting round two likewise.
     let second = second_round(&mut tables, &first);
     let table = &mut tables[0];
-    assert_eq!(table.stage(), Stage::AwaitsRoundTwo);
-    refused(table, 11, |t| share(t, &shares[0], 100, 0, 14));
-    refused(table, 11, |t| round_one(t, &first, 14));
+    assert_eq!(table.waiting(), [(7, Stage::AwaitsRoundTwo)]);
+    refused(table, 11, |t| round_one(t, 7, &first, 14));
     refused(table, 11, |t| close(t, ROOM));
-    assert_eq!(drop(&mut table.clone()), Ok(()));
-    assert_eq!(round_two(table, &second), Ok(Verdict::Accepted));
-    assert_eq!(table.stage(), Stage::Idle);
-    refused(table, 11, |t| round_two(t, &second));
-    refused(table, 11, drop);
+    assert_eq!(table.waiting_message(7).unwrap(), second[..14]);
+    assert_eq!(drop(&mut table.clone(), 7), Ok(()));
+    assert_eq!(round_two(table, 7, &second), Ok(Verdict::Accepted));
+    assert_eq!(table.waiting(), []);
+    refused(table, 11, |t| round_two(t, 7, &second));
+    refused(table, 11, |t| drop(t, 7));
     // Closed takes nothing.
     close(table, ROOM).unwrap();
-    assert_eq!(table.stage(), Stage::Closed);
+    assert!(table.closed());
     refused(table, 11, |t| share(t, &shares[0], 100, 0, 14));
-    refused(table, 11, |t| round_one(t, &first, 14));
-    refused(table, 11, |t| round_two(t, &second));
-    refused(table, 11, drop);
+    refused(table, 11, |t| round_one(t, 7, &first, 14));
+    refused(table, 11, |t| round_two(t, 7, &second));
+    refused(table, 11, |t| drop(t, 7));
     refused(table, 11, |t| close(t, ROOM));
 }
 
@@ -197,33 +199,36 @@ fn joined_rounds() {
     let (mut tables, first) = waiting(&[18, 2], 3);
     for (place, table) in tables.iter_mut().enumerate() {
         for wrong in damaged(&first) {
-            refused(table, 12, |t| round_one(t, &wrong, 14));
-            refused(table, 12, |t| round_one(t, &wrong, 0));
+            refused(table, 12, |t| round_one(t, 7, &wrong, 14));
+            refused(table, 12, |t| round_one(t, 7, &wrong, 0));
         }
         for wrong in altered(&first, place) {
-            refused(table, 12, |t| round_one(t, &wrong, 14));
+            refused(table, 12, |t| round_one(t, 7, &wrong, 14));
         }
-        refused(table, 14, |t| round_one(t, &first, 13));
-        refused(table, 14, |t| round_one(t, &first, 0));
+        refused(table, 14, |t| round_one(t, 7, &first, 13));
+        refused(table, 14, |t| round_one(t, 7, &first, 0));
         // The others' messages may be any sound ones.
         for other in altered(&first, 1 - place) {
-            assert!(round_one(&mut table.clone(), &other, 14).is_ok());
+            assert!(round_one(&mut table.clone(), 7, &other, 14).is_ok());
         }
     }
     let second = second_round(&mut tables, &first);
     for (place, table) in tables.iter_mut().enumerate() {
         for wrong in damaged(&second) {
-            refused(table, 12, |t| round_two(t, &wrong));
+            refused(table, 12, |t| round_two(t, 7, &wrong));
         }
         for wrong in altered(&second, place) {
-            refused(table, 12, |t| round_two(t, &wrong));
+            refused(table, 12, |t| round_two(t, 7, &wrong));
         }
         // The first round's messages again.
-        refused(table, 12, |t| round_two(t, &first));
+        refused(table, 12, |t| round_two(t, 7, &first));
         for other in altered(&second, 1 - place) {
-            assert_eq!(round_two(&mut table.clone(), &other), Ok(Verdict::Rejected));
+            assert_eq!(
+                round_two(&mut table.clone(), 7, &other),
+                Ok(Verdict::Rejected)
+            );
         }
-        assert_eq!(round_two(table, &second), Ok(Verdict::Accepted));
+        assert_eq!(round_two(table, 7, &second), Ok(Verdict::Accepted));
     }
 }
 
@@ -244,7 +249,7 @@ fn decided_ids_and_the_limit() {
         refused(table, 10, |t| share(t, &rejected[server], 5, 1, 14));
         let third = honest(&sheet, 2, 3);
         share(table, &third[server], 5, 1, 14).unwrap();
-        drop(table).unwrap();
+        drop(table, 3).unwrap();
         assert_eq!(table.decided(), [1, 2, 3]);
         // All three count towards N.
         refused(table, 13, |t| share(t, &third[server], 5, 1, 14));
@@ -255,7 +260,7 @@ fn decided_ids_and_the_limit() {
     // A dropped id is refused 10 while N is not reached.
     let mut table = open(2, 0, &sheet, 2).unwrap();
     share(&mut table, &accepted[0], 5, 1, 14).unwrap();
-    drop(&mut table).unwrap();
+    drop(&mut table, 1).unwrap();
     refused(&mut table, 10, |t| share(t, &accepted[0], 5, 1, 14));
 }
 

@@ -91,7 +91,7 @@ fn a_full_pool() {
         if rng.chance(10) {
             for (table, message) in tables.iter_mut().zip(&shares) {
                 share(table, message, 2, 0, 14).unwrap();
-                drop(table).unwrap();
+                drop(table, id).unwrap();
             }
         } else {
             let (r, s) = gen::pair(&mut rng, 1);
@@ -215,7 +215,7 @@ fn a_dropped_share_leaves_no_trace_in_the_totals() {
         let mut table = open(2, own, &[19, 4], 3).unwrap();
         let message = &given.shares[own as usize];
         share(&mut table, message, given.r, given.s, 14).unwrap();
-        drop(&mut table).unwrap();
+        drop(&mut table, 1).unwrap();
         assert_eq!(close(&mut table, 10), Ok(closing(own as u8, 0, &[0])));
     }
 }

@@ -9,7 +9,7 @@ use crate::judging::Findings;
 use crate::sheet::{Column, MAX_MULTIPLICATIONS, MAX_TESTS};
 
 /// What the server finds on L + 2M + 6 elements below p; r is from M + 1 to p - 1 and s below
-/// p. Notes the published entries.
+/// p.
 #[inline(always)]
 pub(super) fn find(
     sheet: &[u8],
@@ -18,7 +18,6 @@ pub(super) fn find(
     elements: &[Word],
     r: u64,
     s: u64,
-    published: &mut [Word],
 ) -> Findings {
     let (entries, rest) = elements.split_at(shape.entries);
     let outputs = &rest[3..][..shape.gates];
@@ -30,9 +29,8 @@ pub(super) fn find(
     };
     let mut gathered;
     let (inputs, tau) = if shape.entries == shape.gates {
-        // Without numbers, each entry is an input and is published. With yes/no columns alone,
-        // each output is a test and there are no others.
-        published.copy_from_slice(entries);
+        // Without numbers, each entry is an input. With yes/no columns alone, each output is a
+        // test and there are no others.
         let tau = if shape.tests == shape.gates {
             powers_sum(outputs, s, value)
         } else {
@@ -41,7 +39,7 @@ pub(super) fn find(
         (entries, tau)
     } else {
         gathered = [[0; 4]; MAX_MULTIPLICATIONS as usize];
-        let tau = walk.gather(shape, s, &mut gathered, published);
+        let tau = walk.gather(shape, s, &mut gathered);
         (&gathered[..shape.gates], tau)
     };
     find_with(shape.gates, first, inputs, rest, r, tau)
@@ -132,27 +130,16 @@ fn take<'a>(words: &mut &'a [Word], count: usize) -> &'a [Word] {
 }
 
 impl Walk<'_> {
-    /// tau, loose. Notes the inputs and the published entries.
-    fn gather(
-        &mut self,
-        shape: &Shape,
-        s: u64,
-        inputs: &mut [Word],
-        published: &mut [Word],
-    ) -> u64 {
-        let (mut checked, mut shown) = (0, 0);
+    /// tau, loose. Notes the inputs.
+    fn gather(&mut self, shape: &Shape, s: u64, inputs: &mut [Word]) -> u64 {
+        let mut checked = 0;
         self.tau(shape, s, |column, entries| {
-            // The first entry of a number, or of a column with a top, is published and is no
-            // input: the next one overwrites it.
-            // The other kinds' entries are both.
+            // The first entry of a number, or of a column with a top, is no input: the next one
+            // overwrites it. The other kinds' entries are inputs.
             let lead = column.entries() - column.multiplications();
             for (i, &entry) in entries.iter().enumerate() {
                 inputs[checked] = entry;
                 checked += usize::from(i >= lead);
-            }
-            for &entry in &entries[..column.published()] {
-                published[shown] = entry;
-                shown += 1;
             }
         })
     }

@@ -1,11 +1,13 @@
-//! The bytes of a table: where each part stands, and the look over it.
+//! The three parts of a table: where everything stands in them, and the look over them.
 
 use super::shape::Shape;
-use crate::field::{self, WIDTH};
+use super::{totals, Slot, AWAITS_TWO};
+use crate::field::{self, P, WIDTH};
 use crate::judging::Findings;
 use crate::refusal;
+use crate::table::PLACES;
 
-/// An element or an id as it stands in a table.
+/// An element or an id as it stands in bytes.
 pub(super) type Word = [u8; WIDTH];
 
 /// The number that a word stands for.
@@ -13,38 +15,38 @@ pub(super) fn value(word: Word) -> u64 {
     u64::from(u32::from_le_bytes(word))
 }
 
-// The stages.
-pub(super) const IDLE: u8 = 0;
-pub(super) const AWAITS_ONE: u8 = 1;
-pub(super) const AWAITS_TWO: u8 = 2;
-pub(super) const CLOSED: u8 = 3;
+/// The byte that a table starts with.
+const TABLE: u8 = 2;
+
+// The stages of a table.
+const OPEN: u8 = 0;
+const CLOSED: u8 = 1;
 
 // Where the parts of the header stand.
-const STAGE: usize = 0;
-const SERVERS: usize = 1;
-const OWN: usize = 2;
-const SHEET: usize = 3;
-const LIMIT: usize = 5;
-const DECIDED: usize = 7;
-const ACCEPTED: usize = 9;
-const ID: usize = 11;
-const MESSAGE: usize = 15;
-const FINDINGS: usize = 23;
-const HEADER: usize = 43;
+const KIND: usize = 0;
+const STAGE: usize = 1;
+const SERVERS: usize = 2;
+const OWN: usize = 3;
+const LIMIT: usize = 4;
+const DECIDED: usize = 6;
+const ACCEPTED: usize = 8;
+const SHEET: usize = 10;
+const HEADER: usize = 12;
 
-/// The length of a table.
+/// The length of a table's bytes.
 pub(super) fn length(sheet: usize, shape: &Shape, limit: usize) -> usize {
-    HEADER + sheet + WIDTH * (2 * shape.published + limit)
+    HEADER + sheet + WIDTH * (shape.published + limit)
 }
 
-/// Writes a fresh table over all of the bytes; the arguments have been checked.
+/// Writes the bytes of a fresh table over all of them; the arguments have been checked.
 pub(super) fn write(bytes: &mut [u8], servers: u8, own: u8, sheet: &[u8], limit: u16) {
     bytes.fill(0);
-    bytes[STAGE] = IDLE;
+    bytes[KIND] = TABLE;
+    bytes[STAGE] = OPEN;
     bytes[SERVERS] = servers;
     bytes[OWN] = own;
-    bytes[SHEET..][..2].copy_from_slice(&(sheet.len() as u16).to_le_bytes());
     bytes[LIMIT..][..2].copy_from_slice(&limit.to_le_bytes());
+    bytes[SHEET..][..2].copy_from_slice(&(sheet.len() as u16).to_le_bytes());
     bytes[HEADER..][..sheet.len()].copy_from_slice(sheet);
 }
 
@@ -53,76 +55,105 @@ pub(super) struct Table<'a> {
     header: &'a mut [u8; HEADER],
     pub sheet: &'a [u8],
     pub totals: &'a mut [Word],
-    /// The published entries of the share that waits.
-    pub published: &'a mut [Word],
     /// N places.
     pub ids: &'a mut [Word],
+    pub slots: &'a mut [Slot; PLACES],
+    /// The numbers of all eight places.
+    numbers: &'a mut [u32],
     pub shape: Shape,
     pub decided: usize,
     pub accepted: usize,
+    /// How many records wait.
+    pub waiting: usize,
 }
 
 impl<'a> Table<'a> {
-    /// Takes a table apart and looks it over, for a call that some stages allow (refusal 11).
-    /// Written into each call, so that the parts stay in registers.
+    /// Takes a table apart and looks it over (refusal 11, also for a closed one). Written into
+    /// each call, so that the parts stay in registers.
     #[inline(always)]
-    pub fn look_over(bytes: &'a mut [u8], allows: impl Fn(u8) -> bool) -> Result<Self, u32> {
-        match Table::parts(bytes) {
-            Some(table) if allows(table.stage()) && table.sound() => Ok(table),
+    pub fn look_over(
+        bytes: &'a mut [u8],
+        slots: &'a mut [Slot],
+        numbers: &'a mut [u32],
+    ) -> Result<Self, u32> {
+        match Table::parts(bytes, slots, numbers) {
+            Some(table) if table.sound() && table.header[STAGE] == OPEN => Ok(table),
             _ => Err(refusal::STAGE),
         }
     }
 
-    /// The parts of a table; `None` when the slice is too short or the sheet, N or refusal 4's
-    /// rule is broken.
+    /// The parts of a table; `None` when one is too short, the records are not eight, or the
+    /// sheet, N or refusal 4's rule is broken.
     #[inline(always)]
-    fn parts(bytes: &'a mut [u8]) -> Option<Self> {
+    fn parts(bytes: &'a mut [u8], slots: &'a mut [Slot], numbers: &'a mut [u32]) -> Option<Self> {
         let (header, rest) = bytes.split_first_chunk_mut::<HEADER>()?;
         let limit = usize::from(pair(header, LIMIT));
         let (sheet, rest) = rest.split_at_mut_checked(usize::from(pair(header, SHEET)))?;
         let shape = Shape::opening(sheet, limit as u32).ok()?;
         let (words, _) = rest.as_chunks_mut();
         let (totals, words) = words.split_at_mut_checked(shape.published)?;
-        let (published, words) = words.split_at_mut_checked(shape.published)?;
-        let (ids, _) = words.split_at_mut_checked(limit)?;
+        let slots: &mut [Slot; PLACES] = slots.try_into().ok()?;
         Some(Table {
             decided: usize::from(pair(header, DECIDED)),
             accepted: usize::from(pair(header, ACCEPTED)),
+            waiting: slots.iter().filter(|slot| slot.waits()).count(),
             header,
             sheet,
             totals,
-            published,
-            ids,
+            ids: words.get_mut(..limit)?,
+            slots,
+            numbers: numbers.get_mut(..shape.run_length())?,
             shape,
         })
     }
 
-    /// Whether the server numbers, the stage, the counts and all elements that are held are
-    /// within their limits.
+    /// Whether the table byte, the server numbers, the stages, the counts and all elements that
+    /// are held are within their limits.
     #[inline(always)]
     fn sound(&self) -> bool {
-        let held = match self.stage() {
-            AWAITS_ONE => &self.header[MESSAGE..],
-            AWAITS_TWO => &self.header[MESSAGE..FINDINGS],
-            _ => &[],
-        };
-        let waits = !held.is_empty();
-        (2..=8).contains(&self.header[SERVERS])
+        self.header[KIND] == TABLE
+            && self.header[STAGE] <= CLOSED
+            && (2..=8).contains(&self.header[SERVERS])
             && self.header[OWN] < self.header[SERVERS]
-            && self.stage() <= CLOSED
             && self.accepted <= self.decided
-            && self.decided + usize::from(waits) <= self.ids.len()
-            && field::all_elements(held)
+            && self.decided + self.waiting <= self.ids.len()
             && field::all_elements(self.totals.as_flattened())
-            && (!waits || field::all_elements(self.published.as_flattened()))
+            && self.sound_places()
     }
 
-    fn stage(&self) -> u8 {
-        self.header[STAGE]
+    /// Whether the records and, where they wait, the numbers of their places are within their
+    /// limits.
+    #[inline(always)]
+    fn sound_places(&self) -> bool {
+        let gates = self.shape.gates as u64;
+        let places = self.numbers.chunks_exact(self.shape.place());
+        let mut waiting = self
+            .slots
+            .iter()
+            .zip(places)
+            .filter(|(slot, _)| slot.waits());
+        waiting.all(|(slot, place)| {
+            slot.stage <= AWAITS_TWO
+                && (gates + 1..P).contains(&slot.r)
+                && slot.s.max(slot.d).max(slot.e) < P
+                && field::all_below(place.iter().copied())
+        })
     }
 
-    pub fn set_stage(&mut self, stage: u8) {
-        self.header[STAGE] = stage;
+    /// The numbers of a place: the elements of the share, then r × h(r) and tau.
+    pub fn place(&self, at: usize) -> &[u32] {
+        let width = self.shape.place();
+        &self.numbers[width * at..][..width]
+    }
+
+    pub fn place_mut(&mut self, at: usize) -> &mut [u32] {
+        let width = self.shape.place();
+        &mut self.numbers[width * at..][..width]
+    }
+
+    /// Closes the table.
+    pub fn close(&mut self) {
+        self.header[STAGE] = CLOSED;
     }
 
     pub fn servers(&self) -> u32 {
@@ -133,9 +164,15 @@ impl<'a> Table<'a> {
         u32::from(self.header[OWN])
     }
 
-    /// The id that waits.
-    pub fn id(&self) -> u32 {
-        u32::from_le_bytes(word(self.header, ID))
+    /// Where the return that waits under an id has its record: the first one that does.
+    pub fn waits(&self, id: u32) -> Option<usize> {
+        let waits = |slot: &Slot| slot.waits() && slot.id == id;
+        self.slots.iter().position(waits)
+    }
+
+    /// The first free record.
+    pub fn free(&self) -> Option<usize> {
+        self.slots.iter().position(|slot| !slot.waits())
     }
 
     pub fn has_decided(&self, id: u32) -> bool {
@@ -146,28 +183,20 @@ impl<'a> Table<'a> {
         })
     }
 
-    pub fn set_accepted(&mut self, accepted: usize) {
-        self.accepted = accepted;
-        self.header[ACCEPTED..][..2].copy_from_slice(&(accepted as u16).to_le_bytes());
+    /// The return of a place is accepted: its published entries are added to the totals.
+    pub fn accept(&mut self, at: usize) {
+        let start = self.shape.place() * at;
+        let entries = &self.numbers[start..][..self.shape.entries];
+        totals::add_published(self.sheet, &self.shape, self.totals, entries);
+        self.accepted += 1;
+        self.header[ACCEPTED..][..2].copy_from_slice(&(self.accepted as u16).to_le_bytes());
     }
 
-    /// The two elements of the message that was written last for the return that waits.
-    pub fn message(&self) -> (u64, u64) {
-        (
-            value(word(self.header, MESSAGE)),
-            value(word(self.header, MESSAGE + WIDTH)),
-        )
-    }
-
-    pub fn set_message(&mut self, x: u64, y: u64) {
-        self.put(MESSAGE, [x, y]);
-    }
-
-    /// What was found on the share that awaits round one.
-    pub fn findings(&self) -> Findings {
-        let (d, e) = self.message();
-        let [a, b, c, rh, tau] =
-            std::array::from_fn(|i| value(word(self.header, FINDINGS + WIDTH * i)));
+    /// What was found on the share of a place, but for d and e, which are those of its record.
+    pub fn findings(&self, at: usize) -> Findings {
+        let Slot { d, e, .. } = self.slots[at];
+        let last = &self.place(at)[self.shape.elements() - 3..];
+        let [a, b, c, rh, tau] = std::array::from_fn(|i| u64::from(last[i]));
         Findings {
             d,
             e,
@@ -179,32 +208,16 @@ impl<'a> Table<'a> {
         }
     }
 
-    /// Notes the share's id and what was found; its published entries are noted already.
-    pub fn set_waiting(&mut self, id: u32, found: &Findings) {
-        self.header[ID..][..WIDTH].copy_from_slice(&id.to_le_bytes());
-        self.set_message(found.d, found.e);
-        self.put(FINDINGS, [found.a, found.b, found.c, found.rh, found.tau]);
-    }
-
-    /// The return that waits is decided.
-    pub fn decide(&mut self) {
-        self.ids[self.decided] = word(self.header, ID);
+    /// The return of a place is decided: its record and its numbers become 0.
+    pub fn decide(&mut self, at: usize) {
+        self.ids[self.decided] = self.slots[at].id.to_le_bytes();
         self.decided += 1;
         self.header[DECIDED..][..2].copy_from_slice(&(self.decided as u16).to_le_bytes());
-        self.set_stage(IDLE);
-    }
-
-    fn put<const N: usize>(&mut self, at: usize, elements: [u64; N]) {
-        for (place, element) in self.header[at..].chunks_exact_mut(WIDTH).zip(elements) {
-            place.copy_from_slice(&(element as u32).to_le_bytes());
-        }
+        self.slots[at] = Slot::default();
+        self.place_mut(at).fill(0);
     }
 }
 
 fn pair(header: &[u8; HEADER], at: usize) -> u16 {
     u16::from_le_bytes([header[at], header[at + 1]])
-}
-
-fn word(header: &[u8; HEADER], at: usize) -> Word {
-    std::array::from_fn(|i| header[at + i])
 }

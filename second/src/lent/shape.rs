@@ -2,6 +2,7 @@
 
 use crate::refusal;
 use crate::sheet::{check_limit, Column, MAX_ENTRIES, MAX_MULTIPLICATIONS, MAX_TESTS};
+use crate::table::PLACES;
 
 /// The counts of a sheet that was read.
 #[derive(Clone, Copy, Debug, PartialEq, Eq)]
@@ -29,7 +30,7 @@ impl Shape {
 
     /// Reads a sheet; the total limits come last.
     #[inline(always)]
-    fn read(sheet: &[u8]) -> Result<Shape, u32> {
+    pub fn read(sheet: &[u8]) -> Result<Shape, u32> {
         let mut shape = Shape {
             entries: 0,
             published: 0,
@@ -66,9 +67,24 @@ impl Shape {
         self.largest = self.largest.max(column.largest());
     }
 
-    /// "A share has L + 2M + 6 elements", after kind byte, id and server number.
+    /// "A share has L + 2M + 6 elements."
+    pub fn elements(&self) -> usize {
+        self.entries + 2 * self.gates + 6
+    }
+
+    /// They stand after kind byte, id and server number.
     pub fn share_length(&self) -> usize {
-        6 + 4 * (self.entries + 2 * self.gates + 6)
+        6 + 4 * self.elements()
+    }
+
+    /// The numbers of a place: the elements of a share, r × h(r) and tau.
+    pub fn place(&self) -> usize {
+        self.elements() + 2
+    }
+
+    /// The numbers of all places.
+    pub fn run_length(&self) -> usize {
+        PLACES * self.place()
     }
 }
 
@@ -102,6 +118,7 @@ mod tests {
         assert_eq!(Shape::read(bytes), expected, "{bytes:?}");
         if let (Ok(shape), Ok(sheet)) = (Shape::read(bytes), Sheet::read(bytes)) {
             assert_eq!(shape.share_length(), sheet.share_length());
+            assert_eq!(shape.run_length(), 8 * (sheet.share_elements() + 2));
         }
     }
 

@@ -1,6 +1,6 @@
 //! What a table knows, its refusals and its rounds: the same for every form.
 
-use super::{Stage, Verdict, Worked, CLOSING};
+use super::{Stage, Verdict, Worked, CLOSING, PLACES};
 use crate::field::{self, P};
 use crate::judging::{
     check_challenges, round_message, round_sums, share_parts, sigma, Findings, Round, ROUND_LENGTH,
@@ -21,27 +21,20 @@ pub(super) struct State {
     /// Sums of the published entries over the accepted returns. At most 1,024 elements
     /// meet in a sum, so it is reduced only when it is written.
     totals: Vec<u64>,
-    course: Course,
-}
-
-/// The stage with what it holds.
-#[derive(Clone, Debug, PartialEq, Eq)]
-enum Course {
-    Idle,
-    Waits(Waiting),
-    Closed,
+    /// The returns that wait, each at its place. A share goes to the first free one.
+    places: [Option<Waiting>; PLACES],
+    pub closed: bool,
 }
 
 /// A return that waits.
 #[derive(Clone, Debug, PartialEq, Eq)]
 pub(super) struct Waiting {
     pub id: u32,
+    pub stage: Stage,
     findings: Findings,
     published: Vec<u64>,
     /// The message that this server wrote for the round it waits for.
     pub message: [u8; ROUND_LENGTH],
-    /// The kind byte of that round.
-    round: u8,
 }
 
 impl State {
@@ -59,25 +52,26 @@ impl State {
             decided: Vec::new(),
             accepted: 0,
             totals: vec![0; sheet.published()],
-            course: Course::Idle,
+            places: Default::default(),
+            closed: false,
             sheet,
         })
     }
 
-    pub fn stage(&self) -> Stage {
-        match &self.course {
-            Course::Idle => Stage::Idle,
-            Course::Waits(waiting) if waiting.round == ROUND_ONE => Stage::AwaitsRoundOne,
-            Course::Waits(_) => Stage::AwaitsRoundTwo,
-            Course::Closed => Stage::Closed,
-        }
+    /// The returns that wait, in the order of their places.
+    pub fn waiting(&self) -> impl Iterator<Item = &Waiting> {
+        self.places.iter().flatten()
     }
 
-    pub fn waiting(&self) -> Option<&Waiting> {
-        match &self.course {
-            Course::Waits(waiting) => Some(waiting),
-            _ => None,
-        }
+    /// The place of the return that waits under an id.
+    fn place(&self, id: u32) -> Option<usize> {
+        let waits = |place: &Option<Waiting>| place.as_ref().is_some_and(|own| own.id == id);
+        self.places.iter().position(waits)
+    }
+
+    /// The first free place.
+    fn free(&self) -> Option<usize> {
+        self.places.iter().position(Option::is_none)
     }
 
     /// Whether this is server 0, the only one that adds constants.
@@ -94,17 +88,20 @@ impl State {
         s: u64,
         room: usize,
     ) -> Result<(u32, &'a [u8]), u32> {
-        if self.course != Course::Idle {
+        // "A ninth return, an id not waiting, or a close while any waits is refused 11."
+        if self.closed || self.free().is_none() {
             return Err(refusal::STAGE);
         }
-        if self.decided.len() >= self.limit as usize {
+        // "Decided and waiting together never exceed N, and 13 is given when they reach it."
+        if self.decided.len() + self.waiting().count() >= self.limit as usize {
             return Err(refusal::FULL);
         }
         let (id, elements) = share_parts(&self.sheet, self.own, message)?;
         if !field::all_elements(elements) {
             return Err(refusal::ELEMENT);
         }
-        if self.decided.contains(&id) {
+        // "An id that waits is refused 10."
+        if self.decided.contains(&id) || self.place(id).is_some() {
             return Err(refusal::DECIDED);
         }
         check_challenges(self.sheet.multiplications(), r, s)?;
@@ -114,92 +111,95 @@ impl State {
         Ok((id, elements))
     }
 
-    /// "A share leads to the first wait." Gives the round one message.
-    pub fn note_share(&mut self, id: u32, worked: Worked) -> [u8; ROUND_LENGTH] {
+    /// "A share leads to the first wait." Gives the round one message. Refusal 11 where no
+    /// place is free, which a share's refusals leave out.
+    pub fn note_share(&mut self, id: u32, worked: Worked) -> Result<[u8; ROUND_LENGTH], u32> {
         let Worked {
             findings,
             published,
         } = worked;
+        let free = self.free().ok_or(refusal::STAGE)?;
         let message = round_message(ROUND_ONE, id, self.own, findings.d, findings.e);
-        self.course = Course::Waits(Waiting {
+        self.places[free] = Some(Waiting {
             id,
+            stage: Stage::AwaitsRoundOne,
             findings,
             published,
             message,
-            round: ROUND_ONE,
         });
-        message
+        Ok(message)
     }
 
-    /// The sums of a round's joined messages. Refusals: 11, 12.
-    fn sums(&self, kind: u8, joined: &[u8]) -> Result<(u64, u64), u32> {
-        let waiting = match &self.course {
-            Course::Waits(waiting) if waiting.round == kind => waiting,
-            _ => return Err(refusal::STAGE),
-        };
+    /// The place of the return that waits under an id for a round, and the sums of that
+    /// round's joined messages. Refusals: 11, 12.
+    fn sums(&self, stage: Stage, id: u32, joined: &[u8]) -> Result<(usize, (u64, u64)), u32> {
+        let place = self.place(id).ok_or(refusal::STAGE)?;
+        let waiting = self.places[place].as_ref().filter(|own| own.stage == stage);
+        let waiting = waiting.ok_or(refusal::STAGE)?;
         let round = Round {
             servers: self.servers,
-            kind,
-            id: waiting.id,
+            kind: match stage {
+                Stage::AwaitsRoundOne => ROUND_ONE,
+                Stage::AwaitsRoundTwo => ROUND_TWO,
+            },
+            id,
             own: self.own,
             written: &waiting.message,
         };
-        round_sums(&round, joined)
+        Ok((place, round_sums(&round, joined)?))
     }
 
-    pub fn round_one(&mut self, joined: &[u8], room: usize) -> Result<[u8; ROUND_LENGTH], u32> {
-        let (d, e) = self.sums(ROUND_ONE, joined)?;
+    pub fn round_one(
+        &mut self,
+        id: u32,
+        joined: &[u8],
+        room: usize,
+    ) -> Result<[u8; ROUND_LENGTH], u32> {
+        let (place, (d, e)) = self.sums(Stage::AwaitsRoundOne, id, joined)?;
         if room < ROUND_LENGTH {
             return Err(refusal::ROOM);
         }
         // "Round one [leads] to the second [wait]."
         let first = self.first();
-        let Course::Waits(waiting) = &mut self.course else {
-            return Err(refusal::STAGE);
-        };
+        let waiting = self.places[place].as_mut().ok_or(refusal::STAGE)?;
         let sigma = sigma(&waiting.findings, first, d, e);
         let tau = waiting.findings.tau;
-        waiting.message = round_message(ROUND_TWO, waiting.id, self.own, sigma, tau);
-        waiting.round = ROUND_TWO;
+        waiting.message = round_message(ROUND_TWO, id, self.own, sigma, tau);
+        waiting.stage = Stage::AwaitsRoundTwo;
         Ok(waiting.message)
     }
 
-    pub fn round_two(&mut self, joined: &[u8]) -> Result<Verdict, u32> {
-        let sums = self.sums(ROUND_TWO, joined)?;
-        let Course::Waits(waiting) = &self.course else {
-            return Err(refusal::STAGE);
-        };
-        let id = waiting.id;
+    pub fn round_two(&mut self, id: u32, joined: &[u8]) -> Result<Verdict, u32> {
+        let (place, sums) = self.sums(Stage::AwaitsRoundTwo, id, joined)?;
+        let waiting = self.decide(place)?;
         // "Accepted when both sums are 0 modulo p. Then the published entries are added
         // to the totals."
-        let verdict = if sums == (0, 0) {
-            for (total, &entry) in self.totals.iter_mut().zip(&waiting.published) {
-                *total += entry;
-            }
-            self.accepted += 1;
-            Verdict::Accepted
-        } else {
-            Verdict::Rejected
-        };
-        self.decide(id);
-        Ok(verdict)
+        if sums != (0, 0) {
+            return Ok(Verdict::Rejected);
+        }
+        for (total, &entry) in self.totals.iter_mut().zip(&waiting.published) {
+            *total += entry;
+        }
+        self.accepted += 1;
+        Ok(Verdict::Accepted)
     }
 
-    pub fn drop(&mut self) -> Result<(), u32> {
+    pub fn drop(&mut self, id: u32) -> Result<(), u32> {
         // "Dropping is allowed while a return waits, and its id stays used."
-        let id = self.waiting().ok_or(refusal::STAGE)?.id;
-        self.decide(id);
-        Ok(())
+        let place = self.place(id).ok_or(refusal::STAGE)?;
+        self.decide(place).map(|_| ())
     }
 
-    /// The return that waits is decided.
-    fn decide(&mut self, id: u32) {
-        self.decided.push(id);
-        self.course = Course::Idle;
+    /// The return at a place is decided: its place is free and its id used.
+    fn decide(&mut self, place: usize) -> Result<Waiting, u32> {
+        let waiting = self.places[place].take().ok_or(refusal::STAGE)?;
+        self.decided.push(waiting.id);
+        Ok(waiting)
     }
 
     pub fn close(&mut self, room: usize) -> Result<Vec<u8>, u32> {
-        if self.course != Course::Idle {
+        // No close while any waits.
+        if self.closed || self.waiting().next().is_some() {
             return Err(refusal::STAGE);
         }
         let length = self.sheet.closing_length();
@@ -214,7 +214,7 @@ impl State {
         for &total in &self.totals {
             field::put(&mut message, total % P);
         }
-        self.course = Course::Closed;
+        self.closed = true;
         Ok(message)
     }
 }

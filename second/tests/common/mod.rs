@@ -1,7 +1,9 @@
 //! Helpers of the tests.
 #![allow(dead_code)]
 
+pub mod lent_model;
 pub mod lent_table;
+pub mod twins;
 
 use second::field::{self, P};
 use second::gen::{self, Rng};
@@ -95,6 +97,11 @@ pub fn open_all(servers: u32, sheet: &[u8], limit: u32) -> Vec<Table> {
         .collect()
 }
 
+/// The id of a share message or a round message.
+pub fn id_of(message: &[u8]) -> u32 {
+    u32::from_le_bytes(message[1..5].try_into().unwrap())
+}
+
 /// Takes one return through share and both rounds; gives the joined messages of both
 /// rounds and the verdict.
 pub fn judge(
@@ -103,17 +110,18 @@ pub fn judge(
     r: u64,
     s: u64,
 ) -> (Vec<u8>, Vec<u8>, Verdict) {
+    let id = id_of(&shares[0]);
     let mut first = Vec::new();
     for (table, message) in tables.iter_mut().zip(shares) {
         first.extend(share(table, message, r, s, 14).unwrap());
     }
     let mut second = Vec::new();
     for table in tables.iter_mut() {
-        second.extend(round_one(table, &first, 14).unwrap());
+        second.extend(round_one(table, id, &first, 14).unwrap());
     }
     let verdicts: Vec<Verdict> = tables
         .iter_mut()
-        .map(|table| round_two(table, &second).unwrap())
+        .map(|table| round_two(table, id, &second).unwrap())
         .collect();
     assert!(verdicts.iter().all(|verdict| *verdict == verdicts[0]));
     (first, second, verdicts[0])

@@ -35,6 +35,7 @@ impl Builder {
         let (max, planned) = match rng.below(20) {
             0 => (256, rng.between(1, 2)),
             1..=3 => (60, rng.between(1, 5)),
+            4..=8 => (6, rng.between(9, 16)),
             _ => (12, rng.between(2, 12)),
         };
         let (bytes, sheet) = loop {
@@ -72,9 +73,9 @@ impl Builder {
         if let Answer::Message(message) = &answer {
             if let Call::Close { .. } = call {
                 self.closings.insert(server, message.clone());
-            } else if let Some(id) = self.tables[server as usize].waiting_id() {
-                let place = (id, message[0], server);
-                self.written.insert(place, message.clone());
+            } else if let [kind, i0, i1, i2, i3, ..] = message[..] {
+                let id = u32::from_le_bytes([i0, i1, i2, i3]);
+                self.written.insert((id, kind, server), message.clone());
             }
         }
         self.steps.push(Step {

@@ -14,12 +14,16 @@ pub enum Call {
         s: u64,
         room: usize,
     },
-    /// Round one's joined messages.
-    RoundOne { joined: Vec<u8>, room: usize },
-    /// Round two's joined messages.
-    RoundTwo { joined: Vec<u8> },
-    /// A drop.
-    Drop,
+    /// Round one's joined messages for an id.
+    RoundOne {
+        id: u32,
+        joined: Vec<u8>,
+        room: usize,
+    },
+    /// Round two's joined messages for an id.
+    RoundTwo { id: u32, joined: Vec<u8> },
+    /// A drop of an id.
+    Drop { id: u32 },
     /// A close.
     Close { room: usize },
 }
@@ -65,9 +69,13 @@ impl<F: Form> Server for Table<F> {
                 s,
                 room,
             } => table::share(self, share, *r, *s, *room).map(message),
-            Call::RoundOne { joined, room } => table::round_one(self, joined, *room).map(message),
-            Call::RoundTwo { joined } => table::round_two(self, joined).map(Answer::Verdict),
-            Call::Drop => table::drop(self).map(|()| Answer::Dropped),
+            Call::RoundOne { id, joined, room } => {
+                table::round_one(self, *id, joined, *room).map(message)
+            }
+            Call::RoundTwo { id, joined } => {
+                table::round_two(self, *id, joined).map(Answer::Verdict)
+            }
+            Call::Drop { id } => table::drop(self, *id).map(|()| Answer::Dropped),
             Call::Close { room } => table::close(self, *room).map(Answer::Message),
         };
         answer.unwrap_or_else(Answer::Refused)

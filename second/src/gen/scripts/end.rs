@@ -51,24 +51,18 @@ impl Builder {
     fn truth(&self) -> Joined {
         let mut count = 0;
         let mut totals = vec![0; self.sheet.published()];
-        let mut waiting = None;
         // All servers give the same verdict: server 0 is asked.
         for step in self.steps.iter().filter(|step| step.server == 0) {
-            match (&step.call, &step.answer) {
-                (Call::Share { message, .. }, Answer::Message(_)) => {
-                    waiting = message.get(1..5).map(|id| [id[0], id[1], id[2], id[3]]);
-                }
-                (Call::RoundTwo { .. }, Answer::Verdict(Verdict::Accepted)) => {
-                    count += 1;
-                    let id = waiting.map(u32::from_le_bytes);
-                    let accepted = self.returns.iter().find(|given| Some(given.id) == id);
-                    let whole = accepted.and_then(|given| added_up(&self.sheet, &given.shares));
-                    let whole = whole.unwrap_or_default();
-                    for (total, entry) in totals.iter_mut().zip(self.sheet.published_entries()) {
-                        *total = field::add(*total, whole.get(entry).copied().unwrap_or(0));
-                    }
-                }
-                _ => {}
+            let accepted = Answer::Verdict(Verdict::Accepted);
+            let (Call::RoundTwo { id, .. }, true) = (&step.call, step.answer == accepted) else {
+                continue;
+            };
+            count += 1;
+            let given = self.returns.iter().find(|given| given.id == *id);
+            let whole = given.and_then(|given| added_up(&self.sheet, &given.shares));
+            let whole = whole.unwrap_or_default();
+            for (total, entry) in totals.iter_mut().zip(self.sheet.published_entries()) {
+                *total = field::add(*total, whole.get(entry).copied().unwrap_or(0));
             }
         }
         let totals = totals.into_iter().flat_map(field::bytes).collect();

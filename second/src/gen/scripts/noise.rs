@@ -20,7 +20,9 @@ impl Builder {
                 0..=2 => self.noise_share(server),
                 3 | 4 => self.noise_round(server, ROUND_ONE),
                 5 | 6 => self.noise_round(server, ROUND_TWO),
-                _ if self.rng.chance(50) => Call::Drop,
+                _ if self.rng.chance(50) => Call::Drop {
+                    id: self.some_id(server),
+                },
                 _ => Call::Close {
                     room: any_room(&mut self.rng, self.sheet.closing_length(), 70),
                 },
@@ -32,16 +34,25 @@ impl Builder {
         }
     }
 
+    /// An id that waits at a server, one that is decided there, or any.
+    fn some_id(&mut self, server: u32) -> u32 {
+        let table = &self.tables[server as usize];
+        let known: Vec<u32> = match self.rng.below(5) {
+            0 | 1 => table.waiting().iter().map(|(id, _)| *id).collect(),
+            2 | 3 => table.decided().to_vec(),
+            _ => Vec::new(),
+        };
+        match known.len() {
+            0 => any_id(&mut self.rng),
+            count => known[self.rng.index(count)],
+        }
+    }
+
     /// A share with several faults, one or none.
     fn noise_share(&mut self, server: u32) -> Call {
+        let id = self.some_id(server);
         let rng = &mut self.rng;
         let percent = rng.pick([5, 15, 40]);
-        let decided = self.tables[server as usize].decided();
-        let id = if !decided.is_empty() && rng.chance(50) {
-            decided[rng.index(decided.len())]
-        } else {
-            any_id(rng)
-        };
         let elements = self.sheet.share_elements();
         let gates = self.sheet.multiplications();
         let mut message = header(id, server as u8).to_vec();
@@ -67,15 +78,15 @@ impl Builder {
         }
     }
 
-    /// A round's joined messages with several faults, one or none.
+    /// A round's joined messages with several faults, one or none; now and then of another id
+    /// than the named one.
     fn noise_round(&mut self, server: u32, kind: u8) -> Call {
-        let id = match self.tables[server as usize].waiting_id() {
-            Some(id) => id,
-            None => any_id(&mut self.rng),
-        };
-        let mut joined = self.joined(id, kind);
+        let id = self.some_id(server);
+        let other = self.some_id(server);
+        let of = if self.rng.chance(25) { other } else { id };
+        let mut joined = self.joined(of, kind);
         let mut room = ROUND_LENGTH;
-        for _ in 0..self.rng.between(1, 2) {
+        for _ in 0..self.rng.below(3) {
             if joined.len() < ROUND_LENGTH {
                 break;
             }
@@ -83,9 +94,9 @@ impl Builder {
             damage_round(&mut self.rng, own, kind, &mut joined, &mut room);
         }
         if kind == ROUND_ONE {
-            Call::RoundOne { joined, room }
+            Call::RoundOne { id, joined, room }
         } else {
-            Call::RoundTwo { joined }
+            Call::RoundTwo { id, joined }
         }
     }
 }

@@ -6,20 +6,43 @@ use crate::gen::any::any_room;
 use crate::gen::pair;
 use crate::judging::{ROUND_LENGTH, ROUND_ONE, ROUND_TWO};
 
+/// A return on its way through the pool.
+struct Course {
+    number: usize,
+    phase: Phase,
+    /// The servers that this phase has still to call.
+    left: Vec<u32>,
+    /// The servers that took their share.
+    reached: Vec<u32>,
+    /// Whether the servers use different pairs.
+    uneven: bool,
+}
+
+/// The calls that a return meets at the servers, one phase after the other.
+#[derive(Clone, Copy, PartialEq)]
+enum Phase {
+    Share,
+    One,
+    Two,
+    Drop,
+}
+
 impl Builder {
-    /// Takes the planned returns through the pool, then closes.
+    /// Takes the planned returns through the pool, their calls mixed, then closes.
     pub fn orderly(&mut self) {
-        for _ in 0..self.planned {
-            let number = self.new_return();
-            let reached = self.send(number);
-            let whole = reached.len() == self.servers as usize;
-            if reached.is_empty() {
-                continue;
+        // So many are under way at once. With nine, a server may meet one too many.
+        let most = self.rng.pick([1, 3, 8, 8, 9, 10]);
+        let mut courses: Vec<Course> = Vec::new();
+        let mut started = 0;
+        while started < self.planned || !courses.is_empty() {
+            let more = started < self.planned && courses.len() < most;
+            if more && (courses.is_empty() || self.rng.chance(40)) {
+                courses.push(self.start());
+                started += 1;
             }
-            if !whole || self.rng.chance(6) {
-                self.drop_all(&reached);
-            } else {
-                self.judge(self.returns[number].id, &reached);
+            let at = self.rng.index(courses.len());
+            if !self.advance(&mut courses[at]) {
+                courses.swap_remove(at);
             }
         }
         for server in self.order() {
@@ -30,63 +53,76 @@ impl Builder {
         }
     }
 
-    /// Sends a return's shares; gives the servers that took theirs. Now and then some servers
-    /// never get their share; now and then the servers use different pairs.
-    fn send(&mut self, number: usize) -> Vec<u32> {
-        let partial = self.rng.chance(8);
-        let uneven = self.rng.chance(5);
-        let mut reached = Vec::new();
-        for server in self.order() {
-            if partial && self.rng.chance(50) {
-                continue;
-            }
+    /// A new return. Now and then some servers never get their share; now and then the servers
+    /// use different pairs.
+    fn start(&mut self) -> Course {
+        let number = self.new_return();
+        let mut left = self.order();
+        if self.rng.chance(8) {
+            left.retain(|_| self.rng.chance(50));
+        }
+        Course {
+            number,
+            phase: Phase::Share,
+            left,
+            reached: Vec::new(),
+            uneven: self.rng.chance(5),
+        }
+    }
+
+    /// Makes a return's next call; tells whether more are to come.
+    fn advance(&mut self, course: &mut Course) -> bool {
+        if let Some(server) = course.left.pop() {
             self.noise(server);
-            let given = &self.returns[number];
-            let message = given.shares[server as usize].clone();
-            let (mut r, mut s) = (given.r, given.s);
-            if uneven {
-                (r, s) = pair(&mut self.rng, self.sheet.multiplications());
+            let call = self.next_call(course, server);
+            let answer = self.call(server, call);
+            // A share may be refused: 13 past N, 11 where eight wait.
+            if course.phase == Phase::Share && matches!(answer, Answer::Message(_)) {
+                course.reached.push(server);
             }
-            let room = any_room(&mut self.rng, ROUND_LENGTH, 0);
-            let call = Call::Share {
+        }
+        if !course.left.is_empty() {
+            return true;
+        }
+        let whole = course.reached.len() == self.servers as usize;
+        let drop = !whole || self.rng.chance(6);
+        course.phase = match course.phase {
+            Phase::Two | Phase::Drop => return false,
+            _ if drop => Phase::Drop,
+            Phase::Share => Phase::One,
+            Phase::One => Phase::Two,
+        };
+        course.left = self.order();
+        course.left.retain(|server| course.reached.contains(server));
+        !course.left.is_empty()
+    }
+
+    /// The call of a return's phase at a server.
+    fn next_call(&mut self, course: &Course, server: u32) -> Call {
+        let given = &self.returns[course.number];
+        let id = given.id;
+        let (mut r, mut s) = (given.r, given.s);
+        let message = given.shares[server as usize].clone();
+        if course.uneven && course.phase == Phase::Share {
+            (r, s) = pair(&mut self.rng, self.sheet.multiplications());
+        }
+        let room = any_room(&mut self.rng, ROUND_LENGTH, 0);
+        match course.phase {
+            Phase::Share => Call::Share {
                 message,
                 r,
                 s,
                 room,
-            };
-            // Past N this is refused 13 at every server.
-            if let Answer::Message(_) = self.call(server, call) {
-                reached.push(server);
+            },
+            Phase::One => {
+                let joined = self.joined(id, ROUND_ONE);
+                Call::RoundOne { id, joined, room }
             }
-        }
-        reached
-    }
-
-    /// Takes a return through both rounds; now and then it is dropped between them.
-    fn judge(&mut self, id: u32, reached: &[u32]) {
-        let joined = self.joined(id, ROUND_ONE);
-        for server in self.order() {
-            self.noise(server);
-            let room = any_room(&mut self.rng, ROUND_LENGTH, 0);
-            let joined = joined.clone();
-            self.call(server, Call::RoundOne { joined, room });
-        }
-        if self.rng.chance(6) {
-            self.drop_all(reached);
-            return;
-        }
-        let joined = self.joined(id, ROUND_TWO);
-        for server in self.order() {
-            self.noise(server);
-            let joined = joined.clone();
-            self.call(server, Call::RoundTwo { joined });
-        }
-    }
-
-    fn drop_all(&mut self, reached: &[u32]) {
-        for &server in reached {
-            self.noise(server);
-            self.call(server, Call::Drop);
+            Phase::Two => {
+                let joined = self.joined(id, ROUND_TWO);
+                Call::RoundTwo { id, joined }
+            }
+            Phase::Drop => Call::Drop { id },
         }
     }
 }

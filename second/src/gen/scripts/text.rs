@@ -16,9 +16,9 @@ impl fmt::Display for Call {
                 s,
                 room,
             } => write!(f, "share {r} {s} {room} {}", Hex(message)),
-            Call::RoundOne { joined, room } => write!(f, "one {room} {}", Hex(joined)),
-            Call::RoundTwo { joined } => write!(f, "two {}", Hex(joined)),
-            Call::Drop => f.write_str("drop"),
+            Call::RoundOne { id, joined, room } => write!(f, "one {id} {room} {}", Hex(joined)),
+            Call::RoundTwo { id, joined } => write!(f, "two {id} {}", Hex(joined)),
+            Call::Drop { id } => write!(f, "drop {id}"),
             Call::Close { room } => write!(f, "close {room}"),
         }
     }
@@ -40,7 +40,8 @@ impl fmt::Display for Answer {
 ///
 /// ```text
 /// open <S> <N> <sheet>
-/// at <server> share <r> <s> <room> <message> | one <room> <joined> | two <joined> | drop | close <room>
+/// at <server> share <r> <s> <room> <message> | one <id> <room> <joined> | two <id> <joined>
+///     | drop <id> | close <room>
 /// = message <bytes> | accepted | rejected | dropped | refused <number>
 /// join <S> <N> <room> <sheet> <joined>
 /// = joined <count> <totals> | refused <number>

@@ -6,57 +6,79 @@ use crate::field;
 use crate::gen::any::any_room;
 use crate::gen::pair;
 use crate::judging::{round_message, ROUND_LENGTH, ROUND_ONE, ROUND_TWO};
-use crate::table::Stage;
+use crate::table::{Stage, PLACES};
 
 impl Builder {
-    /// Makes calls that mostly fit the stage of the table, then closes most tables.
+    /// Makes calls that mostly fit what waits at the table, then closes most tables.
     pub fn wild(&mut self) {
+        // In so many of a hundred cases a table takes one more share while others wait.
+        let eager = self.rng.pick([20, 50, 80]);
         let steps = 12 * self.planned * u64::from(self.servers) / 2;
         for _ in 0..steps {
             let server = self.rng.below(u64::from(self.servers)) as u32;
-            let stage = self.tables[server as usize].stage();
-            if self.rng.chance(20) || stage == Stage::Closed {
+            if self.rng.chance(20) || self.tables[server as usize].closed() {
                 self.noise(server);
             } else {
-                let call = self.wild_call(server, stage);
+                let call = self.wild_call(server, eager);
                 self.call(server, call);
             }
         }
         for server in self.order() {
             if self.rng.chance(70) {
-                if self.tables[server as usize].waiting_id().is_some() {
-                    self.call(server, Call::Drop);
-                }
-                let room = any_room(&mut self.rng, self.sheet.closing_length(), 10);
-                self.call(server, Call::Close { room });
+                self.drop_and_close(server);
             }
         }
     }
 
-    /// A call that the stage allows.
-    fn wild_call(&mut self, server: u32, stage: Stage) -> Call {
+    /// Drops what waits at a server and closes its table. Now and then one is left, and the
+    /// close is refused.
+    fn drop_and_close(&mut self, server: u32) {
+        for (id, _) in self.tables[server as usize].waiting() {
+            if !self.rng.chance(3) {
+                self.call(server, Call::Drop { id });
+            }
+        }
+        let room = any_room(&mut self.rng, self.sheet.closing_length(), 10);
+        self.call(server, Call::Close { room });
+    }
+
+    /// A call that mostly fits what waits at the table.
+    fn wild_call(&mut self, server: u32, eager: u64) -> Call {
+        let waiting = self.tables[server as usize].waiting();
+        if waiting.is_empty() && self.rng.chance(3) {
+            let room = any_room(&mut self.rng, self.sheet.closing_length(), 10);
+            return Call::Close { room };
+        }
+        let percent = match waiting.len() {
+            0 => 100,
+            PLACES => 5,
+            _ => eager,
+        };
+        if self.rng.chance(percent) {
+            return self.wild_share(server);
+        }
+        let (id, stage) = waiting[self.rng.index(waiting.len())];
         match stage {
-            Stage::Idle if !self.rng.chance(3) => self.wild_share(server),
-            Stage::Idle | Stage::Closed => Call::Close {
-                room: any_room(&mut self.rng, self.sheet.closing_length(), 10),
-            },
-            Stage::AwaitsRoundOne | Stage::AwaitsRoundTwo if self.rng.chance(12) => Call::Drop,
+            _ if self.rng.chance(12) => Call::Drop { id },
             Stage::AwaitsRoundOne => Call::RoundOne {
-                joined: self.wild_joined(server, ROUND_ONE),
+                id,
+                joined: self.wild_joined(server, id, ROUND_ONE),
                 room: any_room(&mut self.rng, ROUND_LENGTH, 5),
             },
             Stage::AwaitsRoundTwo => Call::RoundTwo {
-                joined: self.wild_joined(server, ROUND_TWO),
+                id,
+                joined: self.wild_joined(server, id, ROUND_TWO),
             },
         }
     }
 
     /// A share for one server: an old return or a new one, its own pair or another.
     fn wild_share(&mut self, server: u32) -> Call {
-        // Mostly one that this server has not decided.
-        let decided = self.tables[server as usize].decided();
+        // Mostly one that neither waits here nor is decided.
+        let table = &self.tables[server as usize];
+        let used = |id| table.decided().contains(&id) || table.stage(id).is_some();
         let open: Vec<usize> = (0..self.returns.len())
-            .filter(|&number| !decided.contains(&self.returns[number].id))
+            .filter(|&number| !used(self.returns[number].id))
             .collect();
         let more = (self.returns.len() as u64) < self.planned;
         let number = if self.returns.is_empty() || (more && self.rng.chance(25)) {
@@ -81,12 +103,9 @@ impl Builder {
         }
     }
 
-    /// Joined messages for one server's wait: those that were written, made-up ones for the
-    /// servers that wrote none, the last of them sometimes such that the sums are 0.
-    fn wild_joined(&mut self, server: u32, kind: u8) -> Vec<u8> {
-        let Some(id) = self.tables[server as usize].waiting_id() else {
-            return Vec::new();
-        };
+    /// Joined messages for a return that waits at a server: those that were written, made-up
+    /// ones for the servers that wrote none, one of them sometimes such that the sums are 0.
+    fn wild_joined(&mut self, server: u32, id: u32, kind: u8) -> Vec<u8> {
         let mut joined = self.joined(id, kind);
         if self.rng.chance(40) {
             let other = (server + 1) % self.servers;

@@ -1,0 +1,45 @@
+//! A table in the plain and in the lent form, which must agree at every call.
+
+use super::lent_table::Lent;
+use second::gen::{Answer, Call, Server};
+use second::{open, Stage, Table};
+
+/// A table in both forms.
+#[derive(Clone)]
+pub struct Twins {
+    pub plain: Table,
+    pub lent: Lent,
+}
+
+impl Twins {
+    pub fn open(servers: u32, own: u32, sheet: &[u8], limit: u32) -> Twins {
+        Twins {
+            plain: open(servers, own, sheet, limit).unwrap(),
+            lent: Lent::open(servers, own, sheet, limit).unwrap(),
+        }
+    }
+}
+
+impl Server for Twins {
+    fn call(&mut self, call: &Call) -> Answer {
+        let before = self.plain.clone();
+        let answer = self.plain.call(call);
+        assert_eq!(self.lent.call(call), answer, "{call}");
+        if let Answer::Refused(_) = answer {
+            assert_eq!(self.plain, before);
+        }
+        // The records that wait are those of the plain form, in its order.
+        let waits = self.lent.slots.iter().filter(|slot| slot.stage != 0);
+        let records: Vec<(u32, u32)> = waits.map(|slot| (slot.id, slot.stage)).collect();
+        let waiting = self.plain.waiting();
+        let waiting: Vec<(u32, u32)> = waiting
+            .into_iter()
+            .map(|(id, stage)| match stage {
+                Stage::AwaitsRoundOne => (id, 1),
+                Stage::AwaitsRoundTwo => (id, 2),
+            })
+            .collect();
+        assert_eq!(records, waiting);
+        answer
+    }
+}

@@ -8,50 +8,100 @@
  *     every party       pool_sizes -----> what the sheet comes to, and so the length of every buffer
  *     an author         pool_every_return -> every legal return of a small sheet
  *     workshop          pool_make ------> S share messages, one for each server
- *     each server       pool_open         once: a table
- *                       pool_share ------> its round-one message (14 bytes)    } for each return
- *                       pool_round_one --> its round-two message (14 bytes)    }
- *                       pool_round_two --> accepted or rejected                }
+ *     each server       pool_open         once: a table, in three parts
+ *                       pool_share ------> its round-one message (14 bytes)    } for each return: up to eight
+ *                       pool_round_one --> its round-two message (14 bytes)    } are under way at a time,
+ *                       pool_round_two --> accepted or rejected                } each in its own stage
+ *                       pool_drop          in place of a round, for a return that cannot be finished
  *                       pool_close ------> its totals message, at the end
  *     anyone            pool_join -------> the count of accepted returns and the totals
  *     a keeper          pool_shelve -----> share messages stored by place, and pool_unshelve brings them back
  *
- * The host sends the messages: it puts the S messages of a round one after another in server order and hands the whole run
- * to every server. It also draws the random numbers, and chooses r and s, the same for every server, after the shares have
- * been sent and in a way that no workshop can foretell.
+ * The host sends the messages: it puts the S messages of a round of one return one after another in server order and hands
+ * the whole run to every server. It also draws the random numbers, and chooses r and s, for each return anew and the same for
+ * every server, after the shares have been sent and in a way that no workshop can foretell.
  *
  * Answers. Every function returns 0 when it is done, and else the number of the refusal (POOL_...). The first refusal in
- * the order given at each function counts. A refusal changes nothing: buffers, tables and results behind pointers keep
- * what they held. When a function is done, the bytes of a buffer past the written length keep what they held.
+ * the order given at each function counts. A refusal changes nothing: buffers, all three parts of tables and results behind
+ * pointers keep what they held. When a function is done, the bytes of a buffer past the written length keep what they held.
  *
- * Numbers. A number wider than a byte stands in a buffer lowest byte first. An element is a number below
- * p = 2147483647 in 4 bytes.
+ * Numbers. A number wider than a byte stands in a buffer of bytes lowest byte first. An element is a number below
+ * p = 2147483647, in 4 bytes.
  *
- * Buffers. Each is a pointer with its length after it, which is the true length of the buffer; a length of 0 goes with any
- * pointer, NULL included, and an output buffer of length 0 is one that is too short. The buffers and results of one call
- * must not overlap. Pointers to results must be valid: not NULL, and aligned as C wants.
+ * Buffers. Each is a pointer with its length after it, which is the true length of the buffer and counts what the pointer
+ * points to: bytes, slots or numbers. A length of 0 goes with any pointer, NULL included, and an output buffer of length 0 is
+ * one that is too short. The buffers and results of one call must not overlap. Pointers to results must be valid: not NULL,
+ * and aligned as C wants.
  *
- * Tables. A table is a plain run of bytes that the host keeps, so it survives a restart. It may stand at the start of a
- * longer buffer. Store the table and the message that a call wrote together, before the message is sent: a message cannot
- * be written a second time. Never go back to an older copy of a table: a share judged twice with two pairs shows more of
- * the return than it may.
+ * Tables. A table has three parts, which the host keeps and lends to every call on the table:
  *
- * What a table holds. At every stage S, the own number, N, the sheet, the counts, the ids decided and the server's shares
- * of the totals. While a return waits also its id, its whole share, r, s and the numbers of the rounds; idle and closed,
- * zeros in their place. Of a decided return there stay its id and, if it was accepted, what its share added to the totals.
+ *     table       bytes, POOL_TABLE_BYTES           S, the own number, N, the sheet, the counts, the totals, the ids decided
+ *     slots       pool_slot, POOL_SLOTS of them     for each return that waits: its id, its stage, r, s, d and e
+ *     elements    uint32_t, POOL_ELEMENTS of them   for each slot a place for the share of the return that waits in it
  *
- * Secrecy. While a return waits, a table is as secret as the share: keep copies, swap and logs of it as you keep a share.
- * The library erases in the table that it is lent; older copies and the share message are the host's to erase. Two copies,
- * from before and after one accepted return, show the published entries of its share. The shares of the totals stay in a
- * table until the host erases it; those of S closed tables, added up modulo p, are the published totals. Share messages that
- * a host stores stay as secret as they were, in any order of their bytes: those of all S servers, added up, are the returns.
+ * Slots are aligned to 8 bytes and elements to 4, as C wants; the bytes may stand anywhere. There are exactly eight slots. The
+ * bytes and the elements may stand at the start of longer buffers: what lies past them is never read nor written. Slots and
+ * elements hold numbers as the machine does. A host may read the slots; it writes to none of the parts.
  *
- * Dropping. A return that cannot be finished is dropped at every server. Once its round-two message has been sent, a server
- * drops only when it knows that no other server has decided the return by round two, or can: a return that is accepted at
+ * THE THREE PARTS ARE STORED TOGETHER, with the message that a call wrote, before the message is sent: so a table survives a
+ * restart. A message cannot be written a second time. Parts that were stored at different times are no table: calls cannot
+ * always tell, and the totals can become wrong. Never go back to older copies of a table, nor of a part: a share judged
+ * twice with two pairs shows more of the return than it may.
+ *
+ * What each part holds. The bytes: of a decided return its id and, if it was accepted, what its share added to the totals;
+ * of a return that waits nothing. A slot: stage POOL_FREE and zeros, or the return that waits in it (see pool_slot). The
+ * elements: with E = (share_bytes - 6) / 4 elements to a share, the place of slot i, from 0, is the E + 2 numbers from
+ * i x (E + 2) on. It holds the share of the return that waits there and two numbers worked out from it, r x h(r) and tau;
+ * zeros where the slot is free. pool_share fills the first free slot and its place. When the return is decided, by
+ * pool_round_two or pool_drop, both are erased: set to 0. pool_open sets all slots and places to 0.
+ *
+ * Secrecy. Secret are the elements and, in the bytes, the totals. While a return waits, its place in the elements is as secret
+ * as the share: keep copies, swap and logs of it as you keep a share. The totals are the server's shares of them: two copies,
+ * from before and after one accepted return, show the published entries of its share. They stay in the bytes until the host
+ * erases the table; those of S closed tables, added up modulo p, are the published totals. The slots and the rest of the bytes
+ * hold what the servers agree on or tell one another: ids, counts, r, s, d and e. The library erases in the parts that it is
+ * lent; older copies and the share message are the host's to erase. Share messages that a host stores stay as secret as they
+ * were, in any order of their bytes: those of all S servers, added up, are the returns.
+ *
+ * Several returns under way. Each call names its return: a share by the id in its message, the rounds and pool_drop by an
+ * id. What becomes of a return does not depend on the calls on others between its own, and returns may be finished in any
+ * order. A keeper takes what comes, in the order in which it comes (T stands for the three parts with their lengths):
+ *
+ *     while (next(&m)) {                        // what is ready: a share with its r and s, or all S messages of a round
+ *         switch (m.what) {
+ *         case A_SHARE:
+ *             answer = pool_share(T, m.bytes, m.len, m.r, m.s, out, sizeof out, &out_len);
+ *             if (answer == POOL_STAGE && eight_wait(slots)) {
+ *                 put_back(&m);                 // handed in again, with the same r and s, once a return is decided
+ *                 continue;
+ *             }
+ *             break;
+ *         case ALL_ROUND_ONE:
+ *             answer = pool_round_one(T, m.id, m.bytes, m.len, out, sizeof out, &out_len);
+ *             break;
+ *         case ALL_ROUND_TWO:
+ *             answer = pool_round_two(T, m.id, m.bytes, m.len, &accepted);
+ *             out_len = 0;                      // no message: the return is decided and its slot is free again
+ *             break;
+ *         }
+ *         if (answer == POOL_DECIDED)
+ *             continue;                         // another return has this id: that one goes on, and this share is left
+ *         if (answer != POOL_DONE)
+ *             tell_others(m.id, answer);        // they drop the return, and so does this server where it waits
+ *         else if (store(T, out, out_len))      // all together
+ *             send_others(m.id, out, out_len);  // only now
+ *     }
+ *
+ * The servers take the shares of returns in the same order. Otherwise each could have its eight slots full of returns that
+ * another has no slot for, and none could be finished.
+ *
+ * Dropping. A return that cannot be finished is dropped at every server, by its id; the others that wait go on. One that is
+ * neither finished nor dropped keeps its slot, and counts towards N. Once its round-two message has been sent, a server
+ * drops a return only when it knows that no other server has decided it by round two, or can: a return that is accepted at
  * one server and dropped at another makes the totals wrong, and joining notices only counts that differ.
  *
- * Threads. Functions keep nothing between calls. Calls at the same time are allowed on separate buffers. No function
- * needs more than 64 KiB of stack; none allocates memory.
+ * Threads. Functions keep nothing between calls. Calls at the same time are allowed on separate buffers; calls on one table
+ * come one after another, whichever returns they name. No function needs more than 64 KiB of stack; none allocates memory.
  */
 #ifndef POOL_H
 #define POOL_H
@@ -74,10 +124,10 @@ extern "C" {
 #define POOL_SHARE 7    /* share message of the wrong kind byte, length or server */
 #define POOL_ELEMENT 8  /* share element not below p */
 #define POOL_PAIR 9     /* r or s outside its range */
-#define POOL_DECIDED 10 /* the id was decided before */
-#define POOL_STAGE 11   /* the table is no sound table, or its stage does not allow the call */
+#define POOL_DECIDED 10 /* the id was decided or waits */
+#define POOL_STAGE 11   /* table unsound or closed, nothing waits under that id in that stage, eight wait, or a close while one waits */
 #define POOL_JOINED 12  /* joined messages: length, kind, id, order, element, own message or counts wrong */
-#define POOL_FULL 13    /* N returns are decided */
+#define POOL_FULL 13    /* N returns are decided or wait */
 #define POOL_ROOM 14    /* the output buffer is too short */
 #define POOL_MANY 17    /* the sheet has more than 4,096 legal lists of values */
 #define POOL_RUN 19     /* shelf: the run is not R messages of W bytes */
@@ -88,6 +138,7 @@ extern "C" {
 #define POOL_MAX_SERVERS 8
 #define POOL_MAX_RETURNS 1024
 #define POOL_MAX_ENTRIES 256
+#define POOL_SLOTS 8 /* returns that wait in a table at a time */
 #define POOL_MAX_LISTS 4096
 #define POOL_MAX_SHELF_MESSAGES 64
 #define POOL_MAX_SHELF_WIDTH 4096
@@ -108,8 +159,27 @@ extern "C" {
 #define POOL_TOP 20
 
 /*
+ * A slot of a table. One that is free is all 0. For a return that waits it holds:
+ *     id        of the return
+ *     stage     POOL_AWAITS_ONE after its share, POOL_AWAITS_TWO after round one
+ *     r, s      the challenges that its share was taken with
+ *     d, e      awaiting round one those that this server sent, awaiting round two the sums of all servers'
+ * A slot has 40 bytes and no gaps.
+ */
+typedef struct {
+    uint32_t id, stage;
+    uint64_t r, s, d, e;
+} pool_slot;
+
+/* Stages of a slot. */
+#define POOL_FREE 0
+#define POOL_AWAITS_ONE 1
+#define POOL_AWAITS_TWO 2
+
+/*
  * Sizes of buffers, in bytes, from S (2 to 8), N and what pool_sizes tells of the sheet: its columns, published entries and
- * share_bytes. A circuit has circuit_bytes, a share message share_bytes.
+ * share_bytes. A circuit has circuit_bytes, a share message share_bytes. Of a table POOL_TABLE_BYTES is the length of its
+ * bytes; POOL_ELEMENTS counts numbers, not bytes.
  */
 #define POOL_VALUES_BYTES(columns) (4 * (size_t)(columns))
 #define POOL_RANDOM_BYTES(servers, share_bytes) (((size_t)(servers) - 1) * ((size_t)(share_bytes) - 6) + 16)
@@ -117,8 +187,9 @@ extern "C" {
 #define POOL_ROUND_BYTES 14
 #define POOL_TOTALS_BYTES(published) (6 + 4 * (size_t)(published))
 #define POOL_JOIN_BYTES(published) (4 * (size_t)(published))
-#define POOL_TABLE_BYTES(sheet_len, published, share_bytes, returns) \
-    (12 + (size_t)(sheet_len) + 4 * (size_t)(published) + 4 * (size_t)(returns) + 28 + (size_t)(share_bytes) - 6)
+#define POOL_TABLE_BYTES(sheet_len, published, returns) \
+    (12 + (size_t)(sheet_len) + 4 * (size_t)(published) + 4 * (size_t)(returns))
+#define POOL_ELEMENTS(share_bytes) (POOL_SLOTS * (((size_t)(share_bytes) - 6) / 4 + 2))
 
 /* The size of every legal list of values of a small sheet, in bytes, from its columns and the number of lists. */
 #define POOL_EVERY_RETURN_BYTES(columns, lists) ((size_t)(lists) * POOL_VALUES_BYTES(columns))
@@ -135,7 +206,8 @@ extern "C" {
 #define POOL_MAX_MAKE_BYTES 24816
 #define POOL_MAX_TOTALS_BYTES 1030
 #define POOL_MAX_JOIN_BYTES 1024
-#define POOL_MAX_TABLE_BYTES 8512
+#define POOL_MAX_TABLE_BYTES 5388 /* N = 1,024; a sheet has at most 5 bytes for each entry, its total included, as 256 yes/no have */
+#define POOL_MAX_ELEMENTS 6208    /* numbers: 256 entries and as many multiplications, 774 elements to a share */
 #define POOL_MAX_EVERY_RETURN_BYTES 196608
 #define POOL_MAX_SHELF_BYTES 262144 /* and for every R and W */
 
@@ -196,48 +268,65 @@ uint32_t pool_make(const uint8_t *sheet, size_t sheet_len, uint32_t servers, uin
                    uint8_t *out, size_t out_len, size_t *written);
 
 /*
- * Opens a table of server `own` (0 to S - 1) for `returns` decided returns (N, 1 to 1,024): writes POOL_TABLE_BYTES. An N above
+ * Opens a table of server `own` (0 to S - 1) for `returns` decided returns (N, 1 to 1,024): writes its three parts. An N above
  * the sheet's greatest_returns is refused.
- * Refusals: 2 for S, 2 for the own number, the sheet's, 2 for N, 4, 14.
+ *     table     POOL_TABLE_BYTES; *written is this length
+ *     slots     slots_len is POOL_SLOTS
+ *     elements  POOL_ELEMENTS numbers
+ * Refusals: 2 for S, 2 for the own number, the sheet's, 2 for N, 4, 14 for too few bytes, other than eight slots or too few
+ * numbers.
  */
 uint32_t pool_open(uint32_t servers, uint32_t own, const uint8_t *sheet, size_t sheet_len, uint32_t returns,
-                   uint8_t *table, size_t table_len, size_t *written);
+                   uint8_t *table, size_t table_len, pool_slot *slots, size_t slots_len,
+                   uint32_t *elements, size_t elements_len, size_t *written);
 
 /*
- * Takes a share into an idle table and writes the server's round-one message, POOL_ROUND_BYTES.
+ * Takes a share into the first free slot and its place, and writes the server's round-one message, POOL_ROUND_BYTES. The bytes
+ * of the table stay as they are.
  *     r         from M + 1 to p - 1; s from 0 to p - 1: the same at every server
- * Refusals: 11, 13, 7, 8, 10, 9, 14.
+ * A ninth share is refused 11 and handed in again, with the same r and s, once a return is decided.
+ * Refusals: 11 for a table that is unsound (other than eight slots or too few numbers included) or closed, or in which eight
+ * returns wait; 13 for N returns that are decided or wait; 7, 8, 10 for an id that was decided or waits, 9, 14.
  */
-uint32_t pool_share(uint8_t *table, size_t table_len, const uint8_t *message, size_t message_len,
+uint32_t pool_share(const uint8_t *table, size_t table_len, pool_slot *slots, size_t slots_len,
+                    uint32_t *elements, size_t elements_len, const uint8_t *message, size_t message_len,
                     uint64_t r, uint64_t s, uint8_t *out, size_t out_len, size_t *written);
 
 /*
- * Takes the S joined round-one messages and writes the server's round-two message, POOL_ROUND_BYTES.
- * Refusals: 11, 12, 14.
+ * Takes the S joined round-one messages of the return `id` and writes the server's round-two message, POOL_ROUND_BYTES. Only
+ * the slot of this return changes: it awaits round two.
+ * Refusals: 11 for a table that is unsound or closed, or where no return of this id awaits round one; 12, for messages of
+ * another id too; 14.
  */
-uint32_t pool_round_one(uint8_t *table, size_t table_len, const uint8_t *joined, size_t joined_len,
-                        uint8_t *out, size_t out_len, size_t *written);
+uint32_t pool_round_one(const uint8_t *table, size_t table_len, pool_slot *slots, size_t slots_len,
+                        const uint32_t *elements, size_t elements_len, uint32_t id,
+                        const uint8_t *joined, size_t joined_len, uint8_t *out, size_t out_len, size_t *written);
 
 /*
- * Takes the S joined round-two messages and decides: *accepted is 1 or 0. The return's bytes are erased from the table,
- * which is idle again.
- * Refusals: 11, 12.
+ * Takes the S joined round-two messages of the return `id` and decides it: *accepted is 1 or 0. Its slot and its place in the
+ * elements are erased; the slot is free again.
+ * Refusals: 11 for a table that is unsound or closed, or where no return of this id awaits round two; 12, for messages of
+ * another id too.
  */
-uint32_t pool_round_two(uint8_t *table, size_t table_len, const uint8_t *joined, size_t joined_len,
-                        uint32_t *accepted);
+uint32_t pool_round_two(uint8_t *table, size_t table_len, pool_slot *slots, size_t slots_len,
+                        uint32_t *elements, size_t elements_len, uint32_t id,
+                        const uint8_t *joined, size_t joined_len, uint32_t *accepted);
 
 /*
- * Drops the return that waits. It is decided and its id stays used; its bytes are erased from the table, which is idle
- * again.
- * Refusals: 11.
+ * Drops the return `id`, whichever round it awaits. It is decided and its id stays used; its slot and its place in the elements
+ * are erased, and the slot is free again.
+ * Refusals: 11 for a table that is unsound or closed, or where no return of this id waits.
  */
-uint32_t pool_drop(uint8_t *table, size_t table_len);
+uint32_t pool_drop(uint8_t *table, size_t table_len, pool_slot *slots, size_t slots_len,
+                   uint32_t *elements, size_t elements_len, uint32_t id);
 
 /*
- * Closes an idle table and writes the server's totals message, POOL_TOTALS_BYTES. A closed table takes no call.
- * Refusals: 11, 14.
+ * Closes a table in which no return waits and writes the server's totals message, POOL_TOTALS_BYTES. Slots and elements stay
+ * as they are. A closed table takes no call.
+ * Refusals: 11 for a table that is unsound or closed, or in which a return waits; 14.
  */
-uint32_t pool_close(uint8_t *table, size_t table_len, uint8_t *out, size_t out_len, size_t *written);
+uint32_t pool_close(uint8_t *table, size_t table_len, const pool_slot *slots, size_t slots_len,
+                    const uint32_t *elements, size_t elements_len, uint8_t *out, size_t out_len, size_t *written);
 
 /*
  * Joins the S totals messages, in server order, of tables opened with this S, sheet and N: *accepted is the count of

@@ -1,5 +1,18 @@
 //! The functions of pool.h, declared for Rust. A program that includes this file uses those that it needs.
-#![allow(dead_code)]
+#![allow(dead_code, non_camel_case_types)]
+
+/// A slot of a table: a return that waits, or all 0. A table has eight.
+#[repr(C)]
+#[derive(Clone, Copy, Debug, Default, PartialEq, Eq)]
+pub struct pool_slot {
+    pub id: u32,
+    /// 0 free, 1 awaits round one, 2 awaits round two.
+    pub stage: u32,
+    pub r: u64,
+    pub s: u64,
+    pub d: u64,
+    pub e: u64,
+}
 
 #[link(name = "pool", kind = "static")]
 extern "C" {
@@ -59,12 +72,20 @@ extern "C" {
         returns: u32,
         table: *mut u8,
         table_len: usize,
+        slots: *mut pool_slot,
+        slots_len: usize,
+        elements: *mut u32,
+        elements_len: usize,
         written: *mut usize,
     ) -> u32;
 
     pub fn pool_share(
-        table: *mut u8,
+        table: *const u8,
         table_len: usize,
+        slots: *mut pool_slot,
+        slots_len: usize,
+        elements: *mut u32,
+        elements_len: usize,
         message: *const u8,
         message_len: usize,
         r: u64,
@@ -75,8 +96,13 @@ extern "C" {
     ) -> u32;
 
     pub fn pool_round_one(
-        table: *mut u8,
+        table: *const u8,
         table_len: usize,
+        slots: *mut pool_slot,
+        slots_len: usize,
+        elements: *const u32,
+        elements_len: usize,
+        id: u32,
         joined: *const u8,
         joined_len: usize,
         out: *mut u8,
@@ -87,14 +113,37 @@ extern "C" {
     pub fn pool_round_two(
         table: *mut u8,
         table_len: usize,
+        slots: *mut pool_slot,
+        slots_len: usize,
+        elements: *mut u32,
+        elements_len: usize,
+        id: u32,
         joined: *const u8,
         joined_len: usize,
         accepted: *mut u32,
     ) -> u32;
 
-    pub fn pool_drop(table: *mut u8, table_len: usize) -> u32;
+    pub fn pool_drop(
+        table: *mut u8,
+        table_len: usize,
+        slots: *mut pool_slot,
+        slots_len: usize,
+        elements: *mut u32,
+        elements_len: usize,
+        id: u32,
+    ) -> u32;
 
-    pub fn pool_close(table: *mut u8, table_len: usize, out: *mut u8, out_len: usize, written: *mut usize) -> u32;
+    pub fn pool_close(
+        table: *mut u8,
+        table_len: usize,
+        slots: *const pool_slot,
+        slots_len: usize,
+        elements: *const u32,
+        elements_len: usize,
+        out: *mut u8,
+        out_len: usize,
+        written: *mut usize,
+    ) -> u32;
 
     pub fn pool_join(
         servers: u32,

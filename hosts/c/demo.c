@@ -1,6 +1,7 @@
 /*
- * A whole pool on one machine: eight watchmakers' workshops, three servers, one sheet. Prints what happens to each
- * return and the totals, and checks them against the plain sums, which no real pool has.
+ * A whole pool on one machine: ten watchmakers' workshops, three servers, one sheet. Up to eight returns wait at a server
+ * at a time, and they are finished in another order than they came. Prints what happens to each return and the totals,
+ * and checks them against the plain sums, which no real pool has.
  *
  * Exit status: 0, or 1 where a call is refused that must be done or the totals are not the plain sums.
  */
@@ -27,31 +28,56 @@ static const struct {
     {3, "Hours at the bench, to 200", "sum"},
 };
 
-enum conduct { HONEST, CHEATS, UNFINISHED, SLIPS };
+enum conduct { HONEST, CHEATS, SLIPS };
+enum { ALBERS, BRANDT, CLASEN, DORN, EBERT, FUCHS, GROSS, HARMS, IHDE, JANSEN, WORKSHOPS };
 
 static const struct workshop {
     const char *name;
     uint32_t values[COLUMNS]; /* yes or no, the option from 0, the number */
     enum conduct conduct;
-} workshops[] = {
+} workshops[WORKSHOPS] = {
     {"Albers", {1, 0, 3}, HONEST},  {"Brandt", {0, 2, 11}, HONEST}, {"Clasen", {1, 1, 6}, HONEST},
-    {"Dorn", {1, 3, 150}, CHEATS},  {"Ebert", {1, 2, 9}, HONEST},   {"Fuchs", {0, 1, 40}, UNFINISHED},
-    {"Gross", {0, 2, 200}, HONEST}, {"Harms", {0, 1, 255}, SLIPS},
+    {"Dorn", {1, 3, 150}, CHEATS},  {"Ebert", {1, 2, 9}, HONEST},   {"Fuchs", {0, 1, 40}, HONEST},
+    {"Gross", {0, 2, 200}, HONEST}, {"Harms", {0, 1, 255}, SLIPS},  {"Ihde", {1, 0, 75}, HONEST},
+    {"Jansen", {0, 3, 14}, HONEST},
 };
-enum { WORKSHOPS = sizeof workshops / sizeof workshops[0] };
+
+/* What comes after the shares, in the order in which it comes. A message of Fuchs's return is lost. */
+enum what { SHARE_AGAIN, ROUND_ONE, ROUND_TWO, DROP };
+static const struct {
+    int who;
+    enum what what;
+} timetable[] = {
+    {CLASEN, ROUND_ONE}, {ALBERS, ROUND_ONE}, {GROSS, ROUND_ONE}, {CLASEN, ROUND_TWO}, {JANSEN, SHARE_AGAIN},
+    {DORN, ROUND_ONE},   {GROSS, ROUND_TWO},  {EBERT, ROUND_ONE}, {FUCHS, DROP},       {JANSEN, ROUND_ONE},
+    {DORN, ROUND_TWO},   {JANSEN, ROUND_TWO}, {IHDE, ROUND_ONE},  {BRANDT, ROUND_ONE}, {IHDE, ROUND_TWO},
+    {ALBERS, ROUND_TWO}, {EBERT, ROUND_TWO},  {BRANDT, ROUND_TWO},
+};
 
 /* What the sheet comes to: every party asks once. */
 static struct {
     uint32_t columns, entries, published, wires, multiplications, tests, circuit_bytes, share_bytes, greatest_returns;
 } sizes;
 
-/* A server has its table, and the last message that it wrote. */
+/* A server has its table: three parts in one place, so that they are stored together. */
 static struct server {
-    uint8_t table[POOL_MAX_TABLE_BYTES];
-    size_t table_len;
-    uint8_t message[POOL_MAX_TOTALS_BYTES];
-    size_t message_len;
+    uint8_t bytes[POOL_MAX_TABLE_BYTES];
+    size_t bytes_len;
+    pool_slot slots[POOL_SLOTS];
+    uint32_t elements[POOL_MAX_ELEMENTS];
 } servers[SERVERS];
+
+/* The table of server v, as every call takes it. */
+#define TABLE(v) (v)->bytes, (v)->bytes_len, (v)->slots, POOL_SLOTS, (v)->elements, POOL_MAX_ELEMENTS
+
+/* What is on the way for each return: its shares, its challenges, and the messages that the servers wrote last for it. */
+static struct under_way {
+    uint8_t shares[SERVERS * POOL_MAX_SHARE_BYTES];
+    uint64_t r, s;
+    uint8_t messages[SERVERS * POOL_ROUND_BYTES];
+} under_way[WORKSHOPS];
+
+static uint32_t id_of(int k) { return (uint32_t)k + 1; }
 
 static void read_sheet(void)
 {
@@ -71,9 +97,11 @@ static void read_sheet(void)
 
 static void open_servers(void)
 {
-    for (uint32_t i = 0; i < SERVERS; i++)
-        host_must("pool_open", pool_open(SERVERS, i, sheet, sizeof sheet, RETURNS, servers[i].table,
-                                         sizeof servers[i].table, &servers[i].table_len));
+    for (uint32_t i = 0; i < SERVERS; i++) {
+        struct server *v = &servers[i];
+        host_must("pool_open", pool_open(SERVERS, i, sheet, sizeof sheet, RETURNS, v->bytes, sizeof v->bytes, v->slots,
+                                         POOL_SLOTS, v->elements, POOL_MAX_ELEMENTS, &v->bytes_len));
+    }
 }
 
 /* The workshop: makes its return, or is refused. The share of server i begins at shares + i * sizes.share_bytes. */
@@ -95,45 +123,43 @@ static void alter(uint8_t *share)
     host_put_u32(entry, (uint32_t)(((uint64_t)host_u32(entry) + 1000) % POOL_PRIME));
 }
 
-/* The messages that the servers wrote last, one after another. */
-static size_t join_messages(uint8_t *joined)
+/*
+ * Every server takes its share of return k. Says whether they did: with eight returns waiting they refuse it, and it is
+ * handed in again later.
+ */
+static int take_shares(int k)
 {
-    size_t len = 0;
-    for (int i = 0; i < SERVERS; i++) {
-        memcpy(joined + len, servers[i].message, servers[i].message_len);
-        len += servers[i].message_len;
-    }
-    return len;
-}
-
-/* Every server takes its share. The challenges are drawn now: the workshop could not know them. */
-static void take_shares(const uint8_t *shares)
-{
-    uint64_t r = host_challenge(sizes.multiplications), s = host_element();
+    struct under_way *u = &under_way[k];
+    size_t written;
     for (size_t i = 0; i < SERVERS; i++) {
         struct server *v = &servers[i];
-        host_must("pool_share", pool_share(v->table, v->table_len, shares + i * sizes.share_bytes, sizes.share_bytes,
-                                           r, s, v->message, sizeof v->message, &v->message_len));
+        uint32_t answer = pool_share(TABLE(v), u->shares + i * sizes.share_bytes, sizes.share_bytes, u->r, u->s,
+                                     u->messages + i * POOL_ROUND_BYTES, POOL_ROUND_BYTES, &written);
+        if (answer == POOL_STAGE && host_waiting(v->slots) == POOL_SLOTS)
+            return 0; /* the servers took the same shares before: the others refuse it too */
+        host_must("pool_share", answer);
     }
+    return 1;
 }
 
-static void round_one(void)
+static void round_one(int k)
 {
-    uint8_t joined[SERVERS * POOL_ROUND_BYTES];
-    size_t len = join_messages(joined);
-    for (struct server *v = servers; v < servers + SERVERS; v++)
-        host_must("pool_round_one", pool_round_one(v->table, v->table_len, joined, len, v->message, sizeof v->message,
-                                                   &v->message_len));
+    struct under_way *u = &under_way[k];
+    uint8_t joined[sizeof u->messages];
+    size_t written;
+    memcpy(joined, u->messages, sizeof joined);
+    for (size_t i = 0; i < SERVERS; i++)
+        host_must("pool_round_one", pool_round_one(TABLE(&servers[i]), id_of(k), joined, sizeof joined,
+                                                   u->messages + i * POOL_ROUND_BYTES, POOL_ROUND_BYTES, &written));
 }
 
 /* Says whether the return was accepted. Every server decides by itself, and all decide alike. */
-static int round_two(void)
+static int round_two(int k)
 {
-    uint8_t joined[SERVERS * POOL_ROUND_BYTES];
-    size_t len = join_messages(joined);
     uint32_t verdicts = 0, accepted;
     for (struct server *v = servers; v < servers + SERVERS; v++) {
-        host_must("pool_round_two", pool_round_two(v->table, v->table_len, joined, len, &accepted));
+        host_must("pool_round_two", pool_round_two(TABLE(v), id_of(k), under_way[k].messages,
+                                                   sizeof under_way[k].messages, &accepted));
         verdicts += accepted;
     }
     if (verdicts != 0 && verdicts != SERVERS) {
@@ -143,36 +169,59 @@ static int round_two(void)
     return verdicts == SERVERS;
 }
 
-static void drop(void)
+static void drop(int k)
 {
     for (struct server *v = servers; v < servers + SERVERS; v++)
-        host_must("pool_drop", pool_drop(v->table, v->table_len));
+        host_must("pool_drop", pool_drop(TABLE(v), id_of(k)));
 }
 
-/* One return, from its workshop to its end. Says whether it was accepted. */
-static int handle(uint32_t id, const struct workshop *w)
+/* What a call came to, and how many returns wait now. */
+static void say(const char *became)
 {
-    uint8_t shares[SERVERS * POOL_MAX_SHARE_BYTES];
-    uint32_t answer = make(id, w->values, shares, sizeof shares);
+    int waiting = host_waiting(servers[0].slots);
+    printf("   %-30s %d %s\n", became, waiting, waiting == 1 ? "waits" : "wait");
+}
+
+/* A workshop makes its return, and the servers take its shares if they can. */
+static void arrive(int k)
+{
+    const struct workshop *w = &workshops[k];
+    struct under_way *u = &under_way[k];
+    uint32_t answer = make(id_of(k), w->values, u->shares, sizeof u->shares);
     printf("  %-7s", w->name);
     if (w->conduct == SLIPS && answer == POOL_VALUE) {
         printf(" %11s %11s %11s   not made: %u hours, refused 5\n", "-", "-", "-", (unsigned)w->values[2]);
-        return 0;
+        return;
     }
     host_must("pool_make", answer);
     if (w->conduct == CHEATS)
-        alter(shares);
+        alter(u->shares);
     for (size_t i = 0; i < SERVERS; i++)
-        printf(" %11u", (unsigned)host_u32(shares + i * sizes.share_bytes + 6));
-    take_shares(shares);
-    round_one();
-    if (w->conduct == UNFINISHED) {
-        drop();
-        puts("   dropped: a message was lost");
-        return 0;
+        printf(" %11u", (unsigned)host_u32(u->shares + i * sizes.share_bytes + 6));
+    /* The challenges are drawn now: the workshop could not know them. */
+    u->r = host_challenge(sizes.multiplications);
+    u->s = host_element();
+    say(take_shares(k) ? "taken" : "refused 11, to come again");
+}
+
+/* One line of the timetable. Says whether a return was accepted. */
+static int handle(int k, enum what what)
+{
+    static const char *const names[] = {"share again", "round one", "round two", "drop"};
+    int accepted = 0;
+    printf("  %-7s %-11s", workshops[k].name, names[what]);
+    if (what == SHARE_AGAIN) {
+        say(take_shares(k) ? "taken" : "refused 11");
+    } else if (what == ROUND_ONE) {
+        round_one(k);
+        say("goes on to round two");
+    } else if (what == ROUND_TWO) {
+        accepted = round_two(k);
+        say(accepted ? "accepted" : "rejected: not a legal return");
+    } else {
+        drop(k);
+        say("dropped, a message was lost");
     }
-    int accepted = round_two();
-    puts(accepted ? "   accepted" : "   rejected: not a legal return");
     return accepted;
 }
 
@@ -190,15 +239,25 @@ static uint32_t close_and_join(uint32_t totals[PUBLISHED])
     uint8_t joined[SERVERS * POOL_MAX_TOTALS_BYTES], out[POOL_JOIN_BYTES(PUBLISHED)];
     uint32_t accepted;
     size_t written;
-    for (struct server *v = servers; v < servers + SERVERS; v++)
-        host_must("pool_close",
-                  pool_close(v->table, v->table_len, v->message, sizeof v->message, &v->message_len));
-    size_t len = join_messages(joined);
+    size_t len = 0;
+    for (struct server *v = servers; v < servers + SERVERS; v++, len += written)
+        host_must("pool_close", pool_close(TABLE(v), joined + len, sizeof joined - len, &written));
     host_must("pool_join", pool_join(SERVERS, sheet, sizeof sheet, RETURNS, joined, len, out, sizeof out, &accepted,
                                      &written));
     for (int k = 0; k < PUBLISHED; k++)
         totals[k] = host_u32(out + 4 * k);
     return accepted;
+}
+
+static void print_totals(const uint32_t totals[PUBLISHED])
+{
+    for (int k = 0; k < PUBLISHED; k++) {
+        if (meanings[k].question[0])
+            printf("  %d  %-29s", meanings[k].column, meanings[k].question);
+        else
+            printf("  %-32s", "");
+        printf("%-11s %4u\n", meanings[k].answer, (unsigned)totals[k]);
+    }
 }
 
 int main(void)
@@ -207,25 +266,22 @@ int main(void)
     read_sheet();
     open_servers();
     printf("%d workshops answer it. Each splits its return into %d shares, one for each server.\n", WORKSHOPS, SERVERS);
-    printf("What each server sees of the first answer, and what the servers decide together:\n\n");
+    printf("What each server sees of the first answer, and how many returns wait at each server:\n\n");
     printf("  %-7s %11s %11s %11s\n", "", "server 0", "server 1", "server 2");
-    for (uint32_t k = 0; k < WORKSHOPS; k++) {
-        if (!handle(k + 1, &workshops[k]))
+    for (int k = 0; k < WORKSHOPS; k++)
+        arrive(k);
+
+    printf("\nThe servers exchange the messages of two rounds for each return. They come in any order:\n\n");
+    for (size_t n = 0; n < sizeof timetable / sizeof timetable[0]; n++) {
+        if (!handle(timetable[n].who, timetable[n].what))
             continue;
-        add_plain(&workshops[k], plain);
+        add_plain(&workshops[timetable[n].who], plain);
         plain_count++;
     }
 
     uint32_t count = close_and_join(totals);
     printf("\nThe returns of %u of %d workshops were accepted. Their totals:\n\n", (unsigned)count, WORKSHOPS);
-    for (int k = 0; k < PUBLISHED; k++) {
-        if (meanings[k].question[0])
-            printf("  %d  %-29s", meanings[k].column, meanings[k].question);
-        else
-            printf("  %-32s", "");
-        printf("%-11s %4u\n", meanings[k].answer, (unsigned)totals[k]);
-    }
-
+    print_totals(totals);
     int same = count == plain_count && memcmp(plain, totals, sizeof plain) == 0;
     printf("\nThese are%s the plain sums of the accepted returns.\n", same ? "" : " NOT");
     return same ? 0 : 1;

@@ -1,6 +1,6 @@
 /*
  * host.h: what a C host of the pool brings along: random numbers from the system, numbers in buffers, refusals in
- * words. Functions are static, so that a program has only to include it.
+ * words, how many returns wait. Functions are static, so that a program has only to include it.
  */
 #ifndef POOL_HOST_H
 #define POOL_HOST_H
@@ -26,10 +26,10 @@ static inline const char *host_words(uint32_t refusal)
         "share message of the wrong kind, length or server",
         "share element not below p",
         "r or s outside its range",
-        "the id was decided before",
-        "no sound table, or its stage does not allow the call",
+        "the id was decided or waits",
+        "table unsound or closed, nothing waits under that id in that stage, eight wait, or a close while one waits",
         "joined messages: length, kind, id, order, element, own message or counts wrong",
-        "all N returns are decided",
+        "N returns are decided or wait",
         "the output buffer is too short",
         [POOL_MANY] = "the sheet has more than 4,096 legal lists of values",
         [POOL_RUN] = "the run is not so many messages of this length",
@@ -44,6 +44,15 @@ static inline void host_must(const char *call, uint32_t answer)
         return;
     fprintf(stderr, "%s: refused %u: %s\n", call, (unsigned)answer, host_words(answer));
     exit(1);
+}
+
+/* How many returns wait in a table. With eight of them a share is refused 11, and handed in again later. */
+static inline int host_waiting(const pool_slot slots[POOL_SLOTS])
+{
+    int waiting = 0;
+    for (int k = 0; k < POOL_SLOTS; k++)
+        waiting += slots[k].stage != POOL_FREE;
+    return waiting;
 }
 
 static inline void host_put_u32(uint8_t *at, uint32_t x)

@@ -8,13 +8,9 @@ package pool
 // static size_t random_bytes(uint32_t servers, uint32_t share) { return POOL_RANDOM_BYTES(servers, share); }
 // static size_t make_bytes(uint32_t servers, uint32_t share) { return POOL_MAKE_BYTES(servers, share); }
 // static size_t join_bytes(uint32_t published) { return POOL_JOIN_BYTES(published); }
-// static size_t table_bytes(size_t sheet, uint32_t published, uint32_t share, uint32_t returns)
-// {
-//     return POOL_TABLE_BYTES(sheet, published, share, returns);
-// }
 import "C"
 
-// The C functions, one for one, on byte slices. Nothing else in the package calls C.
+// The C functions, one for one, on byte slices; those on tables are in core_table.go. Nothing else in the package calls C.
 
 // Numbers of the header.
 const (
@@ -47,12 +43,6 @@ func (s *Sheet) makeBytes(servers uint32) int {
 // joinBytes is the length of the joined totals.
 func (s *Sheet) joinBytes() int {
 	return int(C.join_bytes(C.uint32_t(s.sizes.Published)))
-}
-
-// tableBytes is the length of a table for so many returns.
-func (s *Sheet) tableBytes(returns uint32) int {
-	return int(C.table_bytes(C.size_t(len(s.bytes)), C.uint32_t(s.sizes.Published), C.uint32_t(s.sizes.ShareBytes),
-		C.uint32_t(returns)))
 }
 
 // lend gives the pointer and length of a slice; an empty one has no pointer.
@@ -103,53 +93,6 @@ func coreMake(sheet []byte, servers, id uint32, values, random, out []byte) (wri
 	x, nx := lend(random)
 	to, room := lend(out)
 	answer = uint32(C.pool_make(at, n, C.uint32_t(servers), C.uint32_t(id), v, nv, x, nx, to, room, &w))
-	return int(w), answer
-}
-
-func coreOpen(servers, own uint32, sheet []byte, returns uint32, table []byte) (written int, answer uint32) {
-	var w C.size_t
-	at, n := lend(sheet)
-	to, room := lend(table)
-	answer = uint32(C.pool_open(C.uint32_t(servers), C.uint32_t(own), at, n, C.uint32_t(returns), to, room, &w))
-	return int(w), answer
-}
-
-func coreShare(table, message []byte, r, s uint64, out []byte) (written int, answer uint32) {
-	var w C.size_t
-	t, nt := lend(table)
-	at, n := lend(message)
-	to, room := lend(out)
-	answer = uint32(C.pool_share(t, nt, at, n, C.uint64_t(r), C.uint64_t(s), to, room, &w))
-	return int(w), answer
-}
-
-func coreRoundOne(table, joined, out []byte) (written int, answer uint32) {
-	var w C.size_t
-	t, nt := lend(table)
-	at, n := lend(joined)
-	to, room := lend(out)
-	answer = uint32(C.pool_round_one(t, nt, at, n, to, room, &w))
-	return int(w), answer
-}
-
-func coreRoundTwo(table, joined []byte) (accepted, answer uint32) {
-	var a C.uint32_t
-	t, nt := lend(table)
-	at, n := lend(joined)
-	answer = uint32(C.pool_round_two(t, nt, at, n, &a))
-	return uint32(a), answer
-}
-
-func coreDrop(table []byte) (answer uint32) {
-	t, nt := lend(table)
-	return uint32(C.pool_drop(t, nt))
-}
-
-func coreClose(table, out []byte) (written int, answer uint32) {
-	var w C.size_t
-	t, nt := lend(table)
-	to, room := lend(out)
-	answer = uint32(C.pool_close(t, nt, to, room, &w))
 	return int(w), answer
 }
 

@@ -4,6 +4,8 @@
 // server; a share alone says nothing. The servers check the form of a return together, in two rounds of short messages,
 // add up what they accept (Table), and publish totals (Join).
 //
+// Up to eight returns are under way in a table at a time, so that servers far apart need not wait for one another's messages.
+//
 // The program that uses the package carries the messages. It encrypts what it sends, knows who is at the other end, and
 // gives each return an id of its own. It keeps a table as it keeps a share while a return waits, copies of it included.
 package pool

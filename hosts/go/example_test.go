@@ -13,16 +13,20 @@ func Example() {
 	if err != nil {
 		log.Fatal(err)
 	}
-	const servers, returns = 2, 100
+	const servers, most = 2, 100
 	var tables [servers]*pool.Table
 	for own := range tables {
-		if tables[own], err = pool.Open(servers, uint32(own), sheet, returns); err != nil {
+		if tables[own], err = pool.Open(servers, uint32(own), sheet, most); err != nil {
 			log.Fatal(err)
 		}
 	}
 
+	// Both returns are under way at once: the first round of each, then the second, the last one first. A server that is
+	// refused a call tells the others, and they drop the return. Here every call is done.
 	workshop := pool.Client{Sheet: sheet, Servers: servers}
-	for id, values := range [][]uint32{{1, 30}, {0, 12}} {
+	returns := [][]uint32{{1, 30}, {0, 12}}
+	var ones, twos [2][servers][]byte
+	for id, values := range returns {
 		shares, err := workshop.Make(uint32(id), values)
 		if err != nil {
 			log.Fatal(err)
@@ -31,16 +35,19 @@ func Example() {
 		if err != nil {
 			log.Fatal(err)
 		}
-		// A server that is refused a call tells the others, and they drop the return. Here every call is done.
-		var ones, twos [servers][]byte
 		for own, table := range tables {
-			ones[own], _ = table.Share(shares[own], pair)
+			ones[id][own], _ = table.Share(shares[own], pair)
+		}
+	}
+	for own, table := range tables {
+		fmt.Println("server", own, "has", len(table.Waiting()), "returns waiting")
+	}
+	for id := len(returns) - 1; id >= 0; id-- {
+		for own, table := range tables {
+			twos[id][own], _ = table.RoundOne(uint32(id), ones[id][:])
 		}
 		for own, table := range tables {
-			twos[own], _ = table.RoundOne(ones[:])
-		}
-		for own, table := range tables {
-			accepted, err := table.RoundTwo(twos[:])
+			accepted, err := table.RoundTwo(uint32(id), twos[id][:])
 			fmt.Println("return", id, "server", own, "accepted", accepted, err)
 		}
 	}
@@ -49,12 +56,14 @@ func Example() {
 	for own, table := range tables {
 		messages[own], _ = table.Close()
 	}
-	totals, err := pool.Join(servers, sheet, returns, messages[:])
+	totals, err := pool.Join(servers, sheet, most, messages[:])
 	fmt.Printf("%+v %v\n", totals, err)
 	// Output:
-	// return 0 server 0 accepted true <nil>
-	// return 0 server 1 accepted true <nil>
+	// server 0 has 2 returns waiting
+	// server 1 has 2 returns waiting
 	// return 1 server 0 accepted true <nil>
 	// return 1 server 1 accepted true <nil>
+	// return 0 server 0 accepted true <nil>
+	// return 0 server 1 accepted true <nil>
 	// {Accepted:2 Lines:[{Column:1 Option:0 Total:1} {Column:2 Option:0 Total:42}]} <nil>
 }

@@ -63,14 +63,18 @@ func (all servers) start(t *testing.T, sheet *Sheet, shares [][]byte) [][]byte {
 	return all.each(t, func(own int, table *Table) ([]byte, error) { return table.Share(shares[own], pair) })
 }
 
-// judge takes a return through both rounds and gives the verdict, the same at every server.
-func (all servers) judge(t *testing.T, sheet *Sheet, shares [][]byte) bool {
+// roundOne takes the round-one messages of a return at every server, up to the round-two messages.
+func (all servers) roundOne(t *testing.T, id uint32, ones [][]byte) [][]byte {
 	t.Helper()
-	ones := all.start(t, sheet, shares)
-	twos := all.each(t, func(_ int, table *Table) ([]byte, error) { return table.RoundOne(ones) })
+	return all.each(t, func(_ int, table *Table) ([]byte, error) { return table.RoundOne(id, ones) })
+}
+
+// roundTwo decides a return at every server and gives the verdict, the same at each.
+func (all servers) roundTwo(t *testing.T, id uint32, twos [][]byte) bool {
+	t.Helper()
 	verdicts := 0
 	for _, table := range all {
-		accepted, err := table.RoundTwo(twos)
+		accepted, err := table.RoundTwo(id, twos)
 		if err != nil {
 			t.Fatal(err)
 		}
@@ -82,6 +86,19 @@ func (all servers) judge(t *testing.T, sheet *Sheet, shares [][]byte) bool {
 		t.Fatalf("%d of %d servers accept", verdicts, len(all))
 	}
 	return verdicts > 0
+}
+
+// judge takes a return through both rounds and gives the verdict.
+func (all servers) judge(t *testing.T, sheet *Sheet, shares [][]byte) bool {
+	t.Helper()
+	id := binary.LittleEndian.Uint32(shares[0][1:])
+	return all.roundTwo(t, id, all.roundOne(t, id, all.start(t, sheet, shares)))
+}
+
+// drop drops a return at every server.
+func (all servers) drop(t *testing.T, id uint32) {
+	t.Helper()
+	all.each(t, func(_ int, table *Table) ([]byte, error) { return nil, table.Drop(id) })
 }
 
 func (all servers) closeAndJoin(t *testing.T, sheet *Sheet, returns uint32) Totals {
@@ -165,6 +182,15 @@ func TestRefusalInWords(t *testing.T) {
 	if got := Run.Error(); !strings.HasPrefix(got, "refused 19: not so many messages") {
 		t.Errorf("got %s", got)
 	}
+	if got := Decided.Error(); !strings.HasPrefix(got, "refused 10: the id was decided or waits") {
+		t.Errorf("got %s", got)
+	}
+	// What to do about 11 depends on the call.
+	for call, advice := range stageAdvice {
+		if got := answer(call, uint32(Stage)).Error(); !strings.HasSuffix(got, "a close while one waits; "+advice) {
+			t.Errorf("got %s", got)
+		}
+	}
 }
 
 // Random pools of every number of servers: the totals are the plain sums.
@@ -208,177 +234,6 @@ func TestPools(t *testing.T) {
 			t.Errorf("place of a total: %+v", last)
 		}
 	}
-}
-
-func TestCheatAndDrop(t *testing.T) {
-	sheet := sheetOf(t, YesNo(), Number(8))
-	client := Client{Sheet: sheet, Servers: 3}
-	all := openAll(t, 3, sheet, 4)
-	honest, _ := client.Make(1, []uint32{1, 40})
-	false1, _ := client.Make(2, []uint32{1, 50})
-	late, _ := client.Make(3, []uint32{1, 60})
-
-	entry := false1[2][6:]
-	binary.LittleEndian.PutUint32(entry, (binary.LittleEndian.Uint32(entry)+7)%prime)
-	if !all.judge(t, sheet, honest) || all.judge(t, sheet, false1) {
-		t.Error("wrong verdicts")
-	}
-	all.start(t, sheet, late)
-	for _, table := range all {
-		if err := table.Drop(); err != nil {
-			t.Error(err)
-		}
-		refused(t, table.Drop(), Stage)
-	}
-	_, err := all[0].Share(late[0], Pair{100, 5})
-	refused(t, err, Decided)
-	totals := all.closeAndJoin(t, sheet, 4)
-	want := Totals{1, []Line{{1, 0, 1}, {2, 0, 40}}}
-	if !reflect.DeepEqual(totals, want) {
-		t.Errorf("totals %v, want %v", totals, want)
-	}
-	refused(t, all[0].Drop(), Stage)
-}
-
-// A return that is decided leaves zeros where it waited, however it was decided.
-func TestErased(t *testing.T) {
-	sheet := sheetOf(t, YesNo(), Number(8))
-	client := Client{Sheet: sheet, Servers: 2}
-	all := openAll(t, 2, sheet, 4)
-	// The last bytes of a table are those of the return that waits: its id, six numbers, the share's elements.
-	holds := func(stage string, want bool) {
-		t.Helper()
-		for own, table := range all {
-			b, err := table.MarshalBinary()
-			if err != nil {
-				t.Fatal(err)
-			}
-			waiting := b[len(b)-28-(sheet.Sizes().ShareBytes-6):]
-			if got := !bytes.Equal(waiting, make([]byte, len(waiting))); got != want {
-				t.Errorf("%s, server %d: a return in the table: %v, want %v", stage, own, got, want)
-			}
-		}
-	}
-	drop := func() {
-		t.Helper()
-		all.each(t, func(_ int, table *Table) ([]byte, error) { return nil, table.Drop() })
-	}
-	var shares [4][][]byte
-	for id := range shares {
-		shares[id], _ = client.Make(uint32(id), []uint32{1, 40})
-	}
-	entry := shares[1][0][6:]
-	binary.LittleEndian.PutUint32(entry, (binary.LittleEndian.Uint32(entry)+7)%prime)
-
-	holds("opened", false)
-	if !all.judge(t, sheet, shares[0]) {
-		t.Error("an honest return is rejected")
-	}
-	holds("accepted", false)
-	if all.judge(t, sheet, shares[1]) {
-		t.Error("a false return is accepted")
-	}
-	holds("rejected", false)
-	all.start(t, sheet, shares[2])
-	holds("awaits round one", true)
-	drop()
-	holds("dropped before round one", false)
-	ones := all.start(t, sheet, shares[3])
-	all.each(t, func(_ int, table *Table) ([]byte, error) { return table.RoundOne(ones) })
-	holds("awaits round two", true)
-	drop()
-	holds("dropped before round two", false)
-	all.closeAndJoin(t, sheet, 4)
-	holds("closed", false)
-}
-
-// A table goes on after a restart, at each of its stages.
-func TestRestart(t *testing.T) {
-	sheet := sheetOf(t, Choice(3))
-	client := Client{Sheet: sheet, Servers: 2}
-	all := openAll(t, 2, sheet, 2)
-	restart := func() {
-		for k, table := range all {
-			b, err := table.MarshalBinary()
-			if err != nil {
-				t.Fatal(err)
-			}
-			all[k] = new(Table)
-			if err := all[k].UnmarshalBinary(b); err != nil {
-				t.Fatal(err)
-			}
-			b[0] ^= 1 // the table has a copy
-		}
-	}
-	shares, _ := client.Make(9, []uint32{2})
-	restart()
-	ones := all.start(t, sheet, shares)
-	restart()
-	twos := all.each(t, func(_ int, table *Table) ([]byte, error) { return table.RoundOne(ones) })
-	restart()
-	for _, table := range all {
-		if accepted, err := table.RoundTwo(twos); !accepted || err != nil {
-			t.Errorf("accepted %v, %v", accepted, err)
-		}
-	}
-	restart()
-	if totals := all.closeAndJoin(t, sheet, 2); totals.Accepted != 1 || totals.Lines[2].Total != 1 {
-		t.Errorf("totals %v", totals)
-	}
-	var empty Table
-	refused(t, empty.Drop(), Stage)
-}
-
-func TestRefusals(t *testing.T) {
-	sheet := sheetOf(t, YesNo())
-	for _, n := range []uint32{0, 1, 9, 258, 1<<32 - 1} {
-		client := Client{Sheet: sheet, Servers: n}
-		_, err := client.Make(1, []uint32{1})
-		refused(t, err, Limit)
-		_, err = Open(n, 0, sheet, 1)
-		refused(t, err, Limit)
-		_, err = Join(n, sheet, 1, nil)
-		refused(t, err, Limit)
-	}
-	client := Client{Sheet: sheet, Servers: 2}
-	_, err := client.Make(1, []uint32{2})
-	refused(t, err, Value)
-	_, err = client.Make(1, nil)
-	refused(t, err, Value)
-	for _, returns := range []uint32{0, 1025, 1<<32 - 1} {
-		_, err = Open(2, 0, sheet, returns)
-		refused(t, err, Limit)
-	}
-	_, err = Open(2, 0, sheetOf(t, Number(24)), 129)
-	refused(t, err, Wrap)
-	_, err = Open(2, 0, sheetOf(t, UpTo(1<<24-1)), 129)
-	refused(t, err, Wrap)
-	_, err = Join(2, sheet, 1, nil)
-	refused(t, err, Joined)
-
-	table, err := Open(2, 0, sheet, 1)
-	if err != nil {
-		t.Fatal(err)
-	}
-	shares, _ := client.Make(1, []uint32{1})
-	_, err = table.Share(shares[1], Pair{2, 0})
-	refused(t, err, Share)
-	for _, pair := range []Pair{{1, 0}, {uint64(prime), 0}, {1<<32 + 4, 0}, {4, uint64(prime)}} {
-		_, err = table.Share(shares[0], pair)
-		refused(t, err, Range)
-	}
-	_, err = table.RoundOne(nil)
-	refused(t, err, Stage)
-	if _, err = table.Share(shares[0], Pair{2, 0}); err != nil {
-		t.Error(err)
-	}
-	_, err = table.RoundOne(nil)
-	refused(t, err, Joined)
-	if err = table.Drop(); err != nil {
-		t.Error(err)
-	}
-	_, err = table.Share(shares[0], Pair{2, 0})
-	refused(t, err, Full)
 }
 
 func TestDrawing(t *testing.T) {

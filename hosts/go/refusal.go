@@ -15,7 +15,7 @@ type Refusal uint32
 // The refusals, with their numbers.
 const (
 	Kind    Refusal = 1  // sheet or circuit: unknown kind, or its body is cut off
-	Limit   Refusal = 2  // a count, top, constant, number of servers, server number, N, or number or length of stored messages outside its limits
+	Limit   Refusal = 2  // a count, top, constant, number of servers, server number, N, or R or W of stored messages outside its limits
 	Wire    Refusal = 3  // circuit: a wire not yet made, or an entry that does not exist
 	Wrap    Refusal = 4  // N returns could make a total of p or more
 	Value   Refusal = 5  // not one value for each column, or a value outside its column
@@ -23,10 +23,10 @@ const (
 	Share   Refusal = 7  // share message of the wrong kind, length or server
 	Element Refusal = 8  // share element not below p
 	Range   Refusal = 9  // r or s outside its range
-	Decided Refusal = 10 // the id was decided before
-	Stage   Refusal = 11 // no sound table, or its stage does not allow the call
+	Decided Refusal = 10 // the id was decided or waits
+	Stage   Refusal = 11 // table unsound or closed, nothing waits under that id in that stage, eight wait, or a close while one waits
 	Joined  Refusal = 12 // joined messages at fault
-	Full    Refusal = 13 // N returns are decided
+	Full    Refusal = 13 // N returns are decided or wait
 	Room    Refusal = 14 // the output buffer is too short
 	Many    Refusal = 17 // the sheet has more than 4,096 legal returns
 	Run     Refusal = 19 // messages that are not of one length, or a stored run of another length
@@ -42,10 +42,10 @@ var words = [...]string{
 	Share:   "share message of the wrong kind, length or server",
 	Element: "share element not below p",
 	Range:   "r or s outside its range",
-	Decided: "the id was decided before",
-	Stage:   "no sound table, or its stage does not allow the call",
+	Decided: "the id was decided or waits: an id is for one return only",
+	Stage:   "table unsound or closed, nothing waits under that id in that stage, eight wait, or a close while one waits",
 	Joined:  "joined messages: length, kind, id, order, element, own message or counts wrong",
-	Full:    "all N returns are decided",
+	Full:    "N returns are decided or wait: this table takes no more",
 	Room:    "the output buffer is too short",
 	Many:    "more than 4,096 legal returns: take fewer columns, options or bits, or lower tops",
 	Run:     "not so many messages of one length: give whole messages, and the number and length that were stored",
@@ -59,10 +59,22 @@ func (r Refusal) Error() string {
 	return fmt.Sprintf("refused %d: %s", uint32(r), words[r])
 }
 
+// stageAdvice says what to do where a table's stage does not allow a call.
+var stageAdvice = map[string]string{
+	"share":     "where eight wait, hand the share in again once one is decided",
+	"round one": "a return takes round one once, after its share",
+	"round two": "a return takes round two once, after round one",
+	"drop":      "a return can be dropped while it waits",
+	"close":     "where returns wait, finish or drop them first",
+}
+
 // answer makes an error of a call's answer, nil where the call was done.
 func answer(call string, number uint32) error {
 	if number == 0 {
 		return nil
+	}
+	if advice := stageAdvice[call]; Refusal(number) == Stage && advice != "" {
+		return fmt.Errorf("pool: %s: %w; %s", call, Refusal(number), advice)
 	}
 	return fmt.Errorf("pool: %s: %w", call, Refusal(number))
 }

@@ -45,7 +45,8 @@ func testMade(t *testing.T, sheet *Sheet) {
 	}
 	most := uint32(sizes.GreatestReturns)
 	table, err := Open(2, 0, sheet, most)
-	if err != nil || len(table.bytes) != sheet.tableBytes(most) {
+	if err != nil || len(table.bytes) != sheet.tableBytes(most) || len(table.bytes) > maxTable ||
+		len(table.elements) != Slots*((sizes.ShareBytes-6)/4+2) || len(table.elements) > maxElements {
 		t.Errorf("a table for %d returns: %v", most, err)
 	}
 	want := Wrap

@@ -2,85 +2,98 @@ package pool
 
 import "bytes"
 
-// Table is the table of one server. It takes the calls of one return after another:
+// Table is the table of one server. Up to eight returns (Slots) are under way in it at a time, each in its own stage. The
+// calls of one return are, in this order:
 //
 //	Share, RoundOne, RoundTwo    or Drop after Share or RoundOne
 //
-// and Close at the end. Messages of a round come one from each server, in server order, the own one among them.
+// Calls on other returns may come between them, and returns may be finished in any order; the rounds and Drop name an id.
+// Close comes at the end, when none waits. Messages of a round come one from each server, in server order, the own one
+// among them.
 //
-// A Table holds nothing but bytes: MarshalBinary and UnmarshalBinary carry it over a restart. Use it from one goroutine
-// at a time.
+// MarshalBinary and UnmarshalBinary carry a table over a restart, all of it in one slice. Store it after each call, together
+// with the message that the call gave and before that message is sent. Use a table from one goroutine at a time.
 //
-// While a return waits, the bytes hold its whole share and are as secret. When it is decided it is erased, all but its
-// id and, if it was accepted, what it added to the server's shares of the totals. These stay, after Close too.
+// A table holds the whole share of each return that waits, and is as secret. When a return is decided it is erased, all but
+// its id and, if it was accepted, what it added to the server's shares of the totals. These stay, after Close too.
 type Table struct {
-	bytes []byte
+	bytes    []byte
+	slots    [Slots]slot
+	elements []uint32
 }
 
 // Open opens the table of server own (from 0) of so many servers, for at most so many decided returns: N, from 1 to the
 // sheet's Sizes.GreatestReturns.
 func Open(servers, own uint32, sheet *Sheet, returns uint32) (*Table, error) {
-	room := 0
+	t := &Table{elements: make([]uint32, sheet.tableElements())}
 	// With more returns the core refuses before it looks at the room.
 	if returns <= maxReturns {
-		room = sheet.tableBytes(returns)
+		t.bytes = make([]byte, sheet.tableBytes(returns))
 	}
-	table := make([]byte, room)
-	n, number := coreOpen(servers, own, sheet.bytes, returns, table)
+	n, number := coreOpen(servers, own, sheet.bytes, returns, t)
 	if number != 0 {
 		return nil, answer("open", number)
 	}
-	return &Table{table[:n:n]}, nil
+	t.bytes = t.bytes[:n:n]
+	return t, nil
 }
 
-// Share takes the server's share of a return and gives its round-one message.
+// Share takes the server's share of a return and gives its round-one message. A ninth return is refused (Stage): hand it in
+// again, with the same pair, once one of the eight is decided. The servers take the shares of returns in the same order.
 func (t *Table) Share(message []byte, pair Pair) ([]byte, error) {
 	out := make([]byte, roundBytes)
-	n, number := coreShare(t.bytes, message, pair.R, pair.S, out)
+	n, number := coreShare(t, message, pair.R, pair.S, out)
 	if number != 0 {
 		return nil, answer("share", number)
 	}
 	return out[:n], nil
 }
 
-// RoundOne takes the round-one messages of all servers and gives the own round-two message.
-func (t *Table) RoundOne(messages [][]byte) ([]byte, error) {
+// RoundOne takes the round-one messages of all servers for a return and gives the own round-two message.
+func (t *Table) RoundOne(id uint32, messages [][]byte) ([]byte, error) {
 	out := make([]byte, roundBytes)
-	n, number := coreRoundOne(t.bytes, bytes.Join(messages, nil), out)
+	n, number := coreRoundOne(t, id, bytes.Join(messages, nil), out)
 	if number != 0 {
 		return nil, answer("round one", number)
 	}
 	return out[:n], nil
 }
 
-// RoundTwo takes the round-two messages of all servers and decides the return, whose share is erased from the table.
-func (t *Table) RoundTwo(messages [][]byte) (accepted bool, err error) {
-	verdict, number := coreRoundTwo(t.bytes, bytes.Join(messages, nil))
+// RoundTwo takes the round-two messages of all servers for a return and decides it. Its share is erased from the table.
+func (t *Table) RoundTwo(id uint32, messages [][]byte) (accepted bool, err error) {
+	verdict, number := coreRoundTwo(t, id, bytes.Join(messages, nil))
 	if number != 0 {
 		return false, answer("round two", number)
 	}
 	return verdict == 1, nil
 }
 
-// Drop drops the return that waits and erases its share from the table. Its id stays used.
-func (t *Table) Drop() error { return answer("drop", coreDrop(t.bytes)) }
+// Drop drops a return that waits and erases its share from the table. Its id stays used.
+func (t *Table) Drop(id uint32) error { return answer("drop", coreDrop(t, id)) }
 
-// Close closes the table and gives the server's totals message.
+// Close closes a table in which no return waits and gives the server's totals message.
 func (t *Table) Close() ([]byte, error) {
 	out := make([]byte, maxTotals)
-	n, number := coreClose(t.bytes, out)
+	n, number := coreClose(t, out)
 	if number != 0 {
 		return nil, answer("close", number)
 	}
 	return out[:n:n], nil
 }
 
-// MarshalBinary gives a copy of the table's bytes. It is the caller's to erase: later calls do not reach it.
-func (t *Table) MarshalBinary() ([]byte, error) { return append([]byte(nil), t.bytes...), nil }
+// Waiting is a return that is under way.
+type Waiting struct {
+	ID    uint32
+	Round int // the round that it awaits, 1 or 2
+}
 
-// UnmarshalBinary makes the table the one whose bytes are given. Bytes that are no sound table are refused (Stage) by
-// the next call.
-func (t *Table) UnmarshalBinary(b []byte) error {
-	t.bytes = append([]byte(nil), b...)
-	return nil
+// Waiting gives the returns that wait, at most Slots of them: after a restart the server goes on with these.
+func (t *Table) Waiting() []Waiting {
+	var list []Waiting
+	for _, x := range t.slots {
+		if id, stage, _, _, _, _ := slotNumbers(x); stage != slotFree {
+			list = append(list, Waiting{id, int(stage)})
+		}
+	}
+	return list
 }

@@ -3,7 +3,8 @@
  *
  * A call fails the run where it touches a byte outside the buffers, changes what it was only lent to read, answers
  * with a refusal that its place in pool.h does not name, changes anything although it is refused, changes a byte past
- * what it says to have written, or leaves anything of a return in a table in which none waits.
+ * what it says to have written, changes another return in a table than the one that it is on, or leaves anything of a
+ * return in the slot and the place of one that it decides.
  *
  * Memory outside is watched in one of two ways. GUARDED: a buffer ends right before, or begins right after, a page that
  * can not be touched. HEAP: a buffer is a block of malloc, for valgrind and for the sanitizers' own malloc. The library
@@ -33,6 +34,17 @@ struct circuit_counts {
     uint32_t wires, multiplications, tests;
 };
 
+/* The three parts of a table, as they lie in memory: slots of 40 bytes each, numbers of 4 bytes each. */
+enum { SLOT_BYTES = sizeof(pool_slot), SLOTS_BYTES = POOL_SLOTS * SLOT_BYTES };
+struct table {
+    struct run bytes, slots, elements;
+};
+
+/* How many bytes, slots and numbers a table is opened in. */
+struct rooms {
+    size_t bytes, slots, elements;
+};
+
 enum lending { GUARDED, HEAP };
 
 /* To be called once, before any call. */
@@ -52,8 +64,9 @@ void put_u32(uint8_t *at, uint32_t x);
 uint32_t get_u32(const uint8_t *at);
 
 /*
- * The calls. `room` is the length of the output buffer, `extra` the bytes after a table in its buffer. Results are set
- * only where a call is done: a table is then the one after the call, an output run what was written.
+ * The calls. `room` is the length of the output buffer, `extra` how many bytes follow the bytes of a table in its buffer, and
+ * how many numbers its elements. Results are set only where a call is done: a table is then the one after the call, an
+ * output run what was written.
  */
 uint32_t call_sizes(const struct run *sheet, struct sheet_sizes *sizes);
 uint32_t call_circuit(const struct run *sheet, size_t room, struct run *out);
@@ -61,18 +74,25 @@ uint32_t call_read_circuit(uint32_t entries, const struct run *circuit, struct c
 uint32_t call_every_return(const struct run *sheet, size_t room, uint32_t *lists, struct run *out);
 uint32_t call_make(const struct run *sheet, uint32_t servers, uint32_t id, const struct run *values,
                    const struct run *random, size_t room, struct run *out);
-uint32_t call_open(uint32_t servers, uint32_t own, const struct run *sheet, uint32_t returns, size_t room,
-                   struct run *table);
-uint32_t call_share(struct run *table, size_t extra, const struct run *message, uint64_t r, uint64_t s, size_t room,
+uint32_t call_open(uint32_t servers, uint32_t own, const struct run *sheet, uint32_t returns, struct rooms rooms,
+                   struct table *table);
+uint32_t call_share(struct table *table, size_t extra, const struct run *message, uint64_t r, uint64_t s, size_t room,
                     struct run *out);
-uint32_t call_round_one(struct run *table, size_t extra, const struct run *joined, size_t room, struct run *out);
-uint32_t call_round_two(struct run *table, size_t extra, const struct run *joined, uint32_t *accepted);
-uint32_t call_drop(struct run *table, size_t extra);
-uint32_t call_close(struct run *table, size_t extra, size_t room, struct run *out);
+uint32_t call_round_one(struct table *table, size_t extra, uint32_t id, const struct run *joined, size_t room,
+                        struct run *out);
+uint32_t call_round_two(struct table *table, size_t extra, uint32_t id, const struct run *joined, uint32_t *accepted);
+uint32_t call_drop(struct table *table, size_t extra, uint32_t id);
+uint32_t call_close(struct table *table, size_t extra, size_t room, struct run *out);
 uint32_t call_join(uint32_t servers, const struct run *sheet, uint32_t returns, const struct run *joined, size_t room,
                    uint32_t *accepted, struct run *out);
 uint32_t call_shelve(uint32_t messages, uint32_t width, const struct run *run, size_t room, struct run *out);
 uint32_t call_unshelve(uint32_t messages, uint32_t width, const struct run *run, size_t room, struct run *out);
+
+/* Slot k of a table; a table that calls have made has eight. */
+pool_slot slot_of(const struct table *table, size_t k);
+
+/* In a table that calls have made, a slot that is free and its place are all 0. */
+void check_free(const struct table *table);
 
 /* Fails the run. */
 _Noreturn void fail(const char *why);

@@ -9,17 +9,19 @@
 
 #include "calls.h"
 
-enum { SERVERS = 2, OPERATIONS = 9, ANSWERS = POOL_RUN + 1, RETURNS = 3 };
+enum { SERVERS = 2, OPERATIONS = 9, ANSWERS = POOL_RUN + 1, RETURNS = 10, IDS = 16, KINDS = 12 };
 
 /* The fuzzer looks at these counters after each input. */
-__attribute__((section("__libfuzzer_extra_counters"))) static uint8_t seen[OPERATIONS][OPERATIONS][4][ANSWERS];
+__attribute__((section("__libfuzzer_extra_counters"))) static uint8_t seen[OPERATIONS][OPERATIONS][KINDS][ANSWERS];
 
 static struct {
     const uint8_t *at;
     size_t left;
 } input;
 
-static struct run sheet, tables[SERVERS], values, random_elements, shares, joined[3], message, out;
+static struct table tables[SERVERS];
+static struct run sheet, values, random_elements, shares[IDS], totals, message, out;
+static uint8_t rounds[2][IDS][SERVERS * POOL_ROUND_BYTES]; /* what the servers wrote for each return */
 static struct sheet_sizes sizes;
 static uint32_t before; /* the operation before */
 
@@ -53,16 +55,29 @@ static void alter(struct run *run)
         run->len = (byte() | (size_t)byte() << 8) % (run->len + 1);
 }
 
-static void note(uint32_t operation, uint32_t stage, uint32_t answer)
+static void note(uint32_t operation, uint32_t kind, uint32_t answer)
 {
-    seen[before][operation][stage % 4][answer % ANSWERS] = 1;
+    seen[before][operation][kind % KINDS][answer % ANSWERS] = 1;
     before = operation;
+}
+
+/* What kind of table it is: how many returns wait in it, 9 where it is closed, 10 where its slots are not eight. */
+static uint32_t kind_of(const struct table *table)
+{
+    uint32_t waiting = 0;
+    if (table->slots.len != SLOTS_BYTES)
+        return 10;
+    if (table->bytes.len > 1 && table->bytes.at[1] != 0)
+        return 9;
+    for (size_t k = 0; k < POOL_SLOTS; k++)
+        waiting += slot_of(table, k).stage != POOL_FREE;
+    return waiting;
 }
 
 static void make_return(void)
 {
     size_t each = sizes.share_bytes;
-    uint8_t id = byte();
+    uint8_t id = byte() % IDS;
     values.len = POOL_VALUES_BYTES(sizes.columns);
     memset(values.at, 0, values.len);
     for (size_t k = 0; k < values.len; k += 4)
@@ -72,54 +87,78 @@ static void make_return(void)
     for (size_t k = 0; k < random_elements.len; k += 4)
         put_u32(random_elements.at + k, (uint32_t)(k * 2654435761u) % POOL_PRIME);
     alter(&random_elements);
-    note(0, 0, call_make(&sheet, SERVERS, id, &values, &random_elements, POOL_MAKE_BYTES(SERVERS, each), &shares));
+    note(0, 0, call_make(&sheet, SERVERS, id, &values, &random_elements, POOL_MAKE_BYTES(SERVERS, each), &shares[id]));
 }
 
 static void take_share(uint32_t own)
 {
     size_t each = sizes.share_bytes;
-    uint32_t r = sizes.multiplications + byte(), s = byte(), stage = tables[own].at[1];
-    message.len = shares.len < SERVERS * each ? 0 : each;
-    memcpy(message.at, shares.at + own * each, message.len);
+    uint32_t id = byte() % IDS, r = sizes.multiplications + byte(), s = byte(), kind = kind_of(&tables[own]);
+    message.len = shares[id].len < SERVERS * each ? 0 : each;
+    memcpy(message.at, shares[id].at + own * each, message.len);
     alter(&message);
     uint32_t answer = call_share(&tables[own], 0, &message, r, s, POOL_ROUND_BYTES, &out);
     if (answer == 0)
-        memcpy(joined[0].at + own * POOL_ROUND_BYTES, out.at, out.len);
-    note(1, stage, answer);
+        memcpy(rounds[0][id] + own * POOL_ROUND_BYTES, out.at, out.len);
+    note(1, kind, answer);
 }
 
 static void take_round(uint32_t own, uint32_t round)
 {
-    uint32_t accepted, stage = tables[own].at[1], answer;
+    uint32_t id = byte() % IDS, accepted, kind = kind_of(&tables[own]), answer;
     message.len = SERVERS * POOL_ROUND_BYTES;
-    memcpy(message.at, joined[round - 1].at, message.len);
+    memcpy(message.at, rounds[round - 1][id], message.len);
     alter(&message);
     if (round == 2) {
-        answer = call_round_two(&tables[own], 0, &message, &accepted);
+        answer = call_round_two(&tables[own], 0, id, &message, &accepted);
     } else {
-        answer = call_round_one(&tables[own], 0, &message, POOL_ROUND_BYTES, &out);
+        answer = call_round_one(&tables[own], 0, id, &message, POOL_ROUND_BYTES, &out);
         if (answer == 0)
-            memcpy(joined[1].at + own * POOL_ROUND_BYTES, out.at, out.len);
+            memcpy(rounds[1][id] + own * POOL_ROUND_BYTES, out.at, out.len);
     }
-    note(1 + round, stage, answer);
+    note(1 + round, kind, answer);
+}
+
+static void drop_return(uint32_t own)
+{
+    uint32_t kind = kind_of(&tables[own]);
+    note(4, kind, call_drop(&tables[own], 0, byte() % IDS));
 }
 
 static void close_table(uint32_t own)
 {
-    uint32_t stage = tables[own].at[1];
+    uint32_t kind = kind_of(&tables[own]);
     uint32_t answer = call_close(&tables[own], 0, POOL_TOTALS_BYTES(sizes.published), &out);
     if (answer == 0 && out.len <= POOL_MAX_TOTALS_BYTES)
-        memcpy(joined[2].at + own * POOL_TOTALS_BYTES(sizes.published), out.at, out.len);
-    note(5, stage, answer);
+        memcpy(totals.at + own * POOL_TOTALS_BYTES(sizes.published), out.at, out.len);
+    note(5, kind, answer);
 }
 
 static void join_totals(void)
 {
     uint32_t accepted;
     message.len = SERVERS * POOL_TOTALS_BYTES(sizes.published);
-    memcpy(message.at, joined[2].at, message.len);
+    memcpy(message.at, totals.at, message.len);
     alter(&message);
     note(6, 0, call_join(SERVERS, &sheet, RETURNS, &message, POOL_JOIN_BYTES(sizes.published), &accepted, &out));
+}
+
+/* Alters a part of a table; slots and numbers stay whole. */
+static void alter_table(struct table *table)
+{
+    switch (byte() % 3) {
+    case 0:
+        alter(&table->bytes);
+        break;
+    case 1:
+        alter(&table->slots);
+        table->slots.len -= table->slots.len % SLOT_BYTES;
+        break;
+    default:
+        alter(&table->elements);
+        table->elements.len -= table->elements.len % 4;
+        break;
+    }
 }
 
 static void operate(void)
@@ -140,7 +179,7 @@ static void operate(void)
         take_round(own, 2);
         break;
     case 4:
-        note(4, tables[own].at[1], call_drop(&tables[own], 0));
+        drop_return(own);
         break;
     case 5:
         close_table(own);
@@ -149,7 +188,7 @@ static void operate(void)
         join_totals();
         break;
     default:
-        alter(&tables[own]);
+        alter_table(&tables[own]);
         break;
     }
 }
@@ -157,33 +196,50 @@ static void operate(void)
 /* A pool: its sheet, then what is done with it. */
 static void play(void)
 {
+    const struct rooms most = {POOL_MAX_TABLE_BYTES, POOL_SLOTS, POOL_MAX_ELEMENTS};
     bytes(&sheet, byte() % 16);
     if (call_sizes(&sheet, &sizes) != 0)
         return;
     for (uint32_t own = 0; own < SERVERS; own++)
-        if (call_open(SERVERS, own, &sheet, RETURNS, POOL_MAX_TABLE_BYTES, &tables[own]) != 0)
+        if (call_open(SERVERS, own, &sheet, RETURNS, most, &tables[own]) != 0)
             return;
-    shares.len = 0;
-    for (int k = 0; k < 3; k++)
-        memset(joined[k].at, 0, SERVERS * POOL_MAX_TOTALS_BYTES);
+    for (int k = 0; k < IDS; k++)
+        shares[k].len = 0;
+    memset(rounds, 0, sizeof rounds);
+    memset(totals.at, 0, SERVERS * POOL_MAX_TOTALS_BYTES);
     while (input.left > 0)
         operate();
 }
 
-/* A table of arbitrary bytes takes every call. */
+static void copy(struct run *to, const struct run *from)
+{
+    to->len = from->len;
+    memcpy(to->at, from->at, from->len);
+}
+
+/* A table of arbitrary bytes, slots and numbers takes every call. */
 static void arbitrary_table(void)
 {
-    uint32_t accepted;
+    struct table *t = &tables[0], *u = &tables[1];
+    uint32_t accepted, id;
     uint8_t length = byte();
+    size_t slots = byte() % 10;
     bytes(&message, length);
-    bytes(&tables[0], RUN_BYTES / 2);
-    tables[1].len = tables[0].len;
-    memcpy(tables[1].at, tables[0].at, tables[0].len);
-    note(1, 3, call_share(&tables[0], 0, &message, 1000, 5, POOL_ROUND_BYTES, &out));
-    note(2, 3, call_round_one(&tables[1], 0, &message, POOL_ROUND_BYTES, &out));
-    note(3, 3, call_round_two(&tables[1], 0, &message, &accepted));
-    note(4, 3, call_drop(&tables[1], 0));
-    note(5, 3, call_close(&tables[1], 0, POOL_MAX_TOTALS_BYTES, &out));
+    bytes(&t->slots, SLOT_BYTES * slots);
+    t->slots.len -= t->slots.len % SLOT_BYTES;
+    length = byte();
+    bytes(&t->bytes, length | (size_t)byte() << 8);
+    bytes(&t->elements, 4 * POOL_MAX_ELEMENTS);
+    t->elements.len -= t->elements.len % 4;
+    id = t->slots.len >= SLOT_BYTES ? slot_of(t, 0).id : 0;
+    copy(&u->bytes, &t->bytes);
+    copy(&u->slots, &t->slots);
+    copy(&u->elements, &t->elements);
+    note(1, 11, call_share(t, 0, &message, 1000, 5, POOL_ROUND_BYTES, &out));
+    note(2, 11, call_round_one(u, 0, id, &message, POOL_ROUND_BYTES, &out));
+    note(3, 11, call_round_two(u, 0, id, &message, &accepted));
+    note(4, 11, call_drop(u, 0, id));
+    note(5, 11, call_close(u, 0, POOL_MAX_TOTALS_BYTES, &out));
 }
 
 /* Arbitrary bytes are stored by place and brought back, with a number and a length of messages that may not fit. */
@@ -195,8 +251,8 @@ static void shelve(void)
     answer = call_shelve(messages, width, &message, room, &out);
     note(8, 0, answer);
     if (answer == 0) {
-        note(8, 1, call_unshelve(messages, width, &out, out.len, &shares));
-        if (shares.len != message.len || memcmp(shares.at, message.at, message.len) != 0)
+        note(8, 1, call_unshelve(messages, width, &out, out.len, &shares[0]));
+        if (shares[0].len != message.len || memcmp(shares[0].at, message.at, message.len) != 0)
             fail("messages do not come back");
     }
     note(8, 2, call_unshelve(messages, width, &message, room, &out));

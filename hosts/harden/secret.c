@@ -1,16 +1,17 @@
 /*
  * secret.c: which branches and places in memory depend on a share's elements, for valgrind. The element bytes of a
  * share message are marked as undefined before pool_share has them, so that valgrind reports each branch and each
- * address that is worked out from them, in this call and in the later ones on the same table.
+ * address that is worked out from them, in this call and in the later ones on the same table. Two returns are under way.
  *
  * Nothing is filtered. These reports are expected:
- *   - the check that an element is below p, of a share message and, in every call on a table, of the share that waits
+ *   - the check that an element is below p, of a share message and, in every call on a table, of the shares that wait
  *     and of the totals: for sound elements it always goes the same way;
  *   - in the rounds, the checks of the joined messages and the verdict, on numbers that the servers publish.
  * Storing shares by place and bringing them back has none.
  * A report in arithmetic (a sum, product or reduction modulo p) shows that the time depends on a secret.
  *
- * The round messages are published, so they are marked as defined once they are written.
+ * The round messages are published, so they, and the slots with the same d and e, are marked as defined once they are
+ * written. A return that is decided must leave zeros in its slot and its place, which valgrind knows as defined.
  */
 #include <stdio.h>
 #include <string.h>
@@ -18,14 +19,22 @@
 
 #include "pool.h"
 
-enum { SERVERS = 2, RETURNS = 4 };
+enum { SERVERS = 2, RETURNS = 4, IDS = 2 };
 
 static const uint8_t sheet[] = {POOL_YES_NO, POOL_CHOICE, 3, POOL_NUMBER, 4, POOL_TOP, 200, 0, 0, 0};
 static const uint8_t values[] = {1, 0, 0, 0, 2, 0, 0, 0, 9, 0, 0, 0, 150, 0, 0, 0};
-static uint8_t tables[SERVERS][POOL_MAX_TABLE_BYTES], shares[SERVERS * POOL_MAX_SHARE_BYTES];
-static uint8_t elements[POOL_MAX_RANDOM_BYTES], ones[SERVERS * POOL_ROUND_BYTES], twos[sizeof ones];
-static uint8_t stored[sizeof shares], back[sizeof shares];
-static size_t table_len, share_len, random_len, written;
+static struct table {
+    uint8_t bytes[POOL_MAX_TABLE_BYTES];
+    size_t len;
+    pool_slot slots[POOL_SLOTS];
+    uint32_t elements[POOL_MAX_ELEMENTS];
+} tables[SERVERS];
+#define TABLE(t) (t)->bytes, (t)->len, (t)->slots, POOL_SLOTS, (t)->elements, POOL_MAX_ELEMENTS
+
+static uint8_t shares[IDS][SERVERS * POOL_MAX_SHARE_BYTES], random_bytes[POOL_MAX_RANDOM_BYTES];
+static uint8_t ones[IDS][SERVERS * POOL_ROUND_BYTES], twos[IDS][SERVERS * POOL_ROUND_BYTES];
+static uint8_t stored[sizeof shares[0]], back[sizeof shares[0]];
+static size_t share_len, random_len, written;
 
 /* Not 0 where a call was refused. */
 static uint32_t prepare(void)
@@ -36,11 +45,15 @@ static uint32_t prepare(void)
     share_len = share_bytes;
     random_len = POOL_RANDOM_BYTES(SERVERS, share_bytes);
     for (size_t k = 0; k < random_len; k++)
-        elements[k] = (uint8_t)(k % 4 == 3 ? k % 127 : k * 167);
-    refused |= pool_make(sheet, sizeof sheet, SERVERS, 1, values, sizeof values, elements, random_len, shares,
-                         sizeof shares, &written);
-    for (uint32_t i = 0; i < SERVERS; i++)
-        refused |= pool_open(SERVERS, i, sheet, sizeof sheet, RETURNS, tables[i], sizeof tables[i], &table_len);
+        random_bytes[k] = (uint8_t)(k % 4 == 3 ? k % 127 : k * 167);
+    for (uint32_t id = 0; id < IDS; id++)
+        refused |= pool_make(sheet, sizeof sheet, SERVERS, id, values, sizeof values, random_bytes, random_len,
+                             shares[id], sizeof shares[id], &written);
+    for (uint32_t i = 0; i < SERVERS; i++) {
+        struct table *t = &tables[i];
+        refused |= pool_open(SERVERS, i, sheet, sizeof sheet, RETURNS, t->bytes, sizeof t->bytes, t->slots, POOL_SLOTS,
+                             t->elements, POOL_MAX_ELEMENTS, &t->len);
+    }
     return refused;
 }
 
@@ -49,42 +62,82 @@ static uint32_t shelve(void)
 {
     uint32_t refused;
     for (size_t i = 0; i < SERVERS; i++)
-        (void)VALGRIND_MAKE_MEM_UNDEFINED(shares + i * share_len + 6, share_len - 6);
-    refused = pool_shelve(SERVERS, (uint32_t)share_len, shares, SERVERS * share_len, stored, sizeof stored, &written);
+        (void)VALGRIND_MAKE_MEM_UNDEFINED(shares[0] + i * share_len + 6, share_len - 6);
+    refused = pool_shelve(SERVERS, (uint32_t)share_len, shares[0], SERVERS * share_len, stored, sizeof stored, &written);
     refused |= pool_unshelve(SERVERS, (uint32_t)share_len, stored, written, back, sizeof back, &written);
-    (void)VALGRIND_MAKE_MEM_DEFINED(shares, written);
+    (void)VALGRIND_MAKE_MEM_DEFINED(shares[0], written);
     (void)VALGRIND_MAKE_MEM_DEFINED(back, written);
-    return refused | (uint32_t)(memcmp(shares, back, written) != 0);
+    return refused | (uint32_t)(memcmp(shares[0], back, written) != 0);
 }
 
 static void say(const char *call) { VALGRIND_PRINTF("secret: %s\n", call); }
 
+/* Every server takes its share of a return, whose elements are secret. */
+static uint32_t take_shares(uint32_t id)
+{
+    uint32_t refused = 0;
+    for (size_t i = 0; i < SERVERS; i++) {
+        uint8_t *message = shares[id] + i * share_len, *out = ones[id] + i * POOL_ROUND_BYTES;
+        (void)VALGRIND_MAKE_MEM_UNDEFINED(message + 6, share_len - 6);
+        refused |= pool_share(TABLE(&tables[i]), message, share_len, 123456789, 987654321, out, POOL_ROUND_BYTES, &written);
+        (void)VALGRIND_MAKE_MEM_DEFINED(out, POOL_ROUND_BYTES);
+        (void)VALGRIND_MAKE_MEM_DEFINED(tables[i].slots, sizeof tables[i].slots);
+    }
+    return refused;
+}
+
+static uint32_t round_one(uint32_t id)
+{
+    uint32_t refused = 0;
+    for (size_t i = 0; i < SERVERS; i++) {
+        uint8_t *out = twos[id] + i * POOL_ROUND_BYTES;
+        refused |= pool_round_one(TABLE(&tables[i]), id, ones[id], sizeof ones[id], out, POOL_ROUND_BYTES, &written);
+        (void)VALGRIND_MAKE_MEM_DEFINED(out, POOL_ROUND_BYTES);
+        (void)VALGRIND_MAKE_MEM_DEFINED(tables[i].slots, sizeof tables[i].slots);
+    }
+    return refused;
+}
+
+/* Whether anything is left at any server in slot k and its place: what is not 0, or not known to be. */
+static uint32_t left(size_t k)
+{
+    static const uint8_t zeros[POOL_MAX_SHARE_BYTES + 8];
+    size_t place = (share_len - 6) / 4 + 2;
+    uint32_t found = 0;
+    for (struct table *t = tables; t < tables + SERVERS; t++) {
+        const uint32_t *at = t->elements + k * place;
+        found |= VALGRIND_CHECK_MEM_IS_DEFINED(&t->slots[k], sizeof t->slots[k]) != 0;
+        found |= VALGRIND_CHECK_MEM_IS_DEFINED(at, 4 * place) != 0;
+        found |= memcmp(&t->slots[k], zeros, sizeof t->slots[k]) != 0 || memcmp(at, zeros, 4 * place) != 0;
+    }
+    return found;
+}
+
 int main(void)
 {
-    uint32_t refused = prepare(), accepted = 0, verdict;
+    uint32_t refused = prepare(), accepted = 0, kept = 0, verdict;
     say("pool_shelve and pool_unshelve");
     refused |= shelve();
     say("pool_share");
-    for (size_t i = 0; i < SERVERS; i++) {
-        uint8_t *message = shares + i * share_len, *out = ones + i * POOL_ROUND_BYTES;
-        (void)VALGRIND_MAKE_MEM_UNDEFINED(message + 6, share_len - 6);
-        refused |= pool_share(tables[i], table_len, message, share_len, 123456789, 987654321, out, POOL_ROUND_BYTES,
-                              &written);
-        (void)VALGRIND_MAKE_MEM_DEFINED(out, POOL_ROUND_BYTES);
-    }
+    refused |= take_shares(0);
+    say("pool_share while another return waits");
+    refused |= take_shares(1);
     say("pool_round_one");
-    for (size_t i = 0; i < SERVERS; i++) {
-        uint8_t *out = twos + i * POOL_ROUND_BYTES;
-        refused |= pool_round_one(tables[i], table_len, ones, sizeof ones, out, POOL_ROUND_BYTES, &written);
-        (void)VALGRIND_MAKE_MEM_DEFINED(out, POOL_ROUND_BYTES);
-    }
+    refused |= round_one(1);
+    refused |= round_one(0);
     say("pool_round_two");
     for (size_t i = 0; i < SERVERS; i++) {
-        refused |= pool_round_two(tables[i], table_len, twos, sizeof twos, &verdict);
+        refused |= pool_round_two(TABLE(&tables[i]), 0, twos[0], sizeof twos[0], &verdict);
         accepted += verdict;
     }
+    kept |= left(0);
+    say("pool_drop");
+    for (size_t i = 0; i < SERVERS; i++)
+        refused |= pool_drop(TABLE(&tables[i]), 1);
+    kept |= left(1);
     (void)VALGRIND_MAKE_MEM_DEFINED(&refused, sizeof refused);
     (void)VALGRIND_MAKE_MEM_DEFINED(&accepted, sizeof accepted);
-    printf("refused %u, accepted %u\n", (unsigned)refused, (unsigned)accepted);
-    return refused != 0 || accepted != SERVERS;
+    printf("refused %u, accepted %u%s\n", (unsigned)refused, (unsigned)accepted,
+           kept ? ", and something of a decided return stays" : "");
+    return refused != 0 || accepted != SERVERS || kept;
 }

@@ -14,11 +14,19 @@
 enum { STACK = 1024 * 1024, PROMISED = 64 * 1024, PAINT = 0xa7, SERVERS = 8, RETURNS = 64 };
 
 static uint8_t sheet[POOL_MAX_SHEET_BYTES], circuit[POOL_MAX_CIRCUIT_BYTES], values[POOL_MAX_VALUES_BYTES];
-static uint8_t elements[POOL_MAX_RANDOM_BYTES], shares[POOL_MAX_MAKE_BYTES];
-static uint8_t tables[SERVERS][POOL_MAX_TABLE_BYTES], joined[SERVERS * POOL_MAX_TOTALS_BYTES], other[sizeof joined];
+static uint8_t random_bytes[POOL_MAX_RANDOM_BYTES], shares[POOL_MAX_MAKE_BYTES];
+static uint8_t joined[SERVERS * POOL_MAX_TOTALS_BYTES], other[sizeof joined];
+static struct table {
+    uint8_t bytes[POOL_MAX_TABLE_BYTES];
+    size_t len;
+    pool_slot slots[POOL_SLOTS];
+    uint32_t elements[POOL_MAX_ELEMENTS];
+} tables[SERVERS];
+#define TABLE(t) (t)->bytes, (t)->len, (t)->slots, POOL_SLOTS, (t)->elements, POOL_MAX_ELEMENTS
+
 static uint8_t every[POOL_MAX_EVERY_RETURN_BYTES], totals[POOL_MAX_JOIN_BYTES];
 static uint8_t messages[POOL_MAX_SHELF_BYTES], stored[POOL_MAX_SHELF_BYTES];
-static size_t sheet_len, circuit_len, table_len, joined_len, written;
+static size_t sheet_len, circuit_len, joined_len, written;
 static uint32_t columns, entries, published, wires, multiplications, tests, circuit_bytes, share_bytes, most;
 static uint32_t lists, accepted, refused;
 
@@ -46,52 +54,59 @@ static void every_return(void)
 
 static void make(void)
 {
-    refused |= pool_make(sheet, sheet_len, SERVERS, 1, values, POOL_VALUES_BYTES(columns), elements,
+    refused |= pool_make(sheet, sheet_len, SERVERS, 1, values, POOL_VALUES_BYTES(columns), random_bytes,
                          POOL_RANDOM_BYTES(SERVERS, share_bytes), shares, sizeof shares, &written);
 }
 
 static void open_tables(void)
 {
-    for (uint32_t i = 0; i < SERVERS; i++)
-        refused |= pool_open(SERVERS, i, sheet, sheet_len, RETURNS, tables[i], sizeof tables[i], &table_len);
+    for (uint32_t i = 0; i < SERVERS; i++) {
+        struct table *t = &tables[i];
+        refused |= pool_open(SERVERS, i, sheet, sheet_len, RETURNS, t->bytes, sizeof t->bytes, t->slots, POOL_SLOTS,
+                             t->elements, POOL_MAX_ELEMENTS, &t->len);
+    }
 }
 
-static void take_shares(void)
+/* The shares of the return, with the ids from `from` to `to`. The messages of the last one stay. */
+static void take_ids(uint8_t from, uint8_t to)
 {
-    for (size_t i = 0; i < SERVERS; i++)
-        refused |= pool_share(tables[i], table_len, shares + i * share_bytes, share_bytes, 123456789, 987654321,
-                              joined + i * POOL_ROUND_BYTES, POOL_ROUND_BYTES, &written);
+    for (uint8_t id = from; id <= to; id++)
+        for (size_t i = 0; i < SERVERS; i++) {
+            shares[i * share_bytes + 1] = id;
+            refused |= pool_share(TABLE(&tables[i]), shares + i * share_bytes, share_bytes, 123456789, 987654321,
+                                  joined + i * POOL_ROUND_BYTES, POOL_ROUND_BYTES, &written);
+        }
+}
+
+static void take_share(void) { take_ids(1, 1); }
+
+static void take_eight(void) { take_ids(2, POOL_SLOTS); }
+
+static void drop_seven(void)
+{
+    for (uint32_t id = 1; id < POOL_SLOTS; id++)
+        for (size_t i = 0; i < SERVERS; i++)
+            refused |= pool_drop(TABLE(&tables[i]), id);
 }
 
 static void round_one(void)
 {
     for (size_t i = 0; i < SERVERS; i++)
-        refused |= pool_round_one(tables[i], table_len, joined, SERVERS * POOL_ROUND_BYTES,
+        refused |= pool_round_one(TABLE(&tables[i]), POOL_SLOTS, joined, SERVERS * POOL_ROUND_BYTES,
                                   other + i * POOL_ROUND_BYTES, POOL_ROUND_BYTES, &written);
 }
 
 static void round_two(void)
 {
     for (size_t i = 0; i < SERVERS; i++)
-        refused |= pool_round_two(tables[i], table_len, other, SERVERS * POOL_ROUND_BYTES, &accepted);
+        refused |= pool_round_two(TABLE(&tables[i]), POOL_SLOTS, other, SERVERS * POOL_ROUND_BYTES, &accepted);
 }
-
-/* Drops the return of id 1, so that the next share comes with id 2. */
-static void drop_share(void)
-{
-    for (size_t i = 0; i < SERVERS; i++) {
-        refused |= pool_drop(tables[i], table_len);
-        shares[i * share_bytes + 1] = 2;
-    }
-}
-
-static void take_again(void) { take_shares(); }
 
 static void close_tables(void)
 {
     joined_len = 0;
     for (size_t i = 0; i < SERVERS; i++, joined_len += written)
-        refused |= pool_close(tables[i], table_len, joined + joined_len, sizeof joined - joined_len, &written);
+        refused |= pool_close(TABLE(&tables[i]), joined + joined_len, sizeof joined - joined_len, &written);
 }
 
 static void join(void)
@@ -145,10 +160,10 @@ static const struct {
     const char *name;
     void (*step)(void);
 } steps[] = {
-    {"sizes", tell_sizes},    {"circuit", write_circuit}, {"read_circuit", read_circuit}, {"make", make},
-    {"open", open_tables},    {"share", take_shares},     {"drop", drop_share},           {"share", take_again},
-    {"round_one", round_one}, {"round_two", round_two},   {"close", close_tables},        {"join", join},
-    {"shelve", shelve},       {"unshelve", unshelve},     {"every_return", every_return},
+    {"sizes", tell_sizes}, {"circuit", write_circuit}, {"read_circuit", read_circuit}, {"make", make},
+    {"open", open_tables}, {"share", take_share},      {"shares", take_eight},         {"round_one", round_one},
+    {"drop", drop_seven},  {"round_two", round_two},   {"close", close_tables},        {"join", join},
+    {"shelve", shelve},    {"unshelve", unshelve},     {"every_return", every_return},
 };
 
 /* Runs every step; gives the number of those that need more than was promised. */

@@ -3,20 +3,18 @@ package main
 import (
 	"encoding/binary"
 	"net"
-	"time"
 
 	"yimakohe.example/pool/internal/frame"
 )
 
-// inbox holds the shares that have arrived and are not yet handled.
+// inbox holds the shares that have arrived and that no return has asked for yet.
 type inbox struct {
 	arrived chan []byte
 	held    [][]byte
-	wait    time.Duration
 }
 
-func newInbox(wait time.Duration) *inbox {
-	return &inbox{arrived: make(chan []byte, 64), wait: wait}
+func newInbox() *inbox {
+	return &inbox{arrived: make(chan []byte, 64)}
 }
 
 // serve takes shares from workshops until the listener is closed.
@@ -41,12 +39,10 @@ func (b *inbox) take(conn net.Conn) {
 	_ = frame.Write(conn, nil) // a workshop that does not listen has done its part
 }
 
-// first gives the share that arrived first.
-func (b *inbox) first() []byte {
-	return <-b.arrived
-}
+// hold keeps a share until its return is begun.
+func (b *inbox) hold(share []byte) { b.held = append(b.held, share) }
 
-// of gives the share of a return, nil where it does not arrive in time.
+// of gives the share of a return that is held, nil where there is none.
 func (b *inbox) of(id uint32) []byte {
 	for k, share := range b.held {
 		if idOf(share) == id {
@@ -54,18 +50,7 @@ func (b *inbox) of(id uint32) []byte {
 			return share
 		}
 	}
-	late := time.After(b.wait)
-	for {
-		select {
-		case share := <-b.arrived:
-			if idOf(share) == id {
-				return share
-			}
-			b.held = append(b.held, share)
-		case <-late:
-			return nil
-		}
-	}
+	return nil
 }
 
 // idOf reads the id of a share message: it stands after the kind byte.

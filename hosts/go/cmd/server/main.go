@@ -4,8 +4,10 @@
 //	server -own 1 -sheet '17 19 8' -handle 3 -workshops 127.0.0.1:7001 -peer 127.0.0.1:7010
 //
 // Server 0 awaits server 1 at the address -peer. Both take shares of workshops at -workshops; server 0 says which
-// return is next. After -handle returns they close, exchange totals messages and print the joined totals, each line
-// with column, option and total. The example sends in the clear, on one machine: a pool encrypts, and knows who calls.
+// return is next. Up to eight returns are under way at a time. After -handle returns they close, exchange totals messages
+// and print the joined totals, each line with column, option and total. With -distance 100ms each message to the other
+// server takes so long, as between two countries. The example sends in the clear, on one machine, and stores nothing: a pool
+// encrypts, knows who calls, and stores its table with each message before it is sent.
 package main
 
 import (
@@ -30,6 +32,7 @@ type options struct {
 	workshops string
 	peer      string
 	wait      time.Duration
+	distance  time.Duration
 }
 
 func main() {
@@ -42,6 +45,7 @@ func main() {
 	flag.StringVar(&o.workshops, "workshops", "127.0.0.1:0", "where to take shares")
 	flag.StringVar(&o.peer, "peer", "127.0.0.1:0", "where server 0 awaits server 1")
 	flag.DurationVar(&o.wait, "wait", 5*time.Second, "how long to wait for the own share of a return")
+	flag.DurationVar(&o.distance, "distance", 0, "how long a message to the other server takes")
 	flag.Parse()
 	log.SetPrefix(fmt.Sprintf("server %d: ", o.own))
 	if err := run(o); err != nil {
@@ -68,7 +72,7 @@ func run(o options) error {
 	}
 	defer listener.Close()
 	fmt.Println("workshops", listener.Addr())
-	shares := newInbox(o.wait)
+	shares := newInbox()
 	go shares.serve(listener)
 
 	conn, err := meet(o.own, o.peer)
@@ -76,11 +80,10 @@ func run(o options) error {
 		return err
 	}
 	defer conn.Close()
-	s := &server{own: o.own, sheet: sheet, table: table, peer: conn, shares: shares}
-	for k := 0; k < o.handle; k++ {
-		if err := s.next(); err != nil {
-			return err
-		}
+	s := &server{own: o.own, sheet: sheet, table: table, peer: newPeer(conn, o.distance), shares: shares, wait: o.wait,
+		handle: o.handle}
+	if err := s.run(); err != nil {
+		return err
 	}
 	totals, err := s.close(uint32(o.returns))
 	if err != nil {

@@ -4,134 +4,123 @@ import (
 	"encoding/binary"
 	"fmt"
 	"log"
-	"net"
+	"time"
 
 	"yimakohe.example/pool"
-	"yimakohe.example/pool/internal/frame"
 )
 
-// server handles one return after another together with its peer.
+// server handles returns together with its peer, up to eight at a time. Server 0 begins them, in the order in which its shares
+// arrive; so both take their shares in the same order, and neither table is asked to hold a ninth. All is done by one
+// goroutine, in run: only it uses the table.
 type server struct {
 	own    uint
 	sheet  *pool.Sheet
 	table  *pool.Table
-	peer   net.Conn
+	peer   *peer
 	shares *inbox
+	wait   time.Duration // for the own share of a return
+	handle int           // returns to handle, whatever becomes of them
+
+	begun, ended int
+	courses      map[uint32]*course // under way, by number
+	late         chan uint32        // numbers of returns that have waited for their share
 }
 
-// exchange sends the peer a message and gives both messages in server order. An empty message says that its server can
-// not go on; then whole is false.
-func (s *server) exchange(mine []byte) (messages [][]byte, whole bool, err error) {
-	if err := frame.Write(s.peer, mine); err != nil {
-		return nil, false, err
-	}
-	theirs, err := frame.Read(s.peer)
-	if err != nil {
-		return nil, false, err
-	}
-	messages = [][]byte{mine, theirs}
-	if s.own == 1 {
-		messages = [][]byte{theirs, mine}
-	}
-	return messages, len(mine) > 0 && len(theirs) > 0, nil
-}
-
-// pick gives the next return and the own share of it, nil where that did not arrive. Server 0 says which return it is.
-func (s *server) pick() (id uint32, share []byte, err error) {
-	if s.own == 0 {
-		share = s.shares.first()
-		return idOf(share), share, frame.Write(s.peer, share[1:5])
-	}
-	b, err := frame.Read(s.peer)
-	if err != nil {
-		return 0, nil, err
-	}
-	if len(b) != 4 {
-		return 0, nil, fmt.Errorf("an id of %d bytes", len(b))
-	}
-	id = binary.LittleEndian.Uint32(b)
-	return id, s.shares.of(id), nil
-}
-
-// next handles a return, whatever becomes of it. An error means that the servers are apart and must not go on.
-func (s *server) next() error {
-	id, share, err := s.pick()
-	if err != nil {
-		return err
-	}
-	pair, whole, err := s.agree(share != nil)
-	if err != nil {
-		return err
-	}
-	if !whole {
-		log.Printf("return %d: left, a share did not arrive", id)
-		return nil
-	}
-	one, refused := s.table.Share(share, pair)
-	ones, whole, err := s.exchange(one)
-	if err != nil {
-		return err
-	}
-	if !whole {
-		return s.abandon(id, refused)
-	}
-	return s.judge(id, ones)
-}
-
-// judge takes a return through both rounds.
-func (s *server) judge(id uint32, ones [][]byte) error {
-	two, refused := s.table.RoundOne(ones)
-	twos, whole, err := s.exchange(two)
-	if err != nil {
-		return err
-	}
-	if !whole {
-		if refused != nil {
-			log.Printf("return %d: %v", id, refused)
+// run handles returns. An error means that the servers are apart and must not go on.
+func (s *server) run() error {
+	s.courses = map[uint32]*course{}
+	s.late = make(chan uint32, s.handle)
+	for s.ended < s.handle {
+		arrived := s.shares.arrived
+		if s.own == 0 && (len(s.courses) == pool.Slots || s.begun == s.handle) {
+			arrived = nil // shares wait in the inbox
 		}
-		return s.abandon(id, nil)
+		var err error
+		select {
+		case share := <-arrived:
+			err = s.arrive(share)
+		case m, more := <-s.peer.in:
+			if !more {
+				return fmt.Errorf("the other server: %w", s.peer.err)
+			}
+			err = s.hear(m)
+		case number := <-s.late:
+			if c := s.courses[number]; c != nil && c.share == nil {
+				s.say(c, part, nil)
+				err = s.advance(c)
+			}
+		}
+		if err != nil {
+			return err
+		}
 	}
-	accepted, err := s.table.RoundTwo(twos)
-	if err != nil {
-		return err
-	}
-	log.Printf("return %d: accepted %v", id, accepted)
 	return nil
 }
 
-// abandon ends a return that a server refused. Where the own table took it, it is dropped.
-func (s *server) abandon(id uint32, refused error) error {
-	if refused != nil {
-		log.Printf("return %d: %v", id, refused)
+// arrive takes a share of a workshop: server 0 begins its return, server 1 gives it to the return that awaits it.
+func (s *server) arrive(share []byte) error {
+	if s.own == 0 {
+		c := s.begin(uint32(s.begun), idOf(share))
+		s.peer.send(c.number, begin, share[1:5])
+		return s.give(c, share)
+	}
+	var first *course
+	for _, c := range s.courses {
+		if c.id == idOf(share) && c.mine[part] == nil && (first == nil || c.number < first.number) {
+			first = c
+		}
+	}
+	if first == nil {
+		s.shares.hold(share)
 		return nil
 	}
-	log.Printf("return %d: dropped", id)
-	return s.table.Drop()
+	return s.give(first, share)
 }
 
-// agree finds the pair of a return, once both servers have their shares: each draws a part, and they add them.
-func (s *server) agree(ready bool) (pair pool.Pair, whole bool, err error) {
-	var mine []byte
-	if ready {
-		part, err := s.sheet.DrawPair(nil)
-		if err != nil {
-			return pair, false, err
+// hear takes a message of the peer.
+func (s *server) hear(m message) error {
+	if m.step == begin {
+		if s.own == 0 || len(m.body) != 4 || m.number != uint32(s.begun) {
+			return fmt.Errorf("return %d is begun out of turn", m.number)
 		}
-		mine = binary.LittleEndian.AppendUint64(nil, part.R)
-		mine = binary.LittleEndian.AppendUint64(mine, part.S)
-	}
-	messages, whole, err := s.exchange(mine)
-	if err != nil || !whole {
-		return pair, false, err
-	}
-	var parts []pool.Pair
-	for _, b := range messages {
-		if len(b) != 16 {
-			return pair, false, fmt.Errorf("a part of a pair of %d bytes", len(b))
+		c := s.begin(m.number, binary.LittleEndian.Uint32(m.body))
+		if share := s.shares.of(c.id); share != nil {
+			return s.give(c, share)
 		}
-		parts = append(parts, pool.Pair{R: binary.LittleEndian.Uint64(b), S: binary.LittleEndian.Uint64(b[8:])})
+		time.AfterFunc(s.wait, func() { s.late <- c.number })
+		return nil
 	}
-	return s.sheet.AddPairs(parts...), true, nil
+	c := s.courses[m.number]
+	if c == nil || m.step >= totals || c.theirs[m.step] != nil {
+		return fmt.Errorf("a message out of turn for return %d", m.number)
+	}
+	c.theirs[m.step] = m.body
+	return s.advance(c)
+}
+
+func (s *server) begin(number, id uint32) *course {
+	c := &course{number: number, id: id, step: part}
+	s.courses[number] = c
+	s.begun++
+	return c
+}
+
+// give gives a return its share. Only now a part of the pair is drawn and sent.
+func (s *server) give(c *course, share []byte) error {
+	c.share = share
+	mine, err := s.drawPart()
+	if err != nil {
+		return err
+	}
+	s.say(c, part, mine)
+	return s.advance(c)
+}
+
+// end ends a return.
+func (s *server) end(c *course, how string) {
+	delete(s.courses, c.number)
+	s.ended++
+	log.Printf("return %d: %s, %d others under way", c.id, how, len(s.courses))
 }
 
 // close closes the table and joins both servers' totals.
@@ -140,9 +129,15 @@ func (s *server) close(returns uint32) (pool.Totals, error) {
 	if err != nil {
 		return pool.Totals{}, err
 	}
-	messages, _, err := s.exchange(mine)
-	if err != nil {
-		return pool.Totals{}, err
+	s.peer.send(uint32(s.handle), totals, mine)
+	s.peer.flush()
+	theirs, more := <-s.peer.in
+	if !more || theirs.step != totals {
+		return pool.Totals{}, fmt.Errorf("no totals of the other server (%v)", s.peer.err)
+	}
+	messages := [][]byte{mine, theirs.body}
+	if s.own == 1 {
+		messages = [][]byte{theirs.body, mine}
 	}
 	return pool.Join(servers, s.sheet, returns, messages)
 }

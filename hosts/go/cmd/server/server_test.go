@@ -4,6 +4,7 @@ import (
 	"bufio"
 	"context"
 	"encoding/binary"
+	"fmt"
 	"net"
 	"os"
 	"os/exec"
@@ -26,9 +27,10 @@ func TestMain(m *testing.M) {
 
 // process is a server that runs.
 type process struct {
-	cmd *exec.Cmd
-	out *bufio.Scanner
-	log *strings.Builder
+	cmd       *exec.Cmd
+	out       *bufio.Scanner
+	log       *strings.Builder
+	workshops string // where it takes shares
 }
 
 func start(ctx context.Context, t *testing.T, args ...string) *process {
@@ -39,11 +41,12 @@ func start(ctx context.Context, t *testing.T, args ...string) *process {
 	if err != nil {
 		t.Fatal(err)
 	}
-	p := &process{cmd, bufio.NewScanner(pipe), new(strings.Builder)}
+	p := &process{cmd: cmd, out: bufio.NewScanner(pipe), log: new(strings.Builder)}
 	cmd.Stderr = p.log
 	if err := cmd.Start(); err != nil {
 		t.Fatal(err)
 	}
+	p.workshops = p.line(t, "workshops")
 	return p
 }
 
@@ -85,23 +88,19 @@ func send(t *testing.T, address string, share []byte) {
 	}
 }
 
-// Two servers in two processes: honest returns, a false one, an id that comes twice, a share that is refused by one
-// server and one that reaches only one.
-func TestTwoProcesses(t *testing.T) {
-	ctx, cancel := context.WithTimeout(context.Background(), 20*time.Second)
-	defer cancel()
-	common := []string{"-sheet", "17 18 3 19 8", "-handle", "7", "-wait", "200ms"}
-	zero := start(ctx, t, append(common, "-own", "0")...)
-	workshops := []string{zero.line(t, "workshops")}
-	one := start(ctx, t, append(common, "-own", "1", "-peer", zero.line(t, "peer"))...)
-	workshops = append(workshops, one.line(t, "workshops"))
-
-	sheet, err := pool.ReadSheet([]byte{17, 18, 3, 19, 8})
+// startTwo starts two servers and gives what a workshop needs to deliver returns to them.
+func startTwo(ctx context.Context, t *testing.T, sheet []byte, args ...string) (both []*process, deliver deliverer) {
+	t.Helper()
+	args = append([]string{"-sheet", strings.Trim(fmt.Sprint(sheet), "[]")}, args...)
+	zero := start(ctx, t, append(args, "-own", "0")...)
+	one := start(ctx, t, append(args, "-own", "1", "-peer", zero.line(t, "peer"))...)
+	read, err := pool.ReadSheet(sheet)
 	if err != nil {
 		t.Fatal(err)
 	}
-	client := pool.Client{Sheet: sheet, Servers: servers}
-	deliver := func(id uint32, values []uint32, alter func(shares [][]byte)) {
+	client := pool.Client{Sheet: read, Servers: servers}
+	both = []*process{zero, one}
+	return both, func(id uint32, values []uint32, alter func(shares [][]byte)) {
 		t.Helper()
 		shares, err := client.Make(id, values)
 		if err != nil {
@@ -110,11 +109,23 @@ func TestTwoProcesses(t *testing.T) {
 		alter(shares)
 		for k, share := range shares {
 			if share != nil {
-				send(t, workshops[k], share)
+				send(t, both[k].workshops, share)
 			}
 		}
 	}
-	honest := func([][]byte) {}
+}
+
+// deliverer makes a return, lets it be altered and sends each server its share, but none that is nil.
+type deliverer func(id uint32, values []uint32, alter func(shares [][]byte))
+
+func honest([][]byte) {}
+
+// Two servers in two processes: honest returns, a false one, an id that comes twice, a share that is refused by one
+// server and one that reaches only one.
+func TestTwoProcesses(t *testing.T) {
+	ctx, cancel := context.WithTimeout(context.Background(), 20*time.Second)
+	defer cancel()
+	both, deliver := startTwo(ctx, t, []byte{17, 18, 3, 19, 8}, "-handle", "7", "-wait", "200ms")
 	deliver(1, []uint32{1, 0, 200}, honest)
 	deliver(2, []uint32{0, 2, 100}, honest)
 	deliver(3, []uint32{1, 1, 50}, func(shares [][]byte) { binary.LittleEndian.PutUint32(shares[0][6:], 12345) })
@@ -124,12 +135,11 @@ func TestTwoProcesses(t *testing.T) {
 	deliver(6, []uint32{1, 2, 255}, honest)
 
 	want := "accepted 3\n1 0 2\n2 0 1\n2 1 0\n2 2 2\n3 0 555"
-	for k, p := range []*process{zero, one} {
+	for k, p := range both {
 		if got := p.end(t); got != want {
 			t.Errorf("server %d printed\n%s\nits log is\n%s", k, got, p.log)
 		}
 	}
-	logs := []string{zero.log.String(), one.log.String()}
 	for _, test := range []struct {
 		server int
 		line   string
@@ -137,8 +147,35 @@ func TestTwoProcesses(t *testing.T) {
 		{0, "return 3: accepted false"}, {1, "return 3: accepted false"}, {0, "return 2: pool: share: refused 10"},
 		{1, "return 4: pool: share: refused 8"}, {0, "return 4: dropped"}, {0, "return 5: left"}, {1, "return 5: left"},
 	} {
-		if !strings.Contains(logs[test.server], test.line) {
-			t.Errorf("server %d does not log %q but\n%s", test.server, test.line, logs[test.server])
+		if log := both[test.server].log.String(); !strings.Contains(log, test.line) {
+			t.Errorf("server %d does not log %q but\n%s", test.server, test.line, log)
+		}
+	}
+}
+
+// With the servers far apart eight returns are under way at once. One whose share reaches server 1 late is finished last and
+// holds up no other.
+func TestFarApart(t *testing.T) {
+	ctx, cancel := context.WithTimeout(context.Background(), 20*time.Second)
+	defer cancel()
+	both, deliver := startTwo(ctx, t, []byte{17, 19, 8}, "-handle", "13", "-wait", "10s", "-distance", "150ms")
+	var late []byte
+	deliver(0, []uint32{1, 100}, func(shares [][]byte) { late, shares[1] = shares[1], nil })
+	for id := uint32(1); id < 13; id++ {
+		deliver(id, []uint32{1, id}, honest)
+	}
+	time.Sleep(2 * time.Second) // the others take four times the distance, eight of them at a time
+	send(t, both[1].workshops, late)
+	for k, p := range both {
+		if got, want := p.end(t), "accepted 13\n1 0 13\n2 0 178"; got != want {
+			t.Errorf("server %d printed\n%s\nits log is\n%s", k, got, p.log)
+		}
+		lines := strings.Split(strings.TrimSpace(p.log.String()), "\n")
+		if last := lines[len(lines)-1]; !strings.Contains(last, "return 0: accepted true, 0 others") {
+			t.Errorf("server %d: the last line is %q", k, last)
+		}
+		if !strings.Contains(p.log.String(), "accepted true, 7 others under way") {
+			t.Errorf("server %d: never eight returns under way\n%s", k, p.log)
 		}
 	}
 }

@@ -1,0 +1,91 @@
+package pool
+
+import (
+	"encoding/binary"
+	"errors"
+	"fmt"
+	"hash/crc32"
+)
+
+// A stored table is one slice. Numbers stand lowest byte first:
+//
+//	8 bytes    the mark
+//	4 bytes    how many bytes the table has
+//	4 bytes    how many elements it has
+//	           its bytes, its eight slots of 40 bytes each, its elements of 4 bytes each
+//	4 bytes    the CRC-32 of all that stands before, so that one half of an older copy is told
+const (
+	storedMark  = "pooltab\x02"
+	storedHead  = len(storedMark) + 8
+	storedSlots = Slots * (2*4 + 4*8)
+	storedSum   = 4
+)
+
+// ErrStored is wrapped by the errors of UnmarshalBinary.
+var ErrStored = errors.New("not a table as MarshalBinary gives it")
+
+// MarshalBinary gives a copy of the whole table in one slice. It is the caller's to erase: later calls do not reach it.
+func (t *Table) MarshalBinary() ([]byte, error) {
+	order := binary.LittleEndian
+	b := make([]byte, 0, storedHead+len(t.bytes)+storedSlots+elementBytes*len(t.elements)+storedSum)
+	b = append(b, storedMark...)
+	b = order.AppendUint32(b, uint32(len(t.bytes)))
+	b = order.AppendUint32(b, uint32(len(t.elements)))
+	b = append(b, t.bytes...)
+	for _, x := range t.slots {
+		id, stage, r, s, d, e := slotNumbers(x)
+		b = order.AppendUint32(order.AppendUint32(b, id), stage)
+		for _, number := range [...]uint64{r, s, d, e} {
+			b = order.AppendUint64(b, number)
+		}
+	}
+	b = append(b, elements(t.elements)...)
+	return order.AppendUint32(b, crc32.ChecksumIEEE(b)), nil
+}
+
+// UnmarshalBinary makes the table the one that was stored. Anything but a whole slice of MarshalBinary is an error (ErrStored)
+// and leaves the table as it was.
+//
+// Restore the last table that was stored and no older one: see pool.h.
+func (t *Table) UnmarshalBinary(b []byte) error {
+	length, count, err := storedLengths(b)
+	if err != nil {
+		return fmt.Errorf("pool: restore: %w: %v", ErrStored, err)
+	}
+	restored := Table{bytes: append([]byte(nil), b[storedHead:][:length]...)}
+	rest := b[storedHead+length:]
+	for k := range restored.slots {
+		restored.slots[k], rest = storedSlot(rest), rest[storedSlots/Slots:]
+	}
+	restored.elements = numbers(rest[:elementBytes*count])
+	*t = restored
+	return nil
+}
+
+// storedLengths gives how many bytes and elements a stored table has, once the whole of it fits them.
+func storedLengths(b []byte) (length, count int, err error) {
+	if len(b) < storedHead+storedSum || string(b[:len(storedMark)]) != storedMark {
+		return 0, 0, errors.New("another beginning")
+	}
+	order := binary.LittleEndian
+	nb, ne := order.Uint32(b[len(storedMark):]), order.Uint32(b[len(storedMark)+4:])
+	if nb > maxTable || ne > maxElements || ne%Slots != 0 {
+		return 0, 0, fmt.Errorf("%d bytes and %d elements are those of no table", nb, ne)
+	}
+	length, count = int(nb), int(ne)
+	if whole := storedHead + length + storedSlots + elementBytes*count + storedSum; len(b) != whole {
+		return 0, 0, fmt.Errorf("its length is %d, not %d", len(b), whole)
+	}
+	sum := len(b) - storedSum
+	if crc32.ChecksumIEEE(b[:sum]) != order.Uint32(b[sum:]) {
+		return 0, 0, errors.New("it was altered, or only a part of it was written")
+	}
+	return length, count, nil
+}
+
+// storedSlot reads a slot.
+func storedSlot(b []byte) slot {
+	order := binary.LittleEndian
+	return newSlot(order.Uint32(b), order.Uint32(b[4:]), order.Uint64(b[8:]), order.Uint64(b[16:]), order.Uint64(b[24:]),
+		order.Uint64(b[32:]))
+}

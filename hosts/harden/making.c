@@ -1,0 +1,82 @@
+/* making.c: random returns and their shares. */
+#include "driver.h"
+
+static struct run a, b, c, out; /* for calls gone wild */
+
+void new_values(uint32_t *sums)
+{
+    size_t published = 0;
+    pool.values.len = 0;
+    for (size_t at = 0; at < pool.sheet.len;) {
+        struct column column = column_at(&pool.sheet, at);
+        uint32_t v = random_below(8) ? random_below(column.values) : column.values - 1;
+        uint8_t value[4];
+        at = column.next;
+        put_u32(value, v);
+        append(&pool.values, value, 4);
+        sums[published + (column.kind == POOL_CHOICE ? v : 0)] += column.kind == POOL_CHOICE ? 1 : v;
+        published += column.kind == POOL_CHOICE ? column.values : 1;
+    }
+    if (published != pool.sizes.published || pool.values.len != POOL_VALUES_BYTES(pool.sizes.columns))
+        fail("the count of columns or published entries");
+}
+
+void new_random(void)
+{
+    pool.random.len = POOL_RANDOM_BYTES(pool.servers, pool.sizes.share_bytes);
+    for (size_t at = 0; at < pool.random.len; at += 4)
+        put_u32(pool.random.at + at, random_below(16) ? random_below(POOL_PRIME) : POOL_PRIME - 1);
+}
+
+/* A value one past its column, in one of the columns, is refused. */
+static void past_value(uint32_t id, size_t room)
+{
+    uint32_t k = random_below(pool.sizes.columns);
+    size_t at = 0;
+    for (uint32_t j = 0; j < k; j++)
+        at = column_at(&pool.sheet, at).next;
+    copy(&b, &pool.values);
+    put_u32(b.at + 4 * k, column_at(&pool.sheet, at).values);
+    if (call_make(&pool.sheet, pool.servers, id, &b, &pool.random, room, &out) != POOL_VALUE)
+        fail("a value past its column");
+}
+
+int make_with_higher_tops(uint32_t id, size_t room)
+{
+    int higher = 0;
+    copy(&a, &pool.sheet);
+    copy(&b, &pool.values);
+    for (size_t at = 0, k = 0; at < a.len; at = column_at(&a, at).next, k++) {
+        uint32_t values = column_at(&a, at).values, most = 1;
+        while (most < values)
+            most *= 2;
+        if (a.at[at] == POOL_TOP && most > values) {
+            put_u32(a.at + at + 1, most - 1);
+            put_u32(b.at + 4 * k, most - 1);
+            higher = 1;
+        }
+    }
+    if (higher)
+        must(call_make(&a, pool.servers, id, &b, &pool.random, room, &pool.shares), "making with higher tops");
+    return higher;
+}
+
+void make_return(uint32_t id)
+{
+    size_t room = POOL_MAKE_BYTES(pool.servers, pool.sizes.share_bytes);
+    for (int k = 0; k < 2; k++) {
+        copy(&a, &pool.sheet);
+        copy(&b, &pool.values);
+        copy(&c, &pool.random);
+        wild(random64() % 2 ? &b : &c);
+        if (random_below(4) == 0)
+            wild(&a);
+        call_make(&a, wild32(pool.servers), id, &b, &c, wild_room(room), &out);
+    }
+    past_value(id, room);
+    must(call_make(&pool.sheet, pool.servers, id, &pool.values, &pool.random, room, &pool.shares), "making");
+    if (pool.shares.len != room)
+        fail("the length of the shares");
+    if (random_below(4) == 0)
+        shelve(pool.servers, pool.sizes.share_bytes, &pool.shares);
+}

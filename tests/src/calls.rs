@@ -7,6 +7,11 @@ mod tables;
 use second::gen::Rng;
 
 use crate::guard::{Lent, Word};
+use crate::layout::{Parts, SLOTS};
+
+/// Room for the bytes and for the numbers of any table.
+pub const MOST_BYTES: usize = 5_388;
+pub const MOST_ELEMENTS: usize = 6_208;
 
 /// The functions of pool.h.
 #[derive(Clone, Copy, Debug, PartialEq, Eq, PartialOrd, Ord)]
@@ -43,19 +48,23 @@ pub struct Call {
     pub sheet: Vec<u8>,
     pub values: Vec<u8>,
     pub random: Vec<u8>,
-    pub table: Vec<u8>,
+    pub table: Parts,
     /// The share, the joined messages, the circuit or the run of messages for the shelf.
     pub message: Vec<u8>,
-    /// The length of the output buffer; for opening that of the table's buffer.
+    /// The length of the output buffer; for opening that of the buffer for the table's bytes.
     pub room: usize,
+    /// The records and the numbers that opening is lent.
+    pub slots: usize,
+    pub elements: usize,
 }
 
-/// What a call that is done gives: its numbers, the bytes written, and the whole lent table after it.
+/// What a call that is done gives: its numbers, the bytes written, and the whole lent table after it; of an opened table
+/// the bytes and numbers that belong to it.
 #[derive(Clone, Debug, PartialEq, Eq)]
 pub struct Done {
     pub numbers: Vec<u64>,
     pub bytes: Vec<u8>,
-    pub table: Vec<u8>,
+    pub table: Parts,
 }
 
 /// The answer to a call: done, or the refusal's number.
@@ -63,7 +72,7 @@ pub type Outcome = Result<Done, u32>;
 
 /// A call on no table that is done.
 pub fn plain(numbers: Vec<u64>, bytes: Vec<u8>) -> Outcome {
-    Ok(Done { numbers, bytes, table: Vec::new() })
+    Ok(Done { numbers, bytes, table: Parts::default() })
 }
 
 impl Call {
@@ -83,10 +92,17 @@ impl Call {
             sheet: Vec::new(),
             values: Vec::new(),
             random: Vec::new(),
-            table: Vec::new(),
+            table: Parts::default(),
             message: Vec::new(),
             room: 0,
+            slots: SLOTS,
+            elements: MOST_ELEMENTS,
         }
+    }
+
+    /// Opening, with room for any table.
+    pub fn open_table(servers: u32, own: u32, sheet: &[u8], returns: u32) -> Call {
+        Call { servers, own, sheet: sheet.to_vec(), returns, room: MOST_BYTES, ..Call::of(Function::Open) }
     }
 
     /// Carries the call out. An error tells which lent byte was changed that had to stay.
@@ -133,7 +149,7 @@ fn wrote(answer: u32, out: &Lent, written: &Word<usize>, words: &[Word<u32>]) ->
                 return Err(format!("{length} bytes written, it says, into a buffer of {}", out.length()));
             }
             out.kept_past(length)?;
-            done.bytes = out.bytes(length).to_vec();
+            done.bytes = out.items(length);
         }
     }
     Ok(outcome)

@@ -4,6 +4,7 @@ use second::gen;
 
 use crate::calls::{plain, Call, Function};
 use crate::faults::{alone_and_in_pairs, sheets};
+use crate::layout::Parts;
 use crate::suite::{Suite, Verdict};
 use crate::tops::{largest_sheet, longest_sheet, top_column};
 
@@ -94,14 +95,13 @@ fn shares(suite: &mut Suite, sheet: &[u8], servers: u32, told: [u32; 9]) -> Verd
 /// The greatest N told opens; one more is refused, 4 or at 1,025 2. The totals are as many as told.
 fn openings(suite: &mut Suite, sheet: &[u8], servers: u32, told: [u32; 9]) -> Verdict {
     let (published, greatest) = (told[2], told[8]);
-    let sheet = sheet.to_vec();
-    let open = Call { servers, own: 1, sheet, returns: greatest, room: 8_512, ..Call::of(Function::Open) };
+    let open = Call::open_table(servers, 1, sheet, greatest);
     suite.number(&open, 0)?;
     let more = if greatest < 1024 { 4 } else { 2 };
     suite.number(&Call { returns: greatest + 1, ..open.clone() }, more)?;
     suite.number(&Call { returns: 1025, ..open.clone() }, 2)?;
     suite.number(&Call { returns: 1, ..open.clone() }, 0)?;
-    let table = suite.check(&open)?.map_or(Vec::new(), |done| done.bytes);
+    let table = suite.check(&open)?.map_or(Parts::default(), |done| done.table);
     let room = 6 + 4 * published as usize;
     let close = Call { table, room, ..Call::of(Function::Close) };
     suite.number(&close, 0)?;

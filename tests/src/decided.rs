@@ -1,9 +1,11 @@
 //! What a decided return leaves in the tables: its id and, where it was accepted, what it added to the totals.
 
+use std::collections::HashSet;
+
 use second::field;
 use second::gen::{self, Rng};
 
-use crate::layout::{put_word, sound, word, words};
+use crate::layout::{id_of, put_word, read, word, Parts, FREE, SLOTS};
 use crate::pools::Pool;
 use crate::suite::{Suite, Verdict};
 
@@ -36,12 +38,12 @@ fn play(suite: &mut Suite, pool: &mut Pool, shares: &[Vec<u8>], end: End, look: 
     let joined = pool.share(suite, shares, 1_000_003, 19)?;
     look(pool)?;
     if end == End::DroppedFirst {
-        return pool.drop(suite);
+        return pool.drop(suite, id_of(&joined));
     }
     let joined = pool.round_one(suite, &joined)?;
     look(pool)?;
     if end == End::DroppedSecond {
-        return pool.drop(suite);
+        return pool.drop(suite, id_of(&joined));
     }
     let verdicts = pool.round_two(suite, &joined)?;
     if verdicts.iter().any(|&verdict| verdict != u64::from(end == End::Accepted)) {
@@ -50,54 +52,95 @@ fn play(suite: &mut Suite, pool: &mut Pool, shares: &[Vec<u8>], end: End, look: 
     Ok(())
 }
 
-/// Every run of eight bytes of the shares' elements, none of them 0, stands in its server's table, or none does.
-fn runs(pool: &Pool, shares: &[Vec<u8>], stand: bool) -> Verdict {
-    for (table, share) in pool.tables.iter().zip(shares) {
+/// Every eight bytes that stand one after another in a part of a table, numbers lowest byte first.
+fn eights(table: &Parts) -> HashSet<[u8; 8]> {
+    let slots = table.slots.iter().flat_map(|slot| {
+        let numbers = [slot.r, slot.s, slot.d, slot.e].map(u64::to_le_bytes);
+        [[slot.id, slot.stage].map(u32::to_le_bytes).as_flattened(), numbers.as_flattened()].concat()
+    });
+    let elements = table.elements.iter().flat_map(|number| number.to_le_bytes());
+    let parts = [table.bytes.clone(), slots.collect(), elements.collect()];
+    parts.iter().flat_map(|part| part.array_windows().copied().collect::<Vec<_>>()).collect()
+}
+
+/// Every run of eight bytes of the shares' elements, none of them 0, stands in its server's table, or none does. Runs that
+/// the table had before the return came, of others that wait, do not count.
+fn runs(pool: &Pool, before: &[Parts], shares: &[Vec<u8>], stand: bool) -> Verdict {
+    for (server, (table, share)) in pool.tables.iter().zip(shares).enumerate() {
+        let (eights, others) = (eights(table), eights(&before[server]));
         for run in share[6..].windows(8).filter(|run| !run.contains(&0)) {
-            if table.windows(8).any(|bytes| bytes == run) != stand {
+            if eights.contains(run) != stand && !others.contains(run) {
                 let told = if stand { "are not" } else { "stay" };
-                return Err(format!("the bytes {run:?} of a share {told} in a table of stage {}", table[1]));
+                return Err(format!("the bytes {run:?} of a share {told} in the table {table}"));
             }
         }
     }
     Ok(())
 }
 
-/// No part of a share stays, however the return ends, nor when the table is closed. A return was accepted before, so that
-/// no total is a part of this share.
-pub fn bytes(suite: &mut Suite) -> Verdict {
-    let sheets = [(2, vec![17]), (3, vec![18, 3, 19, 4, 17]), (8, vec![19, 24]), (2, vec![18, 64, 18, 64])];
-    for (servers, sheet) in sheets.into_iter().chain([(3, vec![20, 200, 0, 0, 0, 17])]) {
-        let mut rng = suite.seed(u64::from(servers));
-        let mut pool = Pool::open(suite, servers, &sheet, 3)?;
-        let values = gen::values(&mut rng, &pool.sheet);
-        let shares = pool.make(suite, &mut rng, 1, &values)?;
-        play(suite, &mut pool, &shares, End::Accepted, |_| Ok(()))?;
-        let tables = pool.tables.clone();
-        for end in ENDS {
-            pool.tables.clone_from(&tables);
-            let shares = made(suite, &mut rng, &pool, &values, end)?;
-            play(suite, &mut pool, &shares, end, |pool| runs(pool, &shares, true))?;
-            runs(&pool, &shares, false)?;
-            pool.close(suite)?;
-            runs(&pool, &shares, false)?;
+/// Nothing but zeros stands where further ids go, in free records and in their places.
+fn clean(pool: &Pool) -> Verdict {
+    for parts in &pool.tables {
+        let table = read(parts)?;
+        let room = &parts.bytes[table.at.ids + 4 * table.decided..table.at.length];
+        let mut free = (0..SLOTS).filter(|&record| parts.slots[record].stage == FREE);
+        if room.iter().any(|&byte| byte != 0) || !free.all(|record| table.empty(parts, record)) {
+            return Err(format!("something of a decided return stays in the table {parts}"));
         }
     }
     Ok(())
 }
 
-/// The tables added up where a share stands: the elements at these places of the share are these.
+/// So many returns wait beside the one that is looked at, every other one in the second wait.
+fn company(suite: &mut Suite, rng: &mut Rng, pool: &mut Pool, count: u32) -> Verdict {
+    for id in 100..100 + count {
+        let values = gen::values(rng, &pool.sheet);
+        let shares = pool.make(suite, rng, id, &values)?;
+        let joined = pool.share(suite, &shares, 1_000_003, 19)?;
+        if id % 2 == 1 {
+            pool.round_one(suite, &joined)?;
+        }
+    }
+    Ok(())
+}
+
+/// No part of a share stays, however the return ends, nor when the table is closed. A return was accepted before, so that
+/// no total is a part of this share. Others wait beside it: none, some, seven; those are dropped before the close.
+pub fn bytes(suite: &mut Suite) -> Verdict {
+    let sheets = [(2, vec![17]), (3, vec![18, 3, 19, 4, 17]), (8, vec![19, 24]), (2, vec![18, 64, 18, 64])];
+    for ((servers, sheet), others) in sheets.into_iter().chain([(3, vec![20, 200, 0, 0, 0, 17])]).zip([0, 7, 3, 7, 1]) {
+        let mut rng = suite.seed(u64::from(servers));
+        let mut pool = Pool::open(suite, servers, &sheet, 3 + others)?;
+        let values = gen::values(&mut rng, &pool.sheet);
+        let shares = pool.make(suite, &mut rng, 1, &values)?;
+        play(suite, &mut pool, &shares, End::Accepted, |_| Ok(()))?;
+        company(suite, &mut rng, &mut pool, others)?;
+        let tables = pool.tables.clone();
+        for end in ENDS {
+            pool.tables.clone_from(&tables);
+            let shares = made(suite, &mut rng, &pool, &values, end)?;
+            play(suite, &mut pool, &shares, end, |pool| runs(pool, &tables, &shares, true))?;
+            runs(&pool, &tables, &shares, false)?;
+            clean(&pool)?;
+            (100..100 + others).try_for_each(|id| pool.drop(suite, id))?;
+            pool.close(suite)?;
+            runs(&pool, &tables, &shares, false)?;
+        }
+    }
+    Ok(())
+}
+
+/// The tables added up where the first share stands: the elements at these places of the share are these.
 fn added(pool: &Pool, places: impl Iterator<Item = usize>, expected: &[u64]) -> Verdict {
     let mut sums = vec![0; pool.sheet.share_elements()];
     for table in &pool.tables {
-        let read = sound(table).ok_or("a table that the library wrote is not sound")?;
-        for (sum, element) in sums.iter_mut().zip(words(table, read.at.share, pool.sheet.share_elements())) {
-            *sum = field::add(*sum, element);
+        for (sum, &element) in sums.iter_mut().zip(read(table)?.place(table, 0)) {
+            *sum = field::add(*sum, element.into());
         }
     }
     let shown: Vec<u64> = places.map(|place| sums[place]).collect();
     if shown != expected {
-        return Err(format!("tables in stage {} added up show {shown:?}\nmust be {expected:?}", pool.tables[0][1]));
+        return Err(format!("tables such as {} added up show {shown:?}\nmust be {expected:?}", pool.tables[0]));
     }
     Ok(())
 }

@@ -4,7 +4,7 @@ use second::field;
 use second::gen::added_up;
 use second::Sheet;
 
-use crate::calls::{plain, Call, Done, Function};
+use crate::calls::{plain, Call, Function};
 use crate::layout::word;
 use crate::pools::Pool;
 use crate::suite::{Suite, Verdict};
@@ -48,8 +48,7 @@ pub fn sheets(suite: &mut Suite) -> Verdict {
         suite.number(&Call { sheet: sheet.to_vec(), ..Call::of(Function::Sizes) }, number)?;
     }
     for (returns, number) in [(128, 0), (129, 4)] {
-        let sheet = vec![19, 24];
-        suite.number(&Call { servers: 2, sheet, returns, room: 8_512, ..Call::of(Function::Open) }, number)?;
+        suite.number(&Call::open_table(2, 0, &[19, 24], returns), number)?;
     }
     Ok(())
 }
@@ -122,7 +121,7 @@ pub fn joining(suite: &mut Suite) -> Verdict {
     suite.seed(0);
     let (sheet, message) = (vec![17, 18, 3], example_totals());
     let call = Call { servers: 2, sheet, returns: 10, message, room: 16, ..Call::of(Function::Join) };
-    suite.gives(&call, Ok(Done { numbers: vec![3], bytes: bytes_of(&[2, 0, 2, 1]), table: Vec::new() }))?;
+    suite.gives(&call, plain(vec![3], bytes_of(&[2, 0, 2, 1])))?;
     // Refusal 4 comes before 12: no messages at all.
     let (sheet, message) = (vec![19, 24], Vec::new());
     suite.number(&Call { servers: 2, sheet, returns: 129, message, ..Call::of(Function::Join) }, 4)

@@ -1,12 +1,14 @@
 //! Every refusal of every function by one fault, and every two faults at once: the earlier in document 01's order wins.
 
+mod tables;
+
 use second::gen::{self, Rng};
 use second::Sheet;
 
 use crate::calls::{Call, Function};
-use crate::fixture::{Fixture, DECIDED};
 use crate::layout::put_word;
 use crate::suite::{Suite, Verdict};
+pub use tables::{close, drop, open, round_one, round_two, share};
 
 const P: u64 = 2_147_483_647;
 
@@ -139,129 +141,6 @@ pub fn make(suite: &mut Suite) -> Verdict {
     faults.extend(randoms(3, count));
     faults.extend(rooms(4, base.room));
     alone_and_in_pairs(suite, &base, &faults)
-}
-
-/// Opening: S and own number, the sheet, N, 4, 14.
-pub fn open(suite: &mut Suite) -> Verdict {
-    suite.seed(3);
-    let number = (vec![17, 18, 3, 19, 24], 12 + 5 + 20 + 4 * 128 + 28 + 4 * (29 + 2 * 28 + 6));
-    let top = (vec![17, 18, 3, 20, 255, 255, 255, 0], 12 + 8 + 20 + 4 * 128 + 28 + 4 * (53 + 2 * 52 + 6));
-    for (sheet, room) in [number, top] {
-        let base = Call { servers: 3, own: 2, sheet, returns: 128, room, ..Call::of(Function::Open) };
-        let mut faults = servers(0);
-        faults.push(fault(1, 2, "servers", |call| call.servers = 2));
-        let own = |own: u32| fault(1, 2, "own", move |call| call.own = own);
-        faults.extend([3, 8, 256, 258, u32::MAX].map(own));
-        faults.extend(sheets(2));
-        faults.extend(returns(3));
-        faults.extend(rooms(5, room));
-        alone_and_in_pairs(suite, &base, &faults)?;
-    }
-    Ok(())
-}
-
-/// Tables that no call takes: damaged, cut short, and in the stages given.
-fn tables(fixture: &Fixture, stages: &[&Vec<u8>]) -> Vec<Fault> {
-    let mut wrong: Vec<Vec<u8>> = stages.iter().map(|table| table.to_vec()).collect();
-    for table in [&fixture.idle, &fixture.first, &fixture.second] {
-        let mut damaged = table.clone();
-        damaged[0] = 2;
-        wrong.push(damaged);
-        wrong.push(table[..table.len() - 1].to_vec());
-    }
-    wrong.push(Vec::new());
-    let changed = |wrong: Vec<u8>| fault(0, 11, "table", move |call| call.table.clone_from(&wrong));
-    wrong.into_iter().map(changed).collect()
-}
-
-/// A share: 11, 13, 7, 8, 10, 9, 14.
-pub fn share(suite: &mut Suite) -> Verdict {
-    let fixture = Fixture::new(suite, 3, 1, &[17, 18, 3, 19, 4], 4)?;
-    let mut faults = tables(&fixture, &[&fixture.first, &fixture.second, &fixture.closed]);
-    let full = fixture.full.clone();
-    faults.push(fault(1, 13, "table", move |call| call.table.clone_from(&full)));
-    faults.extend([0, 32, 34, 35, 36].map(|kind| fault(2, 7, "kind", move |call| call.message[0] = kind)));
-    faults.extend([0, 2, 3, 255].map(|own| fault(2, 7, "server", move |call| call.message[5] = own)));
-    let element = |at: usize, wrong: u64| fault(3, 8, "element", move |call| put_word(&mut call.message, at, wrong));
-    let length = fixture.share.len();
-    faults.extend([element(6, P), element(10, 1 << 31), element(length - 4, P), element(length - 8, (1 << 32) - 1)]);
-    faults.push(fault(4, 10, "id", |call| put_word(&mut call.message, 1, DECIDED.into())));
-    let r = |r: u64| fault(5, 9, "r", move |call| call.r = r);
-    let m = fixture.multiplications;
-    faults.extend([0, 1, m, P, P + 1, (1 << 32) + m + 1, u64::MAX].map(r));
-    faults.extend([P, P + 1, 1 << 32, u64::MAX].map(|s| fault(5, 9, "s", move |call| call.s = s)));
-    faults.extend(rooms(6, 14));
-    let resized = |length: usize| fault(2, 7, "length", move |call| call.message.resize(length, 0));
-    faults.extend([0, 1, 6, length - 4, length - 1, length + 1, length + 4].map(resized));
-    alone_and_in_pairs(suite, &fixture.share(), &faults)
-}
-
-/// Joined round messages at fault, at server 1 of 3; `kind` is the round's.
-fn joined(order: u32, kind: u8) -> Vec<Fault> {
-    let byte =
-        |place: &'static str, at: usize, change: u8| fault(order, 12, place, move |call| call.message[at] ^= change);
-    let mut faults = vec![
-        byte("kind 0", 0, kind),
-        byte("kind 1", 14, 34 ^ 35),
-        byte("kind 2", 28, 34 ^ 35),
-        byte("server 0", 5, 1),
-        byte("server 2", 33, 1),
-        byte("server 2", 33, 128),
-        byte("own", 20, 1),
-        byte("own", 27, 1),
-    ];
-    faults.extend([1, 2, 3, 4].map(|at| byte("id 0", at, 1)));
-    faults.extend([29, 30, 31, 32].map(|at| byte("id 2", at, 128)));
-    let element =
-        |at: usize, wrong: u64| fault(order, 12, "element", move |call| put_word(&mut call.message, at, wrong));
-    faults.extend([element(6, P), element(10, P), element(34, P), element(38, (1 << 32) - 1)]);
-    faults
-}
-
-/// Wrong lengths of joined round messages of three servers.
-fn lengths(order: u32) -> Vec<Fault> {
-    let resized = |length: usize| fault(order, 12, "length", move |call| call.message.resize(length, 0));
-    [0, 14, 28, 41, 43, 56].map(resized).into()
-}
-
-/// Round one: 11, 12, 14.
-pub fn round_one(suite: &mut Suite) -> Verdict {
-    let fixture = Fixture::new(suite, 3, 1, &[17, 18, 3, 19, 4], 4)?;
-    let mut faults = tables(&fixture, &[&fixture.idle, &fixture.second, &fixture.closed, &fixture.full]);
-    faults.extend(joined(1, 34));
-    faults.extend(rooms(2, 14));
-    faults.extend(lengths(1));
-    alone_and_in_pairs(suite, &fixture.round_one(), &faults)
-}
-
-/// Round two: 11, 12.
-pub fn round_two(suite: &mut Suite) -> Verdict {
-    let fixture = Fixture::new(suite, 3, 1, &[17, 18, 3, 19, 4], 4)?;
-    let mut faults = tables(&fixture, &[&fixture.idle, &fixture.first, &fixture.closed, &fixture.full]);
-    faults.extend(joined(1, 35));
-    faults.extend(lengths(1));
-    alone_and_in_pairs(suite, &fixture.round_two(), &faults)?;
-    // Round one's messages do not do for round two.
-    let mut call = fixture.round_two();
-    call.message.clone_from(&fixture.joined_one);
-    suite.number(&call, 12)
-}
-
-/// Drop: 11, and both waits are dropped.
-pub fn drop(suite: &mut Suite) -> Verdict {
-    let fixture = Fixture::new(suite, 3, 1, &[17, 18, 3, 19, 4], 4)?;
-    let faults = tables(&fixture, &[&fixture.idle, &fixture.closed, &fixture.full]);
-    alone_and_in_pairs(suite, &fixture.drop(), &faults)?;
-    suite.number(&Call { table: fixture.second.clone(), ..fixture.drop() }, 0)
-}
-
-/// Close: 11, 14; a full table closes.
-pub fn close(suite: &mut Suite) -> Verdict {
-    let fixture = Fixture::new(suite, 3, 1, &[17, 18, 3, 19, 4], 4)?;
-    let mut faults = tables(&fixture, &[&fixture.first, &fixture.second, &fixture.closed]);
-    faults.extend(rooms(1, fixture.closing));
-    alone_and_in_pairs(suite, &fixture.close(), &faults)?;
-    suite.number(&Call { table: fixture.full.clone(), ..fixture.close() }, 0)
 }
 
 /// Three totals messages of the sheets 17, 18 3, 19 24 and 17, 18 3, 20 16,777,215.

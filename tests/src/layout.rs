@@ -1,32 +1,75 @@
-//! A table's bytes as the head of crates/rules/specs/Table.antt lays them out, and which tables are sound.
+//! The three parts of a table as the heads of crates/rules/specs/Table.antt and WaitingList.antt lay them out, and which
+//! tables are sound.
 
 use second::field::P;
 use second::Sheet;
 
-/// The first byte of a table.
-pub const TABLE: u8 = 1;
-pub const IDLE: u8 = 0;
-pub const FIRST_WAIT: u8 = 1;
-pub const SECOND_WAIT: u8 = 2;
-pub const CLOSED: u8 = 3;
+pub use crate::c::pool_slot as Slot;
 
-/// Where the parts of a table stand that depend on its sheet and N. The sheet itself stands at 12.
+/// The first byte of a table.
+pub const TABLE: u8 = 2;
+/// The stages of a table.
+pub const OPEN: u8 = 0;
+pub const CLOSED: u8 = 1;
+/// The stages of a record.
+pub const FREE: u32 = 0;
+pub const AWAITS_ONE: u32 = 1;
+pub const AWAITS_TWO: u32 = 2;
+/// The records of a table.
+pub const SLOTS: usize = 8;
+
+/// A table as a host keeps it.
+#[derive(Clone, Debug, Default, PartialEq, Eq)]
+pub struct Parts {
+    pub bytes: Vec<u8>,
+    pub slots: Vec<Slot>,
+    pub elements: Vec<u32>,
+}
+
+impl Parts {
+    /// How many records are not free.
+    pub fn waiting(&self) -> usize {
+        self.slots.iter().filter(|slot| slot.stage != FREE).count()
+    }
+
+    /// The record of an id: the first that is not free and has it.
+    pub fn record(&self, id: u32) -> Option<usize> {
+        self.slots.iter().position(|slot| slot.stage != FREE && slot.id == id)
+    }
+
+    /// A copy with a change.
+    pub fn with(&self, change: impl Fn(&mut Parts)) -> Parts {
+        let mut parts = self.clone();
+        change(&mut parts);
+        parts
+    }
+}
+
+/// Where everything stands that depends on the sheet and N. The sheet itself stands at byte 12.
 #[derive(Clone, Copy, Debug)]
 pub struct Places {
     pub totals: usize,
     pub ids: usize,
-    /// The id that waits; then r, s, d, e, r × h(r), tau.
-    pub wait: usize,
-    pub share: usize,
+    /// The length of the bytes.
     pub length: usize,
+    /// The elements of a share; r × h(r) and tau stand after them.
+    pub share: usize,
+    /// The numbers of a record's place.
+    pub place: usize,
+    /// The length of the run of numbers.
+    pub run: usize,
 }
 
 pub fn places(sheet_length: usize, sheet: &Sheet, returns: usize) -> Places {
     let totals = 12 + sheet_length;
     let ids = totals + 4 * sheet.published();
-    let wait = ids + 4 * returns;
-    let share = wait + 28;
-    Places { totals, ids, wait, share, length: share + 4 * sheet.share_elements() }
+    let share = sheet.entries() + 2 * sheet.multiplications() + 6;
+    Places { totals, ids, length: ids + 4 * returns, share, place: share + 2, run: SLOTS * (share + 2) }
+}
+
+/// The length of the run of numbers with this sheet; 0 where the sheet is refused.
+pub fn run_length(sheet: &[u8]) -> usize {
+    Sheet::read(sheet).map_or(0, |read| places(sheet.len(), &read, 1).run)
 }
 
 /// The 2-byte number at a place.
@@ -37,6 +80,11 @@ pub fn short(bytes: &[u8], at: usize) -> usize {
 /// The 4-byte number at a place.
 pub fn word(bytes: &[u8], at: usize) -> u64 {
     bytes[at..at + 4].iter().rev().fold(0, |number, &byte| 256 * number + u64::from(byte))
+}
+
+/// The id of a message.
+pub fn id_of(message: &[u8]) -> u32 {
+    word(message, 1) as u32
 }
 
 /// Writes a 4-byte number at a place.
@@ -57,7 +105,7 @@ pub fn words(bytes: &[u8], at: usize, count: usize) -> Vec<u64> {
 /// What the header and the sheet of a sound table say.
 #[derive(Clone, Debug)]
 pub struct Table {
-    pub stage: u8,
+    pub closed: bool,
     pub servers: u32,
     pub own: u32,
     pub returns: usize,
@@ -69,8 +117,18 @@ pub struct Table {
 }
 
 impl Table {
-    pub fn waits(&self) -> bool {
-        self.stage == FIRST_WAIT || self.stage == SECOND_WAIT
+    /// The numbers of a record's place.
+    pub fn place<'a>(&self, parts: &'a Parts, record: usize) -> &'a [u32] {
+        &parts.elements[record * self.at.place..][..self.at.place]
+    }
+
+    pub fn place_mut<'a>(&self, parts: &'a mut Parts, record: usize) -> &'a mut [u32] {
+        &mut parts.elements[record * self.at.place..][..self.at.place]
+    }
+
+    /// Whether a record and its place are all 0.
+    pub fn empty(&self, parts: &Parts, record: usize) -> bool {
+        parts.slots[record] == Slot::default() && self.place(parts, record).iter().all(|&number| number == 0)
     }
 }
 
@@ -88,46 +146,54 @@ fn header(slice: &[u8]) -> Option<Table> {
     let sheet = Sheet::read(&bytes).ok()?;
     let at = places(length, &sheet, returns);
     let (decided, accepted) = (short(slice, 6), short(slice, 8));
-    Some(Table { stage: slice[1], servers, own, returns, decided, accepted, bytes, sheet, at })
+    Some(Table { closed: slice[1] == CLOSED, servers, own, returns, decided, accepted, bytes, sheet, at })
 }
 
-/// The counts are sound, and the slice holds the whole table.
-fn counts(table: &Table, slice: &[u8]) -> bool {
+/// Every part has its length, and the counts are sound.
+fn counts(table: &Table, parts: &Parts) -> bool {
     let fits = table.sheet.columns().iter().all(|column| table.returns as u64 * column.largest() < P);
-    let taken = table.decided + usize::from(table.waits());
-    fits && table.at.length <= slice.len() && taken <= table.returns && table.accepted <= table.decided
+    let long = parts.bytes.len() >= table.at.length && parts.elements.len() >= table.at.run;
+    let taken = table.decided + parts.waiting();
+    fits && long && parts.slots.len() == SLOTS && taken <= table.returns && table.accepted <= table.decided
 }
 
-/// The return that waits is sound: r and s in range, the other numbers and the share's elements below p.
-fn waiting(table: &Table, slice: &[u8]) -> bool {
-    let numbers = words(slice, table.at.wait + 4, 6 + table.sheet.share_elements());
-    numbers.iter().all(|&number| number < P) && numbers[0] > table.sheet.multiplications() as u64
+/// A record is free, or awaits a round with r and s in range and all its other numbers below p.
+fn record(table: &Table, parts: &Parts, number: usize) -> bool {
+    let slot = parts.slots[number];
+    let numbers = || table.place(parts, number).iter().all(|&number| u64::from(number) < P);
+    let range = || slot.r > table.sheet.multiplications() as u64 && slot.r < P;
+    match slot.stage {
+        FREE => true,
+        AWAITS_ONE | AWAITS_TWO => range() && [slot.s, slot.d, slot.e].iter().all(|&x| x < P) && numbers(),
+        _ => false,
+    }
 }
 
-/// The table at the start of a slice; `None` where it breaks a limit (refusal 11). Free are the ids past those decided,
-/// the return that waits where none does, which ids were decided, and whether d, e, r × h(r) and tau belong to the
-/// share; so is all that lies past the table.
-pub fn sound(slice: &[u8]) -> Option<Table> {
-    let table = header(slice)?;
-    if !counts(&table, slice) {
+/// The table in three parts; `None` where it breaks a limit (refusal 11). Free are the ids past those decided, which ids
+/// were decided, what a free record holds besides its stage, the numbers of its place, an id that waits twice or is
+/// decided too, and whether d, e, r × h(r) and tau belong to the share; so is all that lies past the parts' lengths.
+pub fn sound(parts: &Parts) -> Option<Table> {
+    let table = header(&parts.bytes)?;
+    if !counts(&table, parts) {
         return None;
     }
-    let totals = words(slice, table.at.totals, table.sheet.published());
-    let good = totals.iter().all(|&total| total < P) && (!table.waits() || waiting(&table, slice));
+    let totals = words(&parts.bytes, table.at.totals, table.sheet.published());
+    let good = totals.iter().all(|&total| total < P) && (0..SLOTS).all(|number| record(&table, parts, number));
     good.then_some(table)
 }
 
-/// Whether a slice starts with a sound table that has zeros where a return would wait.
-pub fn holds_no_return(slice: &[u8]) -> bool {
-    sound(slice).is_some_and(|table| slice[table.at.wait..table.at.length].iter().all(|&byte| byte == 0))
+/// What a table that the library wrote says.
+pub fn read(parts: &Parts) -> Result<Table, String> {
+    sound(parts).ok_or_else(|| "a table that the library wrote is not sound".to_string())
 }
 
-/// The bytes of a table that was just opened.
-pub fn opened(servers: u32, own: u32, bytes: &[u8], sheet: &Sheet, returns: u32) -> Vec<u8> {
-    let mut table = vec![0; places(bytes.len(), sheet, returns as usize).length];
-    table[..4].copy_from_slice(&[TABLE, IDLE, servers as u8, own as u8]);
+/// The parts of a table that was just opened.
+pub fn opened(servers: u32, own: u32, bytes: &[u8], sheet: &Sheet, returns: u32) -> Parts {
+    let at = places(bytes.len(), sheet, returns as usize);
+    let mut table = vec![0; at.length];
+    table[..4].copy_from_slice(&[TABLE, OPEN, servers as u8, own as u8]);
     put_short(&mut table, 4, returns as usize);
     put_short(&mut table, 10, bytes.len());
     table[12..12 + bytes.len()].copy_from_slice(bytes);
-    table
+    Parts { bytes: table, slots: vec![Slot::default(); SLOTS], elements: vec![0; at.run] }
 }

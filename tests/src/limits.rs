@@ -22,8 +22,7 @@ fn sheet(suite: &mut Suite, sheet: &[u8], number: u32) -> Verdict {
         let entries = Sheet::read(&sheet).map_or(0, |sheet| sheet.entries()) as u32;
         suite.number(&Call { entries, message: done.bytes, ..Call::of(Function::ReadCircuit) }, 0)?;
     }
-    let open = Call { servers: 2, returns: 1, room: 8_512, sheet, ..Call::of(Function::Open) };
-    suite.number(&open, number)
+    suite.number(&Call::open_table(2, 0, &sheet, 1), number)
 }
 
 /// Sheets: counts and totals at both sides, and the first column at fault.
@@ -115,10 +114,7 @@ fn totals(suite: &mut Suite) -> Verdict {
 /// Opening: S, the own number, N, and refusal 4.
 pub fn opening(suite: &mut Suite) -> Verdict {
     suite.seed(2);
-    let open = |servers, own, sheet: &[u8], returns| {
-        let sheet = sheet.to_vec();
-        Call { servers, own, sheet, returns, room: 8_512, ..Call::of(Function::Open) }
-    };
+    let open = Call::open_table;
     for (servers, number) in [(0, 2), (1, 2), (2, 0), (8, 0), (9, 2), (258, 2), (65_538, 2), (u32::MAX, 2)] {
         suite.number(&open(servers, 0, &[17], 1), number)?;
     }
@@ -211,8 +207,9 @@ pub fn rooms(suite: &mut Suite) -> Verdict {
             ..Call::of(Function::Make)
         };
         room(suite, &make, servers as usize * sheet.share_length())?;
-        let table = 12 + bytes.len() + 4 * sheet.published() + 8 + 28 + 4 * sheet.share_elements();
-        room(suite, &Call { servers, sheet: bytes.clone(), returns: 2, ..Call::of(Function::Open) }, table)?;
+        let open = Call::open_table(servers, 0, &bytes, 2);
+        room(suite, &open, 12 + bytes.len() + 4 * sheet.published() + 8)?;
+        opening_rooms(suite, &open, 8 * (sheet.entries() + 2 * sheet.multiplications() + 8))?;
         let fixture = Fixture::new(suite, servers, 1, &bytes, 2)?;
         room(suite, &fixture.share(), 14)?;
         room(suite, &fixture.round_one(), 14)?;
@@ -227,6 +224,17 @@ pub fn rooms(suite: &mut Suite) -> Verdict {
 fn room(suite: &mut Suite, call: &Call, needed: usize) -> Verdict {
     for (room, number) in [(needed, 0), (needed + 1, 0), (needed + 100, 0), (needed - 1, 14), (1, 14), (0, 14)] {
         suite.number(&Call { room, ..call.clone() }, number)?;
+    }
+    Ok(())
+}
+
+/// Eight records and no other number of them; numbers exact, one short, one more, none.
+fn opening_rooms(suite: &mut Suite, open: &Call, needed: usize) -> Verdict {
+    for slots in [0, 1, 7, 9, 16, 100] {
+        suite.number(&Call { slots, ..open.clone() }, 14)?;
+    }
+    for (elements, number) in [(needed, 0), (needed + 1, 0), (needed + 100, 0), (needed - 1, 14), (1, 14), (0, 14)] {
+        suite.number(&Call { elements, ..open.clone() }, number)?;
     }
     Ok(())
 }

@@ -5,6 +5,7 @@ mod c;
 mod calls;
 mod circuits;
 mod counts;
+mod damage;
 mod decided;
 mod examples;
 mod faults;
@@ -13,8 +14,10 @@ mod guard;
 mod layout;
 mod limits;
 mod lists;
+mod mixed;
 mod pages;
 mod pools;
+mod records;
 mod recount;
 mod reference;
 mod scripts;
@@ -26,6 +29,7 @@ mod tables;
 mod tally;
 mod tell;
 mod tops;
+mod waiting;
 
 use std::env;
 use std::process::ExitCode;
@@ -39,6 +43,7 @@ use tally::Tally;
 const SCRIPT_BLOCKS: (u64, u64) = (20, 60);
 const CASE_BLOCKS: (u64, u64) = (5, 60);
 const POOL_BLOCKS: (u64, u64) = (3, 30);
+const MIXED_BLOCKS: (u64, u64) = (6, 40);
 
 /// The refusals of each function, by the header.
 const REFUSALS: [(Function, &[u32]); 14] = [
@@ -61,8 +66,9 @@ const REFUSALS: [(Function, &[u32]); 14] = [
 type Test = fn(&mut Suite) -> Verdict;
 
 /// Named tests without a seed of their own.
-const NAMED: [(&str, Test); 60] = [
+const NAMED: [(&str, Test); 81] = [
     ("header: constants", sizes::constants),
+    ("header: a slot", sizes::slot),
     ("header: sizes", sizes::lengths),
     ("header: sizes of runs", sizes::runs),
     ("header: sizes of lists", sizes::lists),
@@ -99,9 +105,29 @@ const NAMED: [(&str, Test); 60] = [
     ("tables: bytes after the sheet", tables::bodies),
     ("tables: lengths", tables::lengths),
     ("tables: header limits", tables::header_limits),
-    ("tables: totals and waiting numbers", tables::numbers),
+    ("tables: totals and ids", tables::numbers),
     ("tables: sheets", tables::sheets),
-    ("tables: what is free", tables::free),
+    ("tables: ids decided", tables::ids),
+    ("tables: random damage", tables::random),
+    ("records: not eight", records::counts),
+    ("records: length of the run of numbers", records::runs),
+    ("records: fields", records::fields),
+    ("records: stages", records::stages),
+    ("records: numbers of a place", records::elements),
+    ("records: how many may wait", records::taken_room),
+    ("records: what is free", records::free),
+    ("records: numbers that the share does not give", records::own),
+    ("records: an id that waits twice", records::twice),
+    ("waiting: a ninth share", waiting::ninth),
+    ("waiting: decided and waiting are N", waiting::full),
+    ("waiting: an id used again", waiting::used),
+    ("waiting: stages", waiting::stages),
+    ("waiting: messages of another id", waiting::others),
+    ("waiting: closing", waiting::closing),
+    ("waiting: the record that is freed", waiting::freed),
+    ("waiting: the first free record", waiting::first_free),
+    ("waiting: what a record tells", waiting::told),
+    ("mixed returns: the largest sheets", mixed::large),
     ("tops: a circuit told by hand", tops::circuit),
     ("tops: values past the top", tops::past),
     ("tops: bits that are none", tops::no_bits),
@@ -183,11 +209,13 @@ fn fixed(tally: &mut Tally) {
     tally.blocks(&mut suite, "whole runs", SCRIPT_BLOCKS, scripts::script);
     tally.blocks(&mut suite, "single calls", CASE_BLOCKS, scripts::cases);
     tally.blocks(&mut suite, "pools made by the library", POOL_BLOCKS, pools::pool);
+    tally.blocks(&mut suite, "mixed returns", MIXED_BLOCKS, mixed::mix);
     let verdict = threads(&mut suite);
     tally.note("whole runs in threads", verdict);
-    let seeds = [SCRIPT_BLOCKS, CASE_BLOCKS, POOL_BLOCKS].map(|(blocks, size)| blocks * size);
-    let [runs, cases, pools] = seeds;
-    println!("{runs} whole runs, {cases} lists of single calls, {pools} pools: {} calls", suite.calls - before);
+    let plans = [SCRIPT_BLOCKS, CASE_BLOCKS, POOL_BLOCKS, MIXED_BLOCKS];
+    let [runs, cases, pools, mixes] = plans.map(|(blocks, size)| blocks * size);
+    let calls = suite.calls - before;
+    println!("{runs} whole runs, {cases} lists of single calls, {pools} pools, {mixes} mixes: {calls} calls");
     tally.note("every answer of every function", coverage(&suite));
     recounts(tally);
     println!("{} calls in all", suite.calls);
@@ -197,7 +225,8 @@ fn fixed(tally: &mut Tally) {
 fn seed(suite: &mut Suite, seed: u64) -> Verdict {
     scripts::script(suite, seed)?;
     scripts::cases(suite, seed)?;
-    pools::pool(suite, seed)
+    pools::pool(suite, seed)?;
+    mixed::mix(suite, seed)
 }
 
 /// Seeds from a million on until the time is up; stops at the first failure.

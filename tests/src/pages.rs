@@ -3,6 +3,7 @@
 use std::ptr::null_mut;
 
 const PAGE: usize = 4096;
+const READ: i32 = 1;
 const READ_WRITE: i32 = 3;
 const PRIVATE_ANONYMOUS: i32 = 0x22;
 
@@ -34,6 +35,11 @@ impl Pages {
         assert!(unsafe { mprotect(pages.start(), length, READ_WRITE) } == 0, "no memory");
         pages.bytes_mut().copy_from_slice(bytes);
         pages
+    }
+
+    /// From here on the bytes may be read only.
+    pub fn seal(&mut self) {
+        assert!(unsafe { mprotect(self.start(), self.length, READ) } == 0, "pages to be read");
     }
 
     fn start(&self) -> *mut u8 {

@@ -5,7 +5,7 @@ use second::gen::{self, Rng};
 use second::{Column, Sheet};
 
 use crate::calls::{plain, Call, Done, Function};
-use crate::layout::{put_word, word};
+use crate::layout::{id_of, put_word, word, Parts};
 use crate::suite::{Suite, Verdict};
 use crate::tops::{largest_sheet, longest_sheet};
 
@@ -15,7 +15,7 @@ pub struct Pool {
     pub bytes: Vec<u8>,
     pub sheet: Sheet,
     pub returns: u32,
-    pub tables: Vec<Vec<u8>>,
+    pub tables: Vec<Parts>,
 }
 
 /// What a call gave that must be done.
@@ -29,9 +29,7 @@ impl Pool {
         let sheet = Sheet::read(bytes).map_err(|number| format!("the test's sheet is refused {number}"))?;
         let mut tables = Vec::new();
         for own in 0..servers {
-            let sheet = bytes.to_vec();
-            let call = Call { servers, own, sheet, returns, room: 8_512, ..Call::of(Function::Open) };
-            tables.push(done(suite, &call)?.bytes);
+            tables.push(done(suite, &Call::open_table(servers, own, bytes, returns))?.table);
         }
         Ok(Pool { servers, bytes: bytes.to_vec(), sheet, returns, tables })
     }
@@ -52,8 +50,13 @@ impl Pool {
         Ok(made.chunks(self.sheet.share_length()).map(<[u8]>::to_vec).collect())
     }
 
+    /// Makes a return of values that are all 0.
+    pub fn make_zeros(&self, suite: &mut Suite, rng: &mut Rng, id: u32) -> Result<Vec<Vec<u8>>, String> {
+        self.make(suite, rng, id, &vec![0; 4 * self.sheet.columns().len()])
+    }
+
     /// A call on one table, which must be done; keeps the table.
-    fn at(&mut self, suite: &mut Suite, server: usize, call: Call) -> Result<Done, String> {
+    pub fn at(&mut self, suite: &mut Suite, server: usize, call: Call) -> Result<Done, String> {
         let table = std::mem::take(&mut self.tables[server]);
         let done = done(suite, &Call { table, ..call })?;
         self.tables[server] = done.table.clone();
@@ -70,21 +73,22 @@ impl Pool {
         Ok(joined)
     }
 
-    /// Every server takes round one; gives the joined round-two messages.
+    /// Every server takes round one of the messages' id; gives the joined round-two messages.
     pub fn round_one(&mut self, suite: &mut Suite, joined: &[u8]) -> Result<Vec<u8>, String> {
         let mut next = Vec::new();
         for server in 0..self.tables.len() {
-            let call = Call { message: joined.to_vec(), room: 14, ..Call::of(Function::RoundOne) };
+            let (id, message) = (id_of(joined), joined.to_vec());
+            let call = Call { id, message, room: 14, ..Call::of(Function::RoundOne) };
             next.extend(self.at(suite, server, call)?.bytes);
         }
         Ok(next)
     }
 
-    /// Every server takes round two; gives the verdicts.
+    /// Every server takes round two of the messages' id; gives the verdicts.
     pub fn round_two(&mut self, suite: &mut Suite, joined: &[u8]) -> Result<Vec<u64>, String> {
         let mut verdicts = Vec::new();
         for server in 0..self.tables.len() {
-            let call = Call { message: joined.to_vec(), ..Call::of(Function::RoundTwo) };
+            let call = Call { id: id_of(joined), message: joined.to_vec(), ..Call::of(Function::RoundTwo) };
             verdicts.extend(self.at(suite, server, call)?.numbers);
         }
         Ok(verdicts)
@@ -97,10 +101,10 @@ impl Pool {
         self.round_two(suite, &joined)
     }
 
-    /// Drops the return that waits at every server.
-    pub fn drop(&mut self, suite: &mut Suite) -> Verdict {
+    /// Drops the return that waits under an id at every server.
+    pub fn drop(&mut self, suite: &mut Suite, id: u32) -> Verdict {
         for server in 0..self.tables.len() {
-            self.at(suite, server, Call::of(Function::Drop))?;
+            self.at(suite, server, Call { id, ..Call::of(Function::Drop) })?;
         }
         Ok(())
     }
@@ -142,7 +146,7 @@ fn honest(suite: &mut Suite, rng: &mut Rng, pool: &mut Pool, count: u32) -> Verd
         let (r, s) = gen::pair(rng, pool.sheet.multiplications());
         if rng.chance(10) {
             pool.share(suite, &shares, r, s)?;
-            pool.drop(suite)?;
+            pool.drop(suite, id)?;
             continue;
         }
         let verdicts = pool.judge(suite, &shares, r, s)?;
@@ -185,27 +189,41 @@ pub fn large(suite: &mut Suite) -> Verdict {
     Ok(())
 }
 
-/// N = 1,024 returns are decided, none twice, and not one more.
+/// N = 1,024 returns are decided, the last eight of them mixed, none twice, and not one more.
 pub fn many(suite: &mut Suite) -> Verdict {
     let mut rng = suite.seed(1024);
     let mut pool = Pool::open(suite, 2, &[17], 1024)?;
+    let last = pool.make(suite, &mut rng, 1024, &[1, 0, 0, 0])?[0].clone();
+    let mut waiting = Vec::new();
     for id in 0..1024 {
         let shares = pool.make(suite, &mut rng, id, &[1, 0, 0, 0])?;
         if id == 1023 {
             used(suite, &pool, &shares[0])?;
         }
-        if pool.judge(suite, &shares, 5, 6)? != [1, 1] {
+        if id >= 1016 {
+            waiting.push(pool.share(suite, &shares, 5, 6)?);
+        } else if pool.judge(suite, &shares, 5, 6)? != [1, 1] {
             return Err(format!("the honest return {id} is not accepted"));
         }
     }
-    let shares = pool.make(suite, &mut rng, 1024, &[1, 0, 0, 0])?;
-    let (table, message) = (pool.tables[0].clone(), shares[0].clone());
-    suite.number(&Call { table, message, r: 5, s: 6, room: 14, ..Call::of(Function::Share) }, 13)?;
+    // A ninth: 11 while eight wait, 13 from then on.
+    let one_more = |pool: &Pool| {
+        let (table, message) = (pool.tables[0].clone(), last.clone());
+        Call { table, message, r: 5, s: 6, room: 14, ..Call::of(Function::Share) }
+    };
+    suite.number(&one_more(&pool), 11)?;
+    for joined in waiting.iter().rev() {
+        let joined = pool.round_one(suite, joined)?;
+        if pool.round_two(suite, &joined)? != [1, 1] {
+            return Err("an honest return that waited with others is not accepted".to_string());
+        }
+        suite.number(&one_more(&pool), 13)?;
+    }
     let join = pool.close(suite)?;
     suite.gives(&join, plain(vec![1024], vec![0, 4, 0, 0]))
 }
 
-/// With 1,023 returns decided, the first, the last and those between are used.
+/// With 1,023 returns decided or waiting, the first, the last and those between are used.
 fn used(suite: &mut Suite, pool: &Pool, share: &[u8]) -> Verdict {
     let ids =
         [(0, 10), (1, 10), (254, 10), (255, 10), (256, 10), (257, 10), (511, 10), (512, 10), (1022, 10), (1023, 0)];

@@ -5,6 +5,8 @@ use second::gen::{Answer, Case, CaseAnswer, Exchange, Rng, Script, Shelf};
 use second::Verdict::{Accepted, Rejected};
 
 use crate::calls::{plain, Call, Done, Function, Outcome};
+use crate::damage::damaged;
+use crate::layout::{run_length, Parts};
 use crate::reference;
 use crate::suite::{Suite, Verdict};
 
@@ -16,16 +18,15 @@ const MAKE_ROOM: usize = 25_000;
 const SHELF_ROOM: usize = 262_200;
 
 /// A script's call on a table.
-fn step_call(step: &Step, table: &[u8]) -> Call {
-    let (function, message, r, s, room): (_, &[u8], _, _, _) = match step {
-        Step::Share { message, r, s, room } => (Function::Share, message, *r, *s, *room),
-        Step::RoundOne { joined, room } => (Function::RoundOne, joined, 0, 0, *room),
-        Step::RoundTwo { joined } => (Function::RoundTwo, joined, 0, 0, 0),
-        Step::Drop => (Function::Drop, &[], 0, 0, 0),
-        Step::Close { room } => (Function::Close, &[], 0, 0, *room),
+fn step_call(step: &Step, table: &Parts) -> Call {
+    let call = match step.clone() {
+        Step::Share { message, r, s, room } => Call { message, r, s, room, ..Call::of(Function::Share) },
+        Step::RoundOne { id, joined, room } => Call { id, message: joined, room, ..Call::of(Function::RoundOne) },
+        Step::RoundTwo { id, joined } => Call { id, message: joined, ..Call::of(Function::RoundTwo) },
+        Step::Drop { id } => Call { id, ..Call::of(Function::Drop) },
+        Step::Close { room } => Call { room, ..Call::of(Function::Close) },
     };
-    let (table, message, room) = (table.to_vec(), message.to_vec(), room.min(MESSAGE_ROOM));
-    Call { table, message, r, s, room, ..Call::of(function) }
+    Call { table: table.clone(), room: call.room.min(MESSAGE_ROOM), ..call }
 }
 
 /// Whether an outcome is the script's answer, but for the table, of which the script does not tell.
@@ -40,40 +41,21 @@ fn same(outcome: &Outcome, answer: &Answer) -> bool {
     }
 }
 
-/// The tables of a script, each at the start of a slice that is sometimes longer.
-fn open_tables(suite: &mut Suite, rng: &mut Rng, script: &Script) -> Result<Vec<Vec<u8>>, String> {
+/// The tables of a script. The bytes and the numbers stand each at the start of a slice that is sometimes longer.
+fn open_tables(suite: &mut Suite, rng: &mut Rng, script: &Script) -> Result<Vec<Parts>, String> {
     let mut tables = Vec::new();
     for own in 0..script.servers {
-        let extra = rng.pick([0, 0, 1, 40]);
-        let (servers, returns) = (script.servers, script.limit);
-        let room = 10_000;
-        let sheet = script.sheet.clone();
-        let mut call = Call { servers, own, sheet, returns, room, ..Call::of(Function::Open) };
-        let needed = suite.check(&call)?.map_or(0, |done| done.bytes.len());
+        let mut call = Call::open_table(script.servers, own, &script.sheet, script.limit);
+        let needed = suite.check(&call)?.map_or(0, |done| done.table.bytes.len());
         call.room = needed;
-        let mut table = suite.check(&call)?.map_or(Vec::new(), |done| done.bytes);
-        table.extend(rng.bytes(extra));
+        call.elements = run_length(&script.sheet);
+        let mut table = suite.check(&call)?.map_or(Parts::default(), |done| done.table);
+        let (bytes, numbers) = (rng.pick([0, 0, 1, 40]), rng.pick([0, 0, 1, 11]));
+        table.bytes.extend(rng.bytes(bytes));
+        table.elements.extend((0..numbers).map(|_| rng.next_u64() as u32));
         tables.push(table);
     }
     Ok(tables)
-}
-
-/// A table with a few bytes changed, mostly in its header, or cut, or longer.
-fn damaged(rng: &mut Rng, table: &[u8]) -> Vec<u8> {
-    let mut damaged = table.to_vec();
-    match rng.below(8) {
-        0 => damaged.truncate(rng.index(table.len())),
-        1 => damaged.truncate(table.len() - 1 - rng.index(4)),
-        2 => damaged.extend(rng.bytes(9)),
-        _ => {
-            for _ in 0..rng.between(1, 3) {
-                let (head, any, byte) = (rng.index(12), rng.index(table.len()), rng.next_u64() as u8);
-                let at = rng.pick([head, any]);
-                damaged[at] = rng.pick([damaged[at] ^ 1, damaged[at] ^ 128, byte]);
-            }
-        }
-    }
-    damaged
 }
 
 /// One script: every answer is that of the second program, and every table that of the layout. Now and then a call is
@@ -132,9 +114,7 @@ fn case_call(case: &Case) -> Option<Call> {
             let room = room.min(MAKE_ROOM);
             Call { sheet, servers, id, values, random, room, ..Call::of(Function::Make) }
         }
-        Case::Open { servers, own, sheet, limit } => {
-            Call { servers, own, sheet, returns: limit, room: 8_600, ..Call::of(Function::Open) }
-        }
+        Case::Open { servers, own, sheet, limit } => Call::open_table(servers, own, &sheet, limit),
         Case::Join { servers, sheet, limit, joined, room } => {
             let room = room.min(MESSAGE_ROOM);
             Call { servers, sheet, returns: limit, message: joined, room, ..Call::of(Function::Join) }

@@ -1,10 +1,13 @@
 //! The header's constants and sizes against document 01 and the lengths that the library writes.
 
+use std::mem::{align_of, offset_of, size_of};
+
 use second::gen;
 
-use crate::calls::{Call, Function};
+use crate::calls::{Call, Function, MOST_BYTES, MOST_ELEMENTS};
 use crate::counts::told;
 use crate::fixture::Fixture;
+use crate::layout::Slot;
 use crate::suite::{Suite, Verdict};
 use crate::tops::top_column;
 
@@ -15,7 +18,9 @@ extern "C" {
     fn sizes_make(servers: u32, share_bytes: u32) -> usize;
     fn sizes_totals(published: u32) -> usize;
     fn sizes_join(published: u32) -> usize;
-    fn sizes_table(sheet_len: usize, published: u32, share_bytes: u32, returns: u32) -> usize;
+    fn sizes_table(sheet_len: usize, published: u32, returns: u32) -> usize;
+    fn sizes_elements(share_bytes: u32) -> usize;
+    fn sizes_slot(number: u32) -> usize;
     fn sizes_shelf(messages: u32, width: u32) -> usize;
     fn sizes_every_return(columns: u32, lists: u32) -> usize;
     fn sizes_constant(number: u32) -> usize;
@@ -25,9 +30,38 @@ extern "C" {
 const REFUSALS: [usize; 17] = [0, 1, 2, 3, 4, 5, 6, 7, 8, 9, 10, 11, 12, 13, 14, 17, 19];
 
 /// After the refusals: p, S from and to, the most returns and entries, the column kinds, a round message's length, and
-/// the largest sizes; R and W at most, and their product; lists at most, and their bytes.
-const CONSTANTS: [usize; 20] =
-    [2_147_483_647, 2, 8, 1024, 256, 17, 18, 19, 20, 14, 426, 7161, 3102, 1030, 8512, 64, 4096, 262_144, 4096, 196_608];
+/// the largest sizes; R and W at most, and their product; lists at most, and their bytes; slots, the most numbers, and a
+/// slot's stages.
+const CONSTANTS: [usize; 25] = [
+    2_147_483_647,
+    2,
+    8,
+    1024,
+    256,
+    17,
+    18,
+    19,
+    20,
+    14,
+    426,
+    7161,
+    3102,
+    1030,
+    5388,
+    64,
+    4096,
+    262_144,
+    4096,
+    196_608,
+    8,
+    6208,
+    0,
+    1,
+    2,
+];
+
+/// A slot: its size and alignment; where id, stage, r, s, d and e stand, and their sizes.
+const SLOT: [usize; 14] = [40, 8, 0, 4, 8, 16, 24, 32, 4, 4, 8, 8, 8, 8];
 
 pub fn constants(_: &mut Suite) -> Verdict {
     for (number, must) in REFUSALS.into_iter().chain(CONSTANTS).enumerate() {
@@ -38,17 +72,36 @@ pub fn constants(_: &mut Suite) -> Verdict {
     }
     // The longest circuit has the constant at its start, the longest table 1,024 returns and no column before its own.
     let circuit = 5 + most(|sheet| second::circuit(sheet, usize::MAX).map_or(0, |bytes| bytes.len() - 5));
-    let table = unsafe { sizes_table(0, 0, 30, 1024) } + most(table);
-    let is = [most(<[u8]>::len), circuit, table];
-    if is != [426, 7161, 8512] {
-        return Err(format!("the longest sheet, circuit and table have {is:?} bytes"));
+    let table = unsafe { sizes_table(0, 0, 1024) } + most(table);
+    let share = 30 + most(|sheet| second::sizes(sheet).map_or(0, |told| told.share_bytes - 30));
+    let is = [most(<[u8]>::len), circuit, table, share, unsafe { sizes_elements(share as u32) }];
+    if is != [426, 7161, MOST_BYTES, 3102, MOST_ELEMENTS] {
+        return Err(format!(
+            "the longest sheet, circuit, table, share and run of numbers have {is:?} bytes or numbers"
+        ));
     }
     Ok(())
 }
 
-/// What a column adds to the length of a table.
+/// A slot in C is the slot that the tests lend.
+pub fn slot(_: &mut Suite) -> Verdict {
+    for (number, must) in SLOT.into_iter().enumerate() {
+        let is = unsafe { sizes_slot(number as u32) };
+        if is != must {
+            return Err(format!("size or place {number} of a slot in pool.h is {is}\nmust be {must}"));
+        }
+    }
+    let rust = [size_of::<Slot>(), align_of::<Slot>(), offset_of!(Slot, id), offset_of!(Slot, stage)];
+    let numbers = [offset_of!(Slot, r), offset_of!(Slot, s), offset_of!(Slot, d), offset_of!(Slot, e)];
+    if [rust, numbers].concat() != SLOT[..8] {
+        return Err(format!("the tests' slot has {rust:?} and {numbers:?}"));
+    }
+    Ok(())
+}
+
+/// What a column adds to the length of a table's bytes.
 fn table(sheet: &[u8]) -> usize {
-    second::sizes(sheet).map_or(0, |told| sheet.len() + 4 * told.published + told.share_bytes - 30)
+    second::sizes(sheet).map_or(0, |told| sheet.len() + 4 * told.published)
 }
 
 /// The most that a length adds up to over all sheets: a best choice of columns for every number of entries. Tops of one
@@ -78,11 +131,13 @@ pub fn lengths(suite: &mut Suite) -> Verdict {
         let returns = rng.between(2, u64::from(greatest).min(9)) as u32;
         let servers = rng.between(2, 8) as u32;
         let fixture = Fixture::new(suite, servers, 0, &sheet, returns)?;
-        let (totals, table) = unsafe { (sizes_totals(published), sizes_table(sheet.len(), published, share, returns)) };
-        let is = (share as usize, totals, table);
-        if is != (fixture.share.len(), fixture.closing, fixture.idle.len()) {
+        let (totals, table) = unsafe { (sizes_totals(published), sizes_table(sheet.len(), published, returns)) };
+        let is = (share as usize, totals, table, unsafe { sizes_elements(share) });
+        let idle = &fixture.idle;
+        if is != (fixture.share.len(), fixture.closing, idle.bytes.len(), idle.elements.len()) {
             return Err(format!("the sizes of a share, totals and a table are {is:?} for the sheet {sheet:?}"));
         }
+        opens(suite, &Call { room: table, elements: is.3, ..Call::open_table(servers, 0, &sheet, returns) })?;
         let (values, random) = unsafe { (vec![0; sizes_values(columns)], vec![0; sizes_random(servers, share)]) };
         let (room, joined) = unsafe { (sizes_make(servers, share), sizes_join(published)) };
         let make = Call { sheet: sheet.clone(), servers, values, random, room, ..Call::of(Function::Make) };
@@ -94,6 +149,13 @@ pub fn lengths(suite: &mut Suite) -> Verdict {
         suite.number(&Call { room: joined - 1, ..join }, 14)?;
     }
     Ok(())
+}
+
+/// Opening is done with these rooms, and refused with less of either.
+fn opens(suite: &mut Suite, open: &Call) -> Verdict {
+    suite.number(open, 0)?;
+    suite.number(&Call { room: open.room - 1, ..open.clone() }, 14)?;
+    suite.number(&Call { elements: open.elements - 1, ..open.clone() }, 14)
 }
 
 /// The run that is stored and the room for it have the size that the header's macro gives.

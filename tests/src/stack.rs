@@ -34,7 +34,7 @@ fn depth(top: usize) -> usize {
 
 /// The stack that a call uses together with what carries it out.
 fn used(suite: &mut Suite, call: &Call) -> Result<usize, String> {
-    let expected = crate::reference::answer(call);
+    let expected = suite.reference(call)?;
     let top = mark();
     suite.gives(call, expected)?;
     Ok(depth(top))
@@ -57,8 +57,10 @@ fn measure(suite: &mut Suite) -> Result<usize, String> {
     number.extend([19, 5]);
     for sheet in [vec![17; 256], [18, 64].repeat(4), number, longest_sheet(), largest_sheet()] {
         let fixture = Fixture::new(suite, 8, 7, &sheet, 2)?;
+        let among = Fixture::among(suite, 8, 0, &sheet, 9, 7)?;
         let read = second::Sheet::read(&sheet).map_err(|number| format!("refused {number}"))?;
         let mut calls = fixture.calls();
+        calls.extend(among.calls());
         calls.push(Call { sheet: sheet.clone(), ..Call::of(Function::Sizes) });
         calls.push(Call { sheet: sheet.clone(), room: 7_161, ..Call::of(Function::Circuit) });
         let message = second::circuit(&sheet, 7_161).unwrap_or_default();
@@ -66,7 +68,7 @@ fn measure(suite: &mut Suite) -> Result<usize, String> {
         let values = gen::values(&mut rng, &read);
         let random = gen::elements(&mut rng, 7 * read.share_elements() + 4);
         calls.push(Call { sheet: sheet.clone(), servers: 8, values, random, room: 25_000, ..Call::of(Function::Make) });
-        calls.push(Call { sheet: sheet.clone(), servers: 8, returns: 2, room: 8_512, ..Call::of(Function::Open) });
+        calls.push(Call::open_table(8, 0, &sheet, 2));
         let length = read.closing_length();
         let message = (0..8).flat_map(|k| [&[36, k][..], &vec![0; length - 2]].concat()).collect();
         calls.push(Call { sheet, servers: 8, returns: 2, message, room: 1_024, ..Call::of(Function::Join) });

@@ -7,9 +7,9 @@ use std::sync::atomic::{AtomicPtr, AtomicU64, Ordering};
 use second::gen::Rng;
 
 use crate::calls::{Call, Done, Function, Outcome};
-use crate::layout::holds_no_return;
+use crate::layout::{sound, SLOTS};
 use crate::reference;
-use crate::tell::told;
+use crate::tell::{compared, told};
 
 /// The call that the library is carrying out, for a report when it never comes back.
 static CURRENT: AtomicPtr<Call> = AtomicPtr::new(null_mut());
@@ -42,8 +42,13 @@ impl Suite {
 
     /// Carries out a call whose answer must be that of the reference; gives it.
     pub fn check(&mut self, call: &Call) -> Result<Outcome, String> {
-        let expected = reference::answer(call);
+        let expected = self.reference(call)?;
         self.expect(call, expected)
+    }
+
+    /// The answer of the reference.
+    pub fn reference(&self, call: &Call) -> Result<Outcome, String> {
+        reference::answer(call).map_err(|text| self.failure(call, &text))
     }
 
     /// Carries out a call whose answer must be this; gives it.
@@ -54,14 +59,14 @@ impl Suite {
         self.calls += 1;
         match actual {
             Ok(Ok(done)) if !erased(call, &done) => {
-                Err(self.failure(call, &format!("{}\nmust hold no return", told(&Ok(done)))))
+                Err(self.failure(call, &format!("{}\nmust hold nothing of a decided return", told(&Ok(done)))))
             }
             Ok(actual) if actual == expected => {
                 let number = expected.as_ref().err().copied().unwrap_or(0);
                 *self.seen.entry((call.function, number)).or_insert(0) += 1;
                 Ok(actual)
             }
-            Ok(actual) => Err(self.failure(call, &format!("{}\nmust be {}", told(&actual), told(&expected)))),
+            Ok(actual) => Err(self.failure(call, &compared(&actual, &expected))),
             Err(changed) => Err(self.failure(call, &changed)),
         }
     }
@@ -78,7 +83,7 @@ impl Suite {
 
     /// Carries out a call that must be refused with this number, or done for 0, by the reference too.
     pub fn number(&mut self, call: &Call, number: u32) -> Verdict {
-        let expected = reference::answer(call);
+        let expected = self.reference(call)?;
         if expected.as_ref().err().copied().unwrap_or(0) != number {
             let text = format!("the second program says {}\nmust be {number}", told(&expected));
             return Err(self.failure(call, &text));
@@ -100,13 +105,19 @@ impl Suite {
     }
 }
 
-/// Whether a call that is done and leaves its table idle or closed has left zeros where a return would wait. Closing
-/// leaves what stood there: zeros, but where a test wrote something else.
+/// Whether an opened table is empty, and whether a call that decides a return has left one record fewer that waits, and
+/// zeros in the record and in its place.
 fn erased(call: &Call, done: &Done) -> bool {
+    let Some(table) = sound(&done.table) else {
+        return !matches!(call.function, Function::Open | Function::RoundTwo | Function::Drop);
+    };
+    let freed = |record: &usize| call.table.slots[*record].stage != 0 && done.table.slots[*record].stage == 0;
     match call.function {
-        Function::Open => holds_no_return(&done.bytes),
-        Function::RoundTwo | Function::Drop => holds_no_return(&done.table),
-        Function::Close => holds_no_return(&done.table) || !holds_no_return(&call.table),
+        Function::Open => (0..SLOTS).all(|record| table.empty(&done.table, record)),
+        Function::RoundTwo | Function::Drop => {
+            let freed: Vec<usize> = (0..SLOTS).filter(freed).collect();
+            freed.len() == 1 && table.empty(&done.table, freed[0])
+        }
         _ => true,
     }
 }

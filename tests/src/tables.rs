@@ -1,60 +1,68 @@
-//! Damaged tables. What a call does is told by the layout's rule; the limits are told here by hand as well.
-
-use second::gen::Hex;
+//! Damaged tables: their bytes. What a call does is told by the layout's rule; the limits are told here by hand as well.
 
 use crate::calls::{Call, Function};
+use crate::damage::damaged;
 use crate::fixture::Fixture;
-use crate::layout::{put_short, put_word, sound, word, Table};
-use crate::reference::own_message;
+use crate::layout::{id_of, put_short, put_word, read, sound, Parts, Slot};
 use crate::suite::{Suite, Verdict};
 use crate::tops::top_column;
 
 const P: u64 = 2_147_483_647;
 
 /// All five calls on a table, each with the arguments that fit its own stage.
-pub fn all_calls(suite: &mut Suite, calls: &[Call], table: &[u8]) -> Verdict {
+pub fn all_calls(suite: &mut Suite, calls: &[Call], table: &Parts) -> Verdict {
     for call in calls {
-        suite.agrees(&Call { table: table.to_vec(), ..call.clone() })?;
+        suite.agrees(&Call { table: table.clone(), ..call.clone() })?;
     }
     Ok(())
 }
 
 /// All five calls refuse a table.
-pub fn refused(suite: &mut Suite, calls: &[Call], table: &[u8]) -> Verdict {
-    calls.iter().try_for_each(|call| suite.number(&Call { table: table.to_vec(), ..call.clone() }, 11))
+pub fn refused(suite: &mut Suite, calls: &[Call], table: &Parts) -> Verdict {
+    calls.iter().try_for_each(|call| suite.number(&Call { table: table.clone(), ..call.clone() }, 11))
 }
 
-/// The call that a table's stage takes is done: a share, round one, round two, and none where it is closed.
-pub fn taken(suite: &mut Suite, calls: &[Call], table: &[u8]) -> Verdict {
-    match calls.get(usize::from(table[1])) {
-        Some(call) if table[1] < 3 => suite.number(&Call { table: table.to_vec(), ..call.clone() }, 0),
-        _ => refused(suite, calls, table),
+/// The call that a stage takes is done with a change of its table: share, round one, round two, drop.
+pub fn taken(suite: &mut Suite, fixture: &Fixture, change: impl Fn(&mut Parts)) -> Verdict {
+    for call in [fixture.share(), fixture.round_one(), fixture.round_two(), fixture.drop()] {
+        suite.number(&Call { table: call.table.with(&change), ..call }, 0)?;
     }
+    Ok(())
 }
 
-/// Fixtures of small and larger sheets.
-fn fixtures(suite: &mut Suite) -> Result<Vec<Fixture>, String> {
-    let sheets: [(u32, usize, &[u8], u32); 4] =
+/// A table with one change, which is sound or is refused by every call.
+pub fn changed(suite: &mut Suite, calls: &[Call], table: &Parts, good: bool, change: impl Fn(&mut Parts)) -> Verdict {
+    let damaged = table.with(change);
+    if sound(&damaged).is_some() != good {
+        return Err(format!("the layout's rule says {} of {damaged}", !good));
+    }
+    if !good {
+        return refused(suite, calls, &damaged);
+    }
+    all_calls(suite, calls, &damaged)
+}
+
+/// Fixtures of small and larger sheets: no other return waits, or others do.
+pub fn fixtures(suite: &mut Suite) -> Result<Vec<Fixture>, String> {
+    let alone: [(u32, usize, &[u8], u32); 4] =
         [(2, 0, &[17], 2), (3, 1, &[18, 2, 19, 1], 3), (8, 7, &[19, 3, 17], 4), (2, 1, &[20, 2, 0, 0, 0], 2)];
-    sheets.into_iter().map(|(servers, own, sheet, returns)| Fixture::new(suite, servers, own, sheet, returns)).collect()
-}
-
-pub fn stages(fixture: &Fixture) -> [&Vec<u8>; 5] {
-    [&fixture.idle, &fixture.first, &fixture.second, &fixture.closed, &fixture.full]
+    let mut all = Vec::new();
+    for (servers, own, sheet, returns) in alone {
+        all.push(Fixture::new(suite, servers, own, sheet, returns)?);
+    }
+    all.push(Fixture::among(suite, 2, 1, &[17], 9, 7)?);
+    all.push(Fixture::among(suite, 3, 0, &[19, 1, 17], 12, 2)?);
+    Ok(all)
 }
 
 /// Every byte of the header and the sheet set to every value, in every stage.
 pub fn headers(suite: &mut Suite) -> Verdict {
     for fixture in fixtures(suite)? {
         let calls = fixture.calls();
-        for table in stages(&fixture) {
-            let end = 12 + usize::from(table[10]);
-            for at in 0..end {
-                for value in 0..=255 {
-                    let mut damaged = table.clone();
-                    damaged[at] = value;
-                    all_calls(suite, &calls, &damaged)?;
-                }
+        for table in fixture.stages() {
+            let end = 12 + usize::from(table.bytes[10]);
+            for (at, value) in (0..end).flat_map(|at| (0..=255).map(move |value| (at, value))) {
+                all_calls(suite, &calls, &table.with(|table| table.bytes[at] = value))?;
             }
         }
     }
@@ -65,12 +73,11 @@ pub fn headers(suite: &mut Suite) -> Verdict {
 pub fn bodies(suite: &mut Suite) -> Verdict {
     for fixture in fixtures(suite)? {
         let calls = fixture.calls();
-        for table in stages(&fixture) {
-            for at in 12 + usize::from(table[10])..table.len() {
-                for value in [0, 1, 127, 128, 255, table[at] ^ 1, table[at] ^ 128] {
-                    let mut damaged = table.clone();
-                    damaged[at] = value;
-                    all_calls(suite, &calls, &damaged)?;
+        for table in fixture.stages() {
+            for at in 12 + usize::from(table.bytes[10])..table.bytes.len() {
+                let old = table.bytes[at];
+                for value in [0, 1, 127, 128, 255, old ^ 1, old ^ 128] {
+                    all_calls(suite, &calls, &table.with(|table| table.bytes[at] = value))?;
                 }
             }
         }
@@ -78,61 +85,47 @@ pub fn bodies(suite: &mut Suite) -> Verdict {
     Ok(())
 }
 
-/// A table cut short is refused 11 at every length; in a longer slice it works, and the rest is kept.
+/// Bytes cut short are refused 11 at every length; in a longer slice they work, and the rest is kept.
 pub fn lengths(suite: &mut Suite) -> Verdict {
     for fixture in fixtures(suite)? {
         let calls = fixture.calls();
-        for table in stages(&fixture) {
-            for length in 0..table.len() {
-                refused(suite, &calls, &table[..length])?;
+        for table in fixture.stages() {
+            for length in 0..table.bytes.len() {
+                refused(suite, &calls, &table.with(|table| table.bytes.truncate(length)))?;
             }
             for more in [1, 3, 4, 100] {
-                let longer = [&table[..], &vec![0xA5; more]].concat();
-                all_calls(suite, &calls, &longer)?;
+                all_calls(suite, &calls, &table.with(|table| table.bytes.extend(vec![0xA5; more])))?;
             }
         }
-        for table in [&fixture.idle, &fixture.first, &fixture.second] {
-            taken(suite, &calls, &[&table[..], &[1; 77]].concat())?;
-        }
+        taken(suite, &fixture, |_| ())?;
+        taken(suite, &fixture, |table| table.bytes.extend([1; 77]))?;
     }
     Ok(())
 }
 
-/// A table with one change, which is sound or is refused by every call.
-fn changed(suite: &mut Suite, calls: &[Call], table: &[u8], good: bool, change: impl Fn(&mut [u8])) -> Verdict {
-    let mut damaged = table.to_vec();
-    change(&mut damaged);
-    if sound(&damaged).is_some() != good {
-        return Err(format!("the layout's rule says {} of {}", !good, Hex(&damaged)));
-    }
-    if !good {
-        refused(suite, calls, &damaged)?;
-    }
-    all_calls(suite, calls, &damaged)
-}
-
-/// Header numbers at both sides.
+/// Header numbers at both sides. 1 was the first byte of the tables of an earlier layout.
 pub fn header_limits(suite: &mut Suite) -> Verdict {
     for fixture in fixtures(suite)? {
         let calls = fixture.calls();
-        for table in stages(&fixture) {
-            let own = table[3];
-            for kind in [0, 2, 3, 36, 255] {
-                changed(suite, &calls, table, false, |t| t[0] = kind)?;
+        for table in fixture.stages() {
+            let (all, own) = (table.bytes[2], table.bytes[3]);
+            for kind in [0, 1, 3, 36, 255] {
+                changed(suite, &calls, table, false, |t| t.bytes[0] = kind)?;
             }
-            for stage in [4, 5, 127, 128, 255] {
-                changed(suite, &calls, table, false, |t| t[1] = stage)?;
+            for stage in [2, 3, 127, 128, 255] {
+                changed(suite, &calls, table, false, |t| t.bytes[1] = stage)?;
             }
+            refused(suite, &calls, &table.with(|t| t.bytes[1] = 1))?;
             for (servers, good) in [(0, false), (1, false), (own.max(1) + 1, true), (8, true), (9, false), (255, false)]
             {
-                changed(suite, &calls, table, good, |t| t[2] = servers)?;
+                changed(suite, &calls, table, good, |t| t.bytes[2] = servers)?;
             }
-            for (number, good) in [(0, true), (table[2] - 1, true), (table[2], false), (255, false)] {
-                changed(suite, &calls, table, good, |t| t[3] = number)?;
+            for (number, good) in [(0, true), (all - 1, true), (all, false), (255, false)] {
+                changed(suite, &calls, table, good, |t| t.bytes[3] = number)?;
             }
             for returns in [0, 1025, 1028, 65_535] {
-                let longer = [&table[..], &vec![0; 5_000]].concat();
-                changed(suite, &calls, &longer, false, |t| put_short(t, 4, returns))?;
+                let longer = table.with(|t| t.bytes.extend(vec![0; 5_000]));
+                changed(suite, &calls, &longer, false, |t| put_short(&mut t.bytes, 4, returns))?;
             }
             counts(suite, &calls, table)?;
         }
@@ -140,63 +133,36 @@ pub fn header_limits(suite: &mut Suite) -> Verdict {
     Ok(())
 }
 
-/// Decided at most N, and below N where a return waits; accepted at most decided.
-fn counts(suite: &mut Suite, calls: &[Call], table: &[u8]) -> Verdict {
-    let returns = usize::from(table[4]);
-    let most = if matches!(table[1], 1 | 2) { returns - 1 } else { returns };
+/// Decided and waiting at most N together; accepted at most decided.
+fn counts(suite: &mut Suite, calls: &[Call], table: &Parts) -> Verdict {
+    let returns = usize::from(table.bytes[4]);
+    let most = returns - table.waiting();
     for decided in [0, 1, most, most + 1, returns + 1, 256, 65_535] {
-        changed(suite, calls, table, decided <= most, |t| {
-            put_short(t, 6, decided);
-            put_short(t, 8, 0);
-        })?;
-        changed(suite, calls, table, decided <= most, |t| {
-            put_short(t, 6, decided);
-            put_short(t, 8, decided);
-        })?;
-        changed(suite, calls, table, false, |t| {
-            put_short(t, 6, decided);
-            put_short(t, 8, (decided + 1).max(256));
-        })?;
-    }
-    changed(suite, calls, table, false, |t| put_short(t, 8, usize::from(t[6]) + 1))
-}
-
-/// Totals, and what waits, at both sides of p; where nothing waits the same places are free.
-pub fn numbers(suite: &mut Suite) -> Verdict {
-    for fixture in fixtures(suite)? {
-        let calls = fixture.calls();
-        for table in stages(&fixture) {
-            let Some(read) = sound(table) else {
-                return Err("a table that the library wrote is not sound".to_string());
-            };
-            for at in (read.at.totals..read.at.ids).step_by(4) {
-                edges(suite, &calls, table, at, false)?;
-            }
-            for at in (read.at.ids..read.at.wait + 4).step_by(4) {
-                edges(suite, &calls, table, at, true)?;
-            }
-            for at in (read.at.wait + 8..read.at.length).step_by(4) {
-                edges(suite, &calls, table, at, !read.waits())?;
-            }
-            challenge(suite, &calls, table, &read)?;
+        for (accepted, good) in [(0, true), (decided, true), ((decided + 1).max(256), false)] {
+            changed(suite, calls, table, good && decided <= most, |t| {
+                put_short(&mut t.bytes, 6, decided);
+                put_short(&mut t.bytes, 8, accepted);
+            })?;
         }
     }
-    Ok(())
+    let decided = usize::from(table.bytes[6]);
+    changed(suite, calls, table, false, |t| put_short(&mut t.bytes, 8, decided + 1))
 }
 
-/// A number of a table at both sides of p: sound below p, and from p on only where the place is free.
-fn edges(suite: &mut Suite, calls: &[Call], table: &[u8], at: usize, free: bool) -> Verdict {
-    for (number, element) in [(0, true), (1, true), (P - 1, true), (P, false), (P + 1, false), ((1 << 32) - 1, false)] {
-        changed(suite, calls, table, free || element, |t| put_word(t, at, number))?;
-    }
-    Ok(())
-}
-
-/// r of the return that waits, at both sides.
-fn challenge(suite: &mut Suite, calls: &[Call], table: &[u8], read: &Table) -> Verdict {
-    let m = read.sheet.multiplications() as u64;
-    for (r, good) in [(0, false), (m, false), (m + 1, true), (P - 1, true), (P, false), ((1 << 32) - 1, false)] {
-        changed(suite, calls, table, good || !read.waits(), |t| put_word(t, read.at.wait + 4, r))?;
+/// Totals at both sides of p; ids are free.
+pub fn numbers(suite: &mut Suite) -> Verdict {
+    let numbers = [(0, true), (1, true), (P - 1, true), (P, false), (P + 1, false), ((1 << 32) - 1, false)];
+    for fixture in fixtures(suite)? {
+        let calls = fixture.calls();
+        for table in fixture.stages() {
+            let places = read(table)?.at;
+            for at in (places.totals..places.length).step_by(4) {
+                for (number, element) in numbers {
+                    let good = element || at >= places.ids;
+                    changed(suite, &calls, table, good, |t| put_word(&mut t.bytes, at, number))?;
+                }
+            }
+        }
     }
     Ok(())
 }
@@ -205,15 +171,18 @@ fn challenge(suite: &mut Suite, calls: &[Call], table: &[u8], read: &Table) -> V
 pub fn sheets(suite: &mut Suite) -> Verdict {
     let fixture = Fixture::new(suite, 2, 1, &[19, 20, 17], 2)?;
     let calls = fixture.calls();
-    for table in stages(&fixture) {
+    for table in fixture.stages() {
         for sheet in [[20, 20, 17], [19, 25, 17], [19, 0, 17], [17, 17, 18], [18, 1, 17], [18, 65, 17]] {
-            changed(suite, &calls, table, false, |t| t[12..15].copy_from_slice(&sheet))?;
+            changed(suite, &calls, table, false, |t| t.bytes[12..15].copy_from_slice(&sheet))?;
         }
         for length in [0, 1, 300, 65_535] {
-            changed(suite, &calls, table, false, |t| put_short(t, 10, length))?;
+            changed(suite, &calls, table, false, |t| put_short(&mut t.bytes, 10, length))?;
         }
-        // Longer slices in which wider sheets and more returns find room.
-        let longer = [&table[..], &vec![0; 6_000]].concat();
+        // Longer parts in which wider sheets and more returns find room.
+        let longer = table.with(|t| {
+            t.bytes.extend(vec![0; 6_000]);
+            t.elements.extend(vec![0; 6_208]);
+        });
         for (bits, returns, good) in
             [(24, 128, true), (24, 129, false), (23, 256, true), (23, 257, false), (21, 1024, true)]
         {
@@ -230,66 +199,54 @@ pub fn sheets(suite: &mut Suite) -> Verdict {
     Ok(())
 }
 
-/// Writes an idle table of a sheet with N over what a slice holds.
-fn fresh(slice: &mut [u8], sheet: &[u8], returns: usize) {
+/// Writes a table of a sheet with N, in which nothing waits, over what the parts hold.
+fn fresh(parts: &mut Parts, sheet: &[u8], returns: usize) {
+    let slice = &mut parts.bytes;
     slice.fill(0);
-    slice[..4].copy_from_slice(&[1, 0, 2, 1]);
+    slice[..4].copy_from_slice(&[2, 0, 2, 1]);
     put_short(slice, 4, returns);
     put_short(slice, 10, sheet.len());
     slice[12..12 + sheet.len()].copy_from_slice(sheet);
+    parts.slots.fill(Slot::default());
+    parts.elements.fill(0);
 }
 
-/// What is free is not read: numbers that do not belong to the share make round messages of their own.
-pub fn free(suite: &mut Suite) -> Verdict {
+/// A table may have decided the id that waits; ids past those decided are not used.
+pub fn ids(suite: &mut Suite) -> Verdict {
     for fixture in fixtures(suite)? {
-        let Some(read) = sound(&fixture.first) else {
-            return Err("a table that the library wrote is not sound".to_string());
-        };
-        for k in 3..7 {
-            let mut first = fixture.first.clone();
-            let at = read.at.wait + 4 * k;
-            let number = (word(&first, at) + 5) % P;
-            put_word(&mut first, at, number);
-            // The own message now holds the changed d or e.
-            let mut call = Call { table: first.clone(), ..fixture.round_one() };
-            let own = own_message(&read, &first);
-            let place = 14 * usize::from(first[3]);
-            suite.number(&call, if k < 5 { 12 } else { 0 })?;
-            call.message[place..place + 14].copy_from_slice(&own);
-            suite.number(&call, 0)?;
+        let at = read(&fixture.idle)?.at.ids;
+        let decided = usize::from(fixture.idle.bytes[6]);
+        let id = u64::from(id_of(&fixture.share));
+        let mut call = fixture.share();
+        put_word(&mut call.table.bytes, at + 4 * decided, id);
+        suite.number(&call, 0)?;
+        put_word(&mut call.table.bytes, at, id);
+        suite.number(&call, 10)?;
+        for call in [fixture.round_one(), fixture.round_two(), fixture.drop()] {
+            let table = call.table.with(|t| put_word(&mut t.bytes, at, id));
+            suite.number(&Call { table, ..call }, 0)?;
         }
-        decided_twice(suite, &fixture)?;
-        not_waiting(suite, &fixture)?;
     }
     Ok(())
 }
 
-/// A table may have decided the id that waits; ids past those decided are not used.
-fn decided_twice(suite: &mut Suite, fixture: &Fixture) -> Verdict {
-    let Some(read) = sound(&fixture.idle) else {
-        return Err("a table that the library wrote is not sound".to_string());
-    };
-    let id = word(&fixture.share, 1);
-    let mut call = fixture.share();
-    put_word(&mut call.table, read.at.ids + 4 * read.decided, id);
-    suite.number(&call, 0)?;
-    put_word(&mut call.table, read.at.ids, id);
-    suite.number(&call, 10)?;
-    let mut drop = Call { table: fixture.second.clone(), ..Call::of(Function::Drop) };
-    put_word(&mut drop.table, read.at.ids, id);
-    suite.number(&drop, 0)
-}
-
-/// Where no return waits, anything may stand in its place: a share is taken over it, and closing leaves it.
-fn not_waiting(suite: &mut Suite, fixture: &Fixture) -> Verdict {
-    for call in [fixture.share(), fixture.close()] {
-        let Some(read) = sound(&call.table) else {
-            return Err("a table that the library wrote is not sound".to_string());
-        };
-        for byte in [1, 127, 255] {
-            let mut table = call.table.clone();
-            table[read.at.wait..].fill(byte);
-            suite.number(&Call { table, ..call.clone() }, 0)?;
+/// All calls at tables with random damage in any of the parts.
+pub fn random(suite: &mut Suite) -> Verdict {
+    for (number, fixture) in fixtures(suite)?.into_iter().enumerate() {
+        let mut rng = suite.seed(700 + number as u64);
+        let calls = fixture.calls();
+        for _ in 0..400 {
+            for table in fixture.stages() {
+                let table = damaged(&mut rng, table);
+                all_calls(suite, &calls, &table)?;
+                // The records' own ids are named too.
+                let id = rng.pick([0, 3, 7]);
+                let id = table.slots.get(id).map_or(0, |slot| slot.id);
+                for function in [Function::RoundOne, Function::RoundTwo, Function::Drop] {
+                    let (table, message) = (table.clone(), fixture.joined_one.clone());
+                    suite.agrees(&Call { table, id, message, room: 14, ..Call::of(function) })?;
+                }
+            }
         }
     }
     Ok(())

@@ -9,7 +9,7 @@ use crate::fixture::Fixture;
 use crate::layout::put_short;
 use crate::pools::Pool;
 use crate::suite::{Suite, Verdict};
-use crate::tables::{all_calls, refused, stages, taken};
+use crate::tables::{all_calls, refused, taken};
 
 /// A column with a top: the kind byte and the 4-byte top.
 pub fn top_column(top: u32) -> Vec<u8> {
@@ -146,13 +146,10 @@ pub fn no_bits(suite: &mut Suite) -> Verdict {
 pub fn tables(suite: &mut Suite) -> Verdict {
     let fixture = Fixture::new(suite, 2, 1, &longest_sheet(), 2)?;
     let calls = fixture.calls();
-    for table in [&fixture.idle, &fixture.first, &fixture.second] {
-        taken(suite, &calls, table)?;
-    }
-    for table in stages(&fixture) {
+    taken(suite, &fixture, |_| ())?;
+    for table in fixture.stages() {
         for length in (0..1200).chain([65_535 - 85, 65_535]) {
-            let mut damaged = table.clone();
-            put_short(&mut damaged, 10, length);
+            let damaged = table.with(|table| put_short(&mut table.bytes, 10, length));
             if length < 426 && length % 5 != 0 {
                 refused(suite, &calls, &damaged)?;
             }
@@ -160,12 +157,10 @@ pub fn tables(suite: &mut Suite) -> Verdict {
         }
         for (at, value) in [12, 13, 16, 17, 267, 268, 432, 437].into_iter().flat_map(|at| [0, 1, 255].map(|v| (at, v)))
         {
-            let mut damaged = table.clone();
-            damaged[at] = value;
-            all_calls(suite, &calls, &damaged)?;
+            all_calls(suite, &calls, &table.with(|table| table.bytes[at] = value))?;
         }
-        for length in [11, 12, 267, 268, 437, 438, table.len() - 1] {
-            refused(suite, &calls, &table[..length])?;
+        for length in [11, 12, 267, 268, 437, 438, table.bytes.len() - 1] {
+            refused(suite, &calls, &table.with(|table| table.bytes.truncate(length)))?;
         }
     }
     Ok(())

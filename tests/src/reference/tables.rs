@@ -1,0 +1,184 @@
+//! The first answer to opening and to the calls on a table: from the layout of the three parts and the second program's
+//! judging.
+
+use second::field::{self, P};
+use second::{fast, refusal, Sheet};
+
+use super::{round_message, ROUND};
+use crate::calls::{Call, Done, Outcome};
+use crate::layout::{self, id_of, put_short, put_word, word, Parts, Slot, Table};
+
+/// A call on a table that is done.
+fn done(numbers: Vec<u64>, bytes: Vec<u8>, table: Parts) -> Outcome {
+    Ok(Done { numbers, bytes, table })
+}
+
+pub fn open(call: &Call) -> Outcome {
+    fast::open(call.servers, call.own, &call.sheet, call.returns)?;
+    let sheet = Sheet::read(&call.sheet)?;
+    let table = layout::opened(call.servers, call.own, &call.sheet, &sheet, call.returns);
+    if call.room < table.bytes.len() || call.slots != layout::SLOTS || call.elements < table.elements.len() {
+        return Err(refusal::ROOM);
+    }
+    done(Vec::new(), Vec::new(), table)
+}
+
+/// What the lent table says, where it is sound and not closed.
+fn open_table(call: &Call) -> Result<Table, u32> {
+    layout::sound(&call.table).filter(|table| !table.closed).ok_or(refusal::STAGE)
+}
+
+/// The record of the named id, where it is in this stage.
+fn awaits(call: &Call, stage: u32) -> Result<usize, u32> {
+    let record = call.table.record(call.id).filter(|&record| call.table.slots[record].stage == stage);
+    record.ok_or(refusal::STAGE)
+}
+
+pub fn share(call: &Call) -> Outcome {
+    let table = open_table(call)?;
+    let free = call.table.slots.iter().position(|slot| slot.stage == layout::FREE).ok_or(refusal::STAGE)?;
+    if table.decided + call.table.waiting() >= table.returns {
+        return Err(refusal::FULL);
+    }
+    // A fresh table knows no ids, so that 10 has to be put between 8 and 9.
+    let mut fresh = fast::open(table.servers, table.own, &table.bytes, table.returns as u32)?;
+    let taken = fast::share(&mut fresh, &call.message, call.r, call.s, call.room);
+    if let Err(number @ (refusal::SHARE | refusal::ELEMENT)) = taken {
+        return Err(number);
+    }
+    let id = id_of(&call.message);
+    let decided = layout::words(&call.table.bytes, table.at.ids, table.decided);
+    if decided.contains(&u64::from(id)) || call.table.record(id).is_some() {
+        return Err(refusal::DECIDED);
+    }
+    let message = taken?;
+    let mut after = call.table.clone();
+    let (d, e) = (word(&message, 6), word(&message, 10));
+    after.slots[free] = Slot { id, stage: layout::AWAITS_ONE, r: call.r, s: call.s, d, e };
+    let mut place: Vec<u64> = layout::words(&call.message, 6, table.at.share);
+    let (rh, tau) = hidden(&mut fresh, &table, &place, &message);
+    place.extend([rh, tau]);
+    for (to, number) in table.place_mut(&mut after, free).iter_mut().zip(place) {
+        *to = number as u32;
+    }
+    done(Vec::new(), message.to_vec(), after)
+}
+
+/// r × h(r) and tau of a share that the second program just took. They are read off its round two message when the
+/// other servers' numbers are 0: then d and e are its own.
+fn hidden(fresh: &mut fast::Table, table: &Table, share: &[u64], message: &[u8]) -> (u64, u64) {
+    let mut joined = Vec::new();
+    for server in 0..table.servers {
+        if server == table.own {
+            joined.extend_from_slice(message);
+        } else {
+            joined.extend_from_slice(&message[..5]);
+            joined.push(server as u8);
+            joined.extend([0; 8]);
+        }
+    }
+    let next = fast::round_one(fresh, id_of(message), &joined, ROUND).expect("sound messages");
+    let whole = sigma(table, share, word(message, 6), word(message, 10), 0);
+    (field::sub(whole, word(&next, 6)), word(&next, 10))
+}
+
+/// sigma_i = d × b_i + e × a_i + c_i - r × h_i(r), plus d × e at server 0, of the elements of a share.
+fn sigma(table: &Table, share: &[u64], d: u64, e: u64, rh: u64) -> u64 {
+    let [a, b, c] = [3, 2, 1].map(|back| share[table.at.share - back]);
+    let own = field::sum([field::mul(d, b), field::mul(e, a), c]);
+    let first = if table.own == 0 { field::mul(d, e) } else { 0 };
+    field::sub(field::add(own, first), rh)
+}
+
+/// The message that the table wrote for the round that a record awaits.
+pub fn own_message(table: &Table, parts: &Parts, record: usize) -> Vec<u8> {
+    let Slot { id, stage, d, e, .. } = parts.slots[record];
+    let numbers: Vec<u64> = table.place(parts, record).iter().map(|&number| u64::from(number)).collect();
+    let (rh, tau) = (numbers[table.at.share], numbers[table.at.share + 1]);
+    match stage {
+        layout::AWAITS_ONE => round_message(34, id, table.own, d, e),
+        _ => round_message(35, id, table.own, sigma(table, &numbers, d, e, rh), tau),
+    }
+}
+
+/// The sums of joined round messages for a record, or refusal 12.
+fn sums(table: &Table, parts: &Parts, record: usize, joined: &[u8]) -> Result<(u64, u64), u32> {
+    let mine = own_message(table, parts, record);
+    if joined.len() != ROUND * table.servers as usize {
+        return Err(refusal::JOINED);
+    }
+    let mut sums = (0, 0);
+    for (server, message) in joined.chunks(ROUND).enumerate() {
+        let (x, y) = (word(message, 6), word(message, 10));
+        let alike = message[..5] == mine[..5] && usize::from(message[5]) == server && x < P && y < P;
+        let own = server != table.own as usize || message == mine;
+        if !alike || !own {
+            return Err(refusal::JOINED);
+        }
+        sums = (field::add(sums.0, x), field::add(sums.1, y));
+    }
+    Ok(sums)
+}
+
+pub fn round_one(call: &Call) -> Outcome {
+    let table = open_table(call)?;
+    let record = awaits(call, layout::AWAITS_ONE)?;
+    let (d, e) = sums(&table, &call.table, record, &call.message)?;
+    if call.room < ROUND {
+        return Err(refusal::ROOM);
+    }
+    let mut after = call.table.clone();
+    after.slots[record] = Slot { stage: layout::AWAITS_TWO, d, e, ..after.slots[record] };
+    done(Vec::new(), own_message(&table, &after, record), after)
+}
+
+pub fn round_two(call: &Call) -> Outcome {
+    let table = open_table(call)?;
+    let record = awaits(call, layout::AWAITS_TWO)?;
+    let accepted = sums(&table, &call.table, record, &call.message)? == (0, 0);
+    let mut after = call.table.clone();
+    if accepted {
+        for (k, entry) in table.sheet.published_entries().enumerate() {
+            let at = table.at.totals + 4 * k;
+            let share = u64::from(table.place(&call.table, record)[entry]);
+            let total = field::add(word(&after.bytes, at), share);
+            put_word(&mut after.bytes, at, total);
+        }
+    }
+    decide(&table, &mut after, record, usize::from(accepted));
+    done(vec![u64::from(accepted)], Vec::new(), after)
+}
+
+/// The return of a record is decided: its id is noted, all else of it is erased, and the record is free.
+fn decide(table: &Table, after: &mut Parts, record: usize, accepted: usize) {
+    let id = after.slots[record].id;
+    put_word(&mut after.bytes, table.at.ids + 4 * table.decided, id.into());
+    put_short(&mut after.bytes, 6, table.decided + 1);
+    put_short(&mut after.bytes, 8, table.accepted + accepted);
+    after.slots[record] = Slot::default();
+    table.place_mut(after, record).fill(0);
+}
+
+pub fn drop(call: &Call) -> Outcome {
+    let table = open_table(call)?;
+    let record = call.table.record(call.id).ok_or(refusal::STAGE)?;
+    let mut after = call.table.clone();
+    decide(&table, &mut after, record, 0);
+    done(Vec::new(), Vec::new(), after)
+}
+
+pub fn close(call: &Call) -> Outcome {
+    let table = open_table(call)?;
+    if call.table.waiting() > 0 {
+        return Err(refusal::STAGE);
+    }
+    if call.room < table.sheet.closing_length() {
+        return Err(refusal::ROOM);
+    }
+    let mut bytes = vec![36, table.own as u8];
+    bytes.extend((table.accepted as u32).to_le_bytes());
+    bytes.extend(&call.table.bytes[table.at.totals..table.at.ids]);
+    let mut after = call.table.clone();
+    after.bytes[1] = layout::CLOSED;
+    done(Vec::new(), bytes, after)
+}

@@ -1,6 +1,6 @@
 // Results: every call that is measured, on every side, and what was written compared.
 use crate::pool;
-use crate::setting::{settings, Setting, ID, RETURNS, ROOM};
+use crate::setting::{settings, Setting, ID, LIMIT, ROOM};
 use crate::tables::{Lent, Ours, Table};
 use second::{fast, gen, Circuit, Sheet};
 
@@ -49,9 +49,9 @@ fn stateless(count: &mut Count, x: &Setting) {
     }
     let mut totals = vec![0; ROOM];
     for room in [ROOM, 0] {
-        let ours = pool::join(x.servers, &x.sheet, RETURNS, &x.closings, &mut totals[..room]);
+        let ours = pool::join(x.servers, &x.sheet, LIMIT, &x.closings, &mut totals[..room]);
         let ours = ours.map(|(accepted, n)| (accepted, totals[..n].to_vec()));
-        let second = fast::join(x.servers, &x.sheet, RETURNS, &x.closings, room);
+        let second = fast::join(x.servers, &x.sheet, LIMIT, &x.closings, room);
         count.same("join", x, ours, second.map(|joined| (joined.count, joined.totals)));
     }
 }
@@ -59,24 +59,28 @@ fn stateless(count: &mut Count, x: &Setting) {
 // What a call gives, in bytes, or the number of its refusal.
 type Answer = Result<Vec<u8>, u32>;
 
-// The answers of a server's calls by their names: one return dropped, and one taken to the totals; each call also where
-// it is refused, by the stage or, for opening, by the own number.
+// The answers of a server's calls by their names: eight returns wait, one is dropped, and another taken in its record to the
+// totals; each call also where it is refused, by the stage or, for opening, by the own number.
 fn answers<T: Table>(x: &Setting, own: u32) -> Vec<(&'static str, Answer)> {
     let mut said = vec![("open", T::fresh(x, x.servers).map(|_| Vec::new()))];
     let mut t = T::fresh(x, own).expect("a table");
     let mut other = x.share(own).to_vec();
-    other[1] ^= 1;
-    for message in [&other, x.share(own), x.share(own)] {
-        said.push(("share", t.share(message, x.r, x.s).map(Vec::from)));
-        if *message == *other {
-            said.extend([t.drop(), t.drop()].map(|done| ("drop", done.map(|()| Vec::new()))));
-        }
+    for id in 100..108 {
+        other[1..5].copy_from_slice(&u32::to_le_bytes(id));
+        said.push(("share", t.share(&other, x.r, x.s).map(Vec::from)));
     }
-    let ones = [t.round_one(&x.ones), t.round_one(&x.ones)];
+    said.push(("share", t.share(x.share(own), x.r, x.s).map(Vec::from)));
+    said.extend([t.drop(103), t.drop(103)].map(|done| ("drop", done.map(|()| Vec::new()))));
+    for message in [x.share(own), x.share(own)] {
+        said.push(("share", t.share(message, x.r, x.s).map(Vec::from)));
+    }
+    let ones = [t.round_one(101, &x.ones), t.round_one(ID, &x.ones), t.round_one(ID, &x.ones)];
     said.extend(ones.map(|message| ("round one", message.map(Vec::from))));
-    let twos = [t.round_two(&x.twos), t.round_two(&x.twos)];
+    let twos = [t.round_two(101, &x.twos), t.round_two(ID, &x.twos), t.round_two(ID, &x.twos)];
     said.extend(twos.map(|verdict| ("round two", verdict.map(|accepted| vec![u8::from(accepted)]))));
     let mut out = vec![0xa5; ROOM];
+    said.push(("close", t.close(&mut out).map(Vec::from)));
+    said.extend((100..108).map(|id| ("drop", t.drop(id).map(|()| Vec::new()))));
     for _ in 0..2 {
         said.push(("close", t.close(&mut out).map(Vec::from)));
     }

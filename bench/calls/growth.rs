@@ -6,7 +6,7 @@ use crate::tables::Ours;
 use crate::{speed, timing};
 
 fn share(x: &Setting) -> f64 {
-    series::<Ours>(x, Call::Share)
+    series::<Ours>(x, Call::Share, 0)
 }
 
 fn make(x: &Setting) -> f64 {

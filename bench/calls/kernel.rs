@@ -69,7 +69,7 @@ fn make(w: &mut Space, m: usize) {
 fn of_share(x: &Setting) -> [f64; 2] {
     let mut w = Space::new();
     let mut kernel = || share(&mut w, x.gates, x.tests, x.r as u32, x.s as u32);
-    timing::medians([&mut || series::<Ours>(x, Call::Share), &mut || timing::time(&mut kernel, calls_for(x))])
+    timing::medians([&mut || series::<Ours>(x, Call::Share, 0), &mut || timing::time(&mut kernel, calls_for(x))])
 }
 
 // Nanoseconds of making, and of its kernel.

@@ -1,26 +1,28 @@
-// What every call on a table does first: it looks the table over, since a table in bytes may be unsound (refusal 11).
-// Timed by calls that the stage does not allow and that are refused right after it: a drop on an idle table, a close on
-// one where a return waits.
-use crate::setting::{Setting, RETURNS};
-use crate::{pool, timing};
+// What every call on a table does first: it looks the table over, since a table that is lent may be unsound (refusal 11).
+// Timed by a drop of an id that does not wait, which is refused right after it: with none, one and eight returns waiting.
+use crate::series::waiting;
+use crate::setting::Setting;
+use crate::tables::{Ours, Table};
+use crate::timing;
 use std::hint::black_box;
 
-fn times(x: &Setting) -> [f64; 2] {
-    let mut idle = vec![0; x.table_bytes(RETURNS as usize)];
-    let mut out = vec![0; 14 + x.totals_bytes()];
-    pool::open(x.servers, 0, &x.sheet, RETURNS, &mut idle).expect("opened");
-    let mut waiting = idle.clone();
-    pool::share(&mut waiting, x.share(0), x.r, x.s, &mut out).expect("taken");
-    timing::compare(&mut || assert!(pool::drop(black_box(&mut idle)) == Err(11)), &mut || {
-        assert!(pool::close(black_box(&mut waiting), &mut out) == Err(11))
-    })
+fn times(x: &Setting) -> [f64; 3] {
+    let mut tables = [0, 1, 8].map(|n| waiting::<Ours>(x, n));
+    let [none, one, eight] = &mut tables;
+    let look = |t: &mut Ours| assert!(black_box(t).drop(7) == Err(11));
+    let calls = 512;
+    timing::medians([
+        &mut || timing::time(&mut || look(none), calls),
+        &mut || timing::time(&mut || look(one), calls),
+        &mut || timing::time(&mut || look(eight), calls),
+    ])
 }
 
 pub fn run(settings: &[Setting]) {
-    println!("nanoseconds to look a table over");
-    println!("{:<14} {:>4} {:>11} {:>16}", "sheet", "M", "idle", "a return waits");
+    println!("nanoseconds to look a table over, by the returns that wait");
+    println!("{:<14} {:>4} {:>11} {:>11} {:>11}", "sheet", "M", "none", "one", "eight");
     for x in settings.iter().filter(|x| x.servers == 2) {
-        let [idle, waiting] = times(x);
-        println!("{:<14} {:>4} {idle:>11.1} {waiting:>16.1}", x.name, x.gates);
+        let [none, one, eight] = times(x);
+        println!("{:<14} {:>4} {none:>11.1} {one:>11.1} {eight:>11.1}", x.name, x.gates);
     }
 }

@@ -3,6 +3,8 @@
 #[path = "../../include/pool.rs"]
 mod c;
 
+pub use c::pool_slot as Slot;
+
 fn done<T>(answer: u32, result: T) -> Result<T, u32> {
     if answer == 0 {
         Ok(result)
@@ -34,44 +36,96 @@ pub fn make(sheet: &[u8], servers: u32, id: u32, values: &[u8], random: &[u8], o
     done(answer, written)
 }
 
-pub fn open(servers: u32, own: u32, sheet: &[u8], returns: u32, table: &mut [u8]) -> Result<usize, u32> {
-    let (at, room, mut written) = (table.as_mut_ptr(), table.len(), 0);
-    let answer = unsafe { c::pool_open(servers, own, sheet.as_ptr(), sheet.len(), returns, at, room, &mut written) };
-    done(answer, written)
-}
-
-pub fn share(table: &mut [u8], message: &[u8], r: u64, s: u64, out: &mut [u8]) -> Result<usize, u32> {
-    let (t, m, mut written) = (table, message, 0);
+// The calls on a table take its three parts: bytes, the records of the returns that wait, the numbers of their shares.
+pub fn open(
+    servers: u32,
+    own: u32,
+    sheet: &[u8],
+    returns: u32,
+    table: &mut [u8],
+    slots: &mut [Slot],
+    elements: &mut [u32],
+) -> Result<usize, u32> {
+    let (t, x, e, mut written) = (table, slots, elements, 0);
     let answer = unsafe {
-        c::pool_share(t.as_mut_ptr(), t.len(), m.as_ptr(), m.len(), r, s, out.as_mut_ptr(), out.len(), &mut written)
+        let (s, n) = (sheet.as_ptr(), sheet.len());
+        let (slots, records, elements, numbers) = (x.as_mut_ptr(), x.len(), e.as_mut_ptr(), e.len());
+        let (table, room) = (t.as_mut_ptr(), t.len());
+        c::pool_open(servers, own, s, n, returns, table, room, slots, records, elements, numbers, &mut written)
     };
     done(answer, written)
 }
 
-pub fn round_one(table: &mut [u8], joined: &[u8], out: &mut [u8]) -> Result<usize, u32> {
-    let (t, j, mut written) = (table, joined, 0);
+pub fn share(
+    table: &[u8],
+    slots: &mut [Slot],
+    elements: &mut [u32],
+    message: &[u8],
+    r: u64,
+    s: u64,
+    out: &mut [u8],
+) -> Result<usize, u32> {
+    let (t, x, e, m, mut written) = (table, slots, elements, message, 0);
     let answer = unsafe {
-        c::pool_round_one(t.as_mut_ptr(), t.len(), j.as_ptr(), j.len(), out.as_mut_ptr(), out.len(), &mut written)
+        let (slots, records, elements, numbers) = (x.as_mut_ptr(), x.len(), e.as_mut_ptr(), e.len());
+        let (table, len, message, n) = (t.as_ptr(), t.len(), m.as_ptr(), m.len());
+        let (to, room) = (out.as_mut_ptr(), out.len());
+        c::pool_share(table, len, slots, records, elements, numbers, message, n, r, s, to, room, &mut written)
+    };
+    done(answer, written)
+}
+
+pub fn round_one(
+    table: &[u8],
+    slots: &mut [Slot],
+    elements: &[u32],
+    id: u32,
+    joined: &[u8],
+    out: &mut [u8],
+) -> Result<usize, u32> {
+    let (t, x, e, j, mut written) = (table, slots, elements, joined, 0);
+    let answer = unsafe {
+        let (slots, records, elements, numbers) = (x.as_mut_ptr(), x.len(), e.as_ptr(), e.len());
+        let (table, len, joined, n) = (t.as_ptr(), t.len(), j.as_ptr(), j.len());
+        let (to, room) = (out.as_mut_ptr(), out.len());
+        c::pool_round_one(table, len, slots, records, elements, numbers, id, joined, n, to, room, &mut written)
     };
     done(answer, written)
 }
 
 // Whether the return is accepted.
-pub fn round_two(table: &mut [u8], joined: &[u8]) -> Result<bool, u32> {
-    let mut accepted = 0;
-    let (at, len) = (table.as_mut_ptr(), table.len());
-    let answer = unsafe { c::pool_round_two(at, len, joined.as_ptr(), joined.len(), &mut accepted) };
+pub fn round_two(
+    table: &mut [u8],
+    slots: &mut [Slot],
+    elements: &mut [u32],
+    id: u32,
+    joined: &[u8],
+) -> Result<bool, u32> {
+    let (t, x, e, j, mut accepted) = (table, slots, elements, joined, 0);
+    let answer = unsafe {
+        let (slots, records, elements, numbers) = (x.as_mut_ptr(), x.len(), e.as_mut_ptr(), e.len());
+        let (table, len, joined, n) = (t.as_mut_ptr(), t.len(), j.as_ptr(), j.len());
+        c::pool_round_two(table, len, slots, records, elements, numbers, id, joined, n, &mut accepted)
+    };
     done(answer, accepted == 1)
 }
 
-pub fn drop(table: &mut [u8]) -> Result<(), u32> {
-    done(unsafe { c::pool_drop(table.as_mut_ptr(), table.len()) }, ())
+pub fn drop(table: &mut [u8], slots: &mut [Slot], elements: &mut [u32], id: u32) -> Result<(), u32> {
+    let (t, x, e) = (table, slots, elements);
+    let answer = unsafe {
+        let (slots, records, elements, numbers) = (x.as_mut_ptr(), x.len(), e.as_mut_ptr(), e.len());
+        c::pool_drop(t.as_mut_ptr(), t.len(), slots, records, elements, numbers, id)
+    };
+    done(answer, ())
 }
 
-pub fn close(table: &mut [u8], out: &mut [u8]) -> Result<usize, u32> {
-    let mut written = 0;
-    let (at, len) = (table.as_mut_ptr(), table.len());
-    let answer = unsafe { c::pool_close(at, len, out.as_mut_ptr(), out.len(), &mut written) };
+pub fn close(table: &mut [u8], slots: &[Slot], elements: &[u32], out: &mut [u8]) -> Result<usize, u32> {
+    let (t, x, e, mut written) = (table, slots, elements, 0);
+    let answer = unsafe {
+        let (slots, records, elements, numbers) = (x.as_ptr(), x.len(), e.as_ptr(), e.len());
+        let (to, room) = (out.as_mut_ptr(), out.len());
+        c::pool_close(t.as_mut_ptr(), t.len(), slots, records, elements, numbers, to, room, &mut written)
+    };
     done(answer, written)
 }
 

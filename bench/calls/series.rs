@@ -1,8 +1,9 @@
 // The calls on a table. They change it, so each is timed where returns come one after another, on every side alike. A
-// table is opened for N = 64 returns. For each id the calls that lead up to the measured one are made unmeasured, then
-// the measured one is timed, then the return is dropped unmeasured. After 64 returns a fresh table is opened,
+// table is opened for 64 returns and seven more. For each id the calls that lead up to the measured one are made unmeasured,
+// then the measured one is timed, then the return is dropped unmeasured. After 64 returns a fresh table is opened,
 // unmeasured. So a share looks through 32 decided ids on the average, and the fast form's list of ids grows as it does
-// in use (a clone of its table would have to make room at every call). Closing alone is timed on a table that is
+// in use (a clone of its table would have to make room at every call). Where eight returns wait, seven others were taken
+// before and stay in the first wait. Closing alone is timed on a table that is
 // restored before each call, unmeasured: by a copy of the bytes, or by a clone. No call may be refused.
 //
 // The clock is read once for several tables in the same state, and the time of an empty turn is taken off. At M = 256
@@ -72,18 +73,29 @@ fn taken<A>(answer: Result<A, u32>) {
 }
 
 // Takes one return on each table; gives the time of the measured call.
-fn one_return<T: Table>(x: &Setting, call: Call, m: &Messages, tables: &mut [T]) -> f64 {
+fn one_return<T: Table>(x: &Setting, call: Call, id: u32, m: &Messages, tables: &mut [T]) -> f64 {
     let share = all(tables, |t| taken(t.share(&m.share, x.r, x.s)));
     if call == Call::Drop || call == Call::Share {
-        let drop = all(tables, |t| taken(t.drop()));
+        let drop = all(tables, |t| taken(t.drop(id)));
         return if call == Call::Drop { drop } else { share };
     }
-    let one = all(tables, |t| taken(t.round_one(&m.ones)));
+    let one = all(tables, |t| taken(t.round_one(id, &m.ones)));
     if call == Call::RoundOne {
-        all(tables, |t| taken(t.drop()));
+        all(tables, |t| taken(t.drop(id)));
         return one;
     }
-    all(tables, |t| assert!(t.round_two(&m.twos) == Ok(true)))
+    all(tables, |t| assert!(t.round_two(id, &m.twos) == Ok(true)))
+}
+
+// A table of server 0 in which so many returns wait, under ids of their own.
+pub fn waiting<T: Table>(x: &Setting, others: u32) -> T {
+    let mut table = T::fresh(x, 0).expect("opened");
+    let mut share = x.share(0).to_vec();
+    for id in 1000..1000 + others {
+        put_id(&mut share, usize::MAX, id);
+        taken(table.share(&share, x.r, x.s));
+    }
+    table
 }
 
 // Opens in the place of each table.
@@ -99,9 +111,9 @@ fn closings<T: Table>(tables: &mut [T], was: &T, out: &mut [u8]) -> f64 {
     all(tables, |t| taken(t.close(out)))
 }
 
-// Nanoseconds for a call, over the returns of one table.
-pub fn series<T: Table>(x: &Setting, call: Call) -> f64 {
-    let fresh = || T::fresh(x, 0).expect("opened");
+// Nanoseconds for a call, over the returns of one table in which so many others wait.
+pub fn series<T: Table>(x: &Setting, call: Call, others: u32) -> f64 {
+    let fresh = || waiting::<T>(x, others);
     let mut tables: Vec<T> = (0..tables_for(x)).map(|_| fresh()).collect();
     let was = fresh();
     let (mut messages, mut out) = (Messages::of(x), vec![0; ROOM]);
@@ -112,7 +124,7 @@ pub fn series<T: Table>(x: &Setting, call: Call) -> f64 {
         spent += match call {
             Call::Open => openings(x, &mut tables),
             Call::Close => closings(&mut tables, &was, &mut out),
-            _ => one_return(x, call, &messages, &mut tables),
+            _ => one_return(x, call, id, &messages, &mut tables),
         };
     }
     (spent - empty) / calls_for(x) as f64

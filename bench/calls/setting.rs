@@ -3,7 +3,9 @@
 use second::gen::{self, Rng};
 use second::{fast, field::P, Sheet};
 
+// The returns that a series takes one after another, and the N of its tables: there is room for others that wait.
 pub const RETURNS: u32 = 64;
+pub const LIMIT: u32 = RETURNS + 7;
 pub const ROOM: usize = 32768;
 
 pub struct Setting {
@@ -37,14 +39,14 @@ impl Setting {
         let (r, s) = (rng.between(read.multiplications() as u64 + 1, P - 1), rng.below(P));
         let shares = fast::make(&sheet, servers, ID, &values, &random, ROOM).expect("a return");
         let mut tables: Vec<fast::Table> =
-            (0..servers).map(|own| fast::open(servers, own, &sheet, RETURNS).expect("a table")).collect();
+            (0..servers).map(|own| fast::open(servers, own, &sheet, LIMIT).expect("a table")).collect();
         let messages = shares.chunks(read.share_length());
         let ones = tables.iter_mut().zip(messages).flat_map(|(t, m)| fast::share(t, m, r, s, 14).expect("round one"));
         let ones: Vec<u8> = ones.collect();
-        let twos = tables.iter_mut().flat_map(|t| fast::round_one(t, &ones, 14).expect("round two"));
+        let twos = tables.iter_mut().flat_map(|t| fast::round_one(t, ID, &ones, 14).expect("round two"));
         let twos: Vec<u8> = twos.collect();
         let closings = tables.iter_mut().flat_map(|t| {
-            fast::round_two(t, &twos).expect("a verdict");
+            fast::round_two(t, ID, &twos).expect("a verdict");
             fast::close(t, ROOM).expect("totals")
         });
         Setting {
@@ -71,7 +73,12 @@ impl Setting {
     }
 
     pub fn table_bytes(&self, returns: usize) -> usize {
-        12 + self.sheet.len() + 4 * self.published + 4 * returns + 28 + self.share_bytes() - 6
+        12 + self.sheet.len() + 4 * self.published + 4 * returns
+    }
+
+    // The numbers beside the eight records of a table.
+    pub fn numbers(&self) -> usize {
+        8 * (self.entries + 2 * self.gates + 8)
     }
 
     pub fn totals_bytes(&self) -> usize {

@@ -4,7 +4,7 @@
 // bytes that it allots; allotting and giving back counts, but for a table that is opened, which is given back
 // unmeasured. The library and the lent form write into lent buffers.
 use crate::series::{series, Call};
-use crate::setting::{Setting, ID, RETURNS, ROOM};
+use crate::setting::{Setting, ID, LIMIT, ROOM};
 use crate::tables::{Lent, Ours};
 use crate::{pool, timing};
 use second::{fast, Sheet};
@@ -31,10 +31,11 @@ pub fn table<'a, const N: usize>(
     }
 }
 
-fn on_table(x: &Setting, call: Call) -> [f64; 3] {
-    let mut ours = || series::<Ours>(x, call);
-    let mut fast = || series::<fast::Table>(x, call);
-    let mut lent = || series::<Lent>(x, call);
+// So many others wait in the table.
+fn on_table(x: &Setting, call: Call, others: u32) -> [f64; 3] {
+    let mut ours = || series::<Ours>(x, call, others);
+    let mut fast = || series::<fast::Table>(x, call, others);
+    let mut lent = || series::<Lent>(x, call, others);
     timing::medians([&mut ours, &mut fast, &mut lent])
 }
 
@@ -79,10 +80,10 @@ fn join(x: &Setting) -> [f64; 2] {
     let mut out = vec![0; ROOM];
     timing::compare(
         &mut || {
-            black_box(pool::join(x.servers, &x.sheet, RETURNS, black_box(&x.closings), &mut out).expect("joined"));
+            black_box(pool::join(x.servers, &x.sheet, LIMIT, black_box(&x.closings), &mut out).expect("joined"));
         },
         &mut || {
-            black_box(fast::join(x.servers, &x.sheet, RETURNS, black_box(&x.closings), ROOM).expect("joined"));
+            black_box(fast::join(x.servers, &x.sheet, LIMIT, black_box(&x.closings), ROOM).expect("joined"));
         },
     )
 }
@@ -98,12 +99,24 @@ pub fn run(settings: &[Setting]) {
         settings.iter(),
         ["ours", "fast", "lent"],
         &[
-            ("open", &|x| on_table(x, Call::Open)),
-            ("share", &|x| on_table(x, Call::Share)),
-            ("round one", &|x| on_table(x, Call::RoundOne)),
-            ("round two", &|x| on_table(x, Call::RoundTwo)),
-            ("drop", &|x| on_table(x, Call::Drop)),
-            ("close", &|x| on_table(x, Call::Close)),
+            ("open", &|x| on_table(x, Call::Open, 0)),
+            ("share", &|x| on_table(x, Call::Share, 0)),
+            ("round one", &|x| on_table(x, Call::RoundOne, 0)),
+            ("round two", &|x| on_table(x, Call::RoundTwo, 0)),
+            ("drop", &|x| on_table(x, Call::Drop, 0)),
+            ("close", &|x| on_table(x, Call::Close, 0)),
+        ],
+    );
+    println!();
+    println!("with seven others waiting");
+    table(
+        settings.iter(),
+        ["ours", "fast", "lent"],
+        &[
+            ("share", &|x| on_table(x, Call::Share, 7)),
+            ("round one", &|x| on_table(x, Call::RoundOne, 7)),
+            ("round two", &|x| on_table(x, Call::RoundTwo, 7)),
+            ("drop", &|x| on_table(x, Call::Drop, 7)),
         ],
     );
 }

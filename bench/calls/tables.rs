@@ -1,9 +1,9 @@
 // A server's table on each of three sides: the library's, and those of the second program's fast and lent forms. The
-// library's and the lent one are bytes, each in a layout of its own, which every call looks over before it trusts them,
-// as document 01 asks (refusal 11); their messages are written into lent buffers. The fast one is a structure that
+// library's and the lent one are three lent parts (bytes, records, numbers), which every call looks over before it trusts
+// them, as document 01 asks (refusal 11); their messages are written into lent buffers. The fast one is a structure that
 // nobody else can write, so its calls do not look it over; it has weights worked out at opening and keeps work space.
 use crate::pool;
-use crate::setting::{Setting, RETURNS};
+use crate::setting::{Setting, LIMIT};
 use second::{fast, lent, Verdict};
 use std::borrow::Cow;
 
@@ -13,83 +13,85 @@ pub trait Table: Sized {
     // The table of server 0 opened in the place of another, whose memory is used again or given back later.
     fn open(&mut self, x: &Setting) -> Option<Self>;
     fn share(&mut self, message: &[u8], r: u64, s: u64) -> Result<[u8; 14], u32>;
-    fn round_one(&mut self, joined: &[u8]) -> Result<[u8; 14], u32>;
+    fn round_one(&mut self, id: u32, joined: &[u8]) -> Result<[u8; 14], u32>;
     // Whether the return is accepted.
-    fn round_two(&mut self, joined: &[u8]) -> Result<bool, u32>;
-    fn drop(&mut self) -> Result<(), u32>;
+    fn round_two(&mut self, id: u32, joined: &[u8]) -> Result<bool, u32>;
+    fn drop(&mut self, id: u32) -> Result<(), u32>;
     // The totals message, in the lent buffer or in a list of its own.
     fn close<'a>(&mut self, out: &'a mut [u8]) -> Result<Cow<'a, [u8]>, u32>;
     fn restore(&mut self, from: &Self);
 }
 
-// A table in bytes, with the calls of a module on it. They differ in its length and in how they tell a verdict.
-macro_rules! table_in_bytes {
-    ($name:ident, $calls:ident, $length:expr, $accepted:expr) => {
-        pub struct $name(Vec<u8>);
+// A table in three parts, with the calls of a module on it. They differ in how they tell a verdict.
+macro_rules! table_in_parts {
+    ($name:ident, $calls:ident, $accepted:expr) => {
+        #[derive(Clone)]
+        pub struct $name {
+            pub bytes: Vec<u8>,
+            pub slots: [$calls::Slot; 8],
+            pub elements: Vec<u32>,
+        }
 
         impl Table for $name {
             fn fresh(x: &Setting, own: u32) -> Result<$name, u32> {
-                let mut table = vec![0; $length(x)];
-                let written = $calls::open(x.servers, own, &x.sheet, RETURNS, &mut table)?;
-                assert!(written == table.len());
-                Ok($name(table))
+                let (bytes, elements) = (vec![0; x.table_bytes(LIMIT as usize)], vec![0; x.numbers()]);
+                let mut t = $name { bytes, slots: Default::default(), elements };
+                let (b, s, e) = (&mut t.bytes, &mut t.slots, &mut t.elements);
+                let written = $calls::open(x.servers, own, &x.sheet, LIMIT, b, s, e)?;
+                assert!(written == t.bytes.len());
+                Ok(t)
             }
 
             fn open(&mut self, x: &Setting) -> Option<$name> {
-                $calls::open(x.servers, 0, &x.sheet, RETURNS, &mut self.0).expect("opened");
+                let (b, s, e) = (&mut self.bytes, &mut self.slots, &mut self.elements);
+                $calls::open(x.servers, 0, &x.sheet, LIMIT, b, s, e).expect("opened");
                 None
             }
 
             fn share(&mut self, message: &[u8], r: u64, s: u64) -> Result<[u8; 14], u32> {
                 let mut out = [0; 14];
-                $calls::share(&mut self.0, message, r, s, &mut out)?;
+                $calls::share(&mut self.bytes, &mut self.slots, &mut self.elements, message, r, s, &mut out)?;
                 Ok(out)
             }
 
-            fn round_one(&mut self, joined: &[u8]) -> Result<[u8; 14], u32> {
+            fn round_one(&mut self, id: u32, joined: &[u8]) -> Result<[u8; 14], u32> {
                 let mut out = [0; 14];
-                $calls::round_one(&mut self.0, joined, &mut out)?;
+                $calls::round_one(&mut self.bytes, &mut self.slots, &mut self.elements, id, joined, &mut out)?;
                 Ok(out)
             }
 
-            fn round_two(&mut self, joined: &[u8]) -> Result<bool, u32> {
-                $calls::round_two(&mut self.0, joined).map($accepted)
+            fn round_two(&mut self, id: u32, joined: &[u8]) -> Result<bool, u32> {
+                $calls::round_two(&mut self.bytes, &mut self.slots, &mut self.elements, id, joined).map($accepted)
             }
 
-            fn drop(&mut self) -> Result<(), u32> {
-                $calls::drop(&mut self.0)
+            fn drop(&mut self, id: u32) -> Result<(), u32> {
+                $calls::drop(&mut self.bytes, &mut self.slots, &mut self.elements, id)
             }
 
             fn close<'a>(&mut self, out: &'a mut [u8]) -> Result<Cow<'a, [u8]>, u32> {
-                let written = $calls::close(&mut self.0, out)?;
+                let written = $calls::close(&mut self.bytes, &mut self.slots, &mut self.elements, out)?;
                 Ok(Cow::Borrowed(&out[..written]))
             }
 
             fn restore(&mut self, from: &$name) {
-                self.0.copy_from_slice(&from.0);
+                self.bytes.copy_from_slice(&from.bytes);
+                self.slots = from.slots;
+                self.elements.copy_from_slice(&from.elements);
             }
         }
     };
-}
-
-fn our_length(x: &Setting) -> usize {
-    x.table_bytes(RETURNS as usize)
-}
-
-fn lent_length(x: &Setting) -> usize {
-    lent::length(&x.sheet, RETURNS).expect("a sheet")
 }
 
 fn accepted(verdict: Verdict) -> bool {
     verdict == Verdict::Accepted
 }
 
-table_in_bytes!(Ours, pool, our_length, |accepted| accepted);
-table_in_bytes!(Lent, lent, lent_length, accepted);
+table_in_parts!(Ours, pool, |accepted| accepted);
+table_in_parts!(Lent, lent, accepted);
 
 impl Table for fast::Table {
     fn fresh(x: &Setting, own: u32) -> Result<fast::Table, u32> {
-        fast::open(x.servers, own, &x.sheet, RETURNS)
+        fast::open(x.servers, own, &x.sheet, LIMIT)
     }
 
     fn open(&mut self, x: &Setting) -> Option<fast::Table> {
@@ -100,16 +102,16 @@ impl Table for fast::Table {
         fast::share(self, message, r, s, 14)
     }
 
-    fn round_one(&mut self, joined: &[u8]) -> Result<[u8; 14], u32> {
-        fast::round_one(self, joined, 14)
+    fn round_one(&mut self, id: u32, joined: &[u8]) -> Result<[u8; 14], u32> {
+        fast::round_one(self, id, joined, 14)
     }
 
-    fn round_two(&mut self, joined: &[u8]) -> Result<bool, u32> {
-        fast::round_two(self, joined).map(accepted)
+    fn round_two(&mut self, id: u32, joined: &[u8]) -> Result<bool, u32> {
+        fast::round_two(self, id, joined).map(accepted)
     }
 
-    fn drop(&mut self) -> Result<(), u32> {
-        fast::drop(self)
+    fn drop(&mut self, id: u32) -> Result<(), u32> {
+        fast::drop(self, id)
     }
 
     fn close<'a>(&mut self, out: &'a mut [u8]) -> Result<Cow<'a, [u8]>, u32> {

@@ -71,7 +71,7 @@ answerOf (pool-round-two T id joined v a T' v') = handed a (judged (eqb v' 1))
 answerOf (pool-drop T id a T') = handed a done
 answerOf (pool-close T out w a T' out' w') = handed a (wrote (take w' out'))
 
--- "A refusal changes nothing"; the bytes past the written length stay
+-- "every lent buffer and the table keep what they held" at a refusal; the bytes past the written length stay
 pub record Untouched (T : Lent) (out : List ℕ) (w a : ℕ) (T' : Lent) (out' : List ℕ) (w' : ℕ) : Type 0 where
   pub at-refusal : (a ≡ 0 → ⊥) → (T' ≡ T) × (out' ≡ out) × (w' ≡ w)
   pub past-written : a ≡ 0 → list.drop w' out' ≡ list.drop w' out

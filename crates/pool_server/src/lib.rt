@@ -1,6 +1,6 @@
-// The C functions of a server, on its table of three lent parts: bytes, the waiting list, and the run of numbers. Each copies
-// the eight records, hands everything to one call, and writes back the one record that the call changed; none has rules of
-// its own.
+// The C functions of a server, on its table of three lent parts: bytes, the waiting list, and the run of numbers. All but
+// pool_open copy the eight records and hand them to one call by value; the share, the rounds and the drop write back the one
+// record that the call changed, and pool_open clears all. None has rules of its own.
 // include/pool.h tells a host how to use them. Each takes any arguments and returns 0 or the number of the refusal; the
 // promises (specs/Calls) are equalities with rules' definitions at document 01's setting.
 ghost use Rattle.waiting.specs.Changes.{lent};

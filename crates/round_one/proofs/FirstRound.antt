@@ -74,9 +74,9 @@ module _ (T : Lent) (id : ℕ) (joined : List ℕ) where
   fault-at j room e = rw e
 
   slot-at : (j : ℕ) → j ≡ placeOf id (T .slots)
-      → lent (T .bytes) (applied (T .slots) (recordsAt j (summedSlot (tableOf (T .bytes)) (slotIn T j) joined))) (T .elements)
+      → lent (T .bytes) (applied (T .slots) (recordsAt j (summedSlot (tableOf (T .bytes)) (heldIn T j) joined))) (T .elements)
       ≡ oneTable document01 T id joined
-  unfolding summedSlot applied oneTable summed waitingAt tableOf
+  unfolding summedSlot applied oneTable summed waitingAt heldAt tableOf
   slot-at j e = rw e
 
   bytes-at : (j : ℕ) → j ≡ placeOf id (T .slots)
@@ -130,15 +130,15 @@ module _ (T : Lent) (id : ℕ) (joined : List ℕ) where
               enough = leb-true 14 (length out) (check-holds (leb 14 (length out)) 13 (b .1));
             }
 
-        pub first-done : (x y : Slot) (out' : List ℕ) → x ≡ slotIn T j → y ≡ summedSlot k x joined
+        pub first-done : (y : Slot) (out' : List ℕ) → y ≡ summedSlot k w joined
             → out' ≡ splice out 0 (messageAt k w ns joined) → RoundOne T id joined out written (recordsAt j y) out' 14
         unfolding onlyIf ifDone
-        first-done x y out' p q o =
+        first-done y out' q o =
             let refusal = oneRefused document01 T id joined (length out) in
             let none : refusal ≡ 0 = fault-is ∙ z in
             let s = n .waits .sound in
             let t : lent (T .bytes) (applied (T .slots) (recordsAt j y)) (T .elements) ≡ oneTable document01 T id joined
-            = rw (q, p, s .says) (slot-at j (n .place-is)) in
+            = rw (q, n .says, s .says) (slot-at j (n .place-is)) in
             record {
               changes =
                   done-changes refusal (oneTable document01 T id joined) T j y (T .bytes) (T .elements) none

@@ -22,12 +22,12 @@ oneFaultAt k w joined room =
     (check (leb 14 room) 14)
 
 -- the record with the sums, which awaits round two
-unfoldable pub summedSlot : Table → Slot → List ℕ → Slot
-summedSlot k x joined = record {
-  id = x .id;
+unfoldable pub summedSlot : Table → Waiting → List ℕ → Slot
+summedSlot k w joined = record {
+  id = w .id;
   stage = 2;
-  r = x .r;
-  s = x .s;
+  r = w .r;
+  s = w .s;
   d = firstSum document01 (k .servers) joined;
   e = secondSum document01 (k .servers) joined;
 }

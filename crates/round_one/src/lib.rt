@@ -37,10 +37,10 @@ fn one_refusal(joined: &[u8], k: Table, w: Waiting, room: usize) -> u32
     0
 }
 
-// The record x with the sums of the joined messages; and the own message of round two is written.
-fn take_one(joined: &[u8], k: Table, w: Waiting, ns: &[u32], x: Slot, out: &mut [u8]) -> Slot
+// The record of a return with the sums of the joined messages; and the own message of round two is written.
+fn take_one(joined: &[u8], k: Table, w: Waiting, ns: &[u32], out: &mut [u8]) -> Slot
     requires { ⌜ OneReady k w (now ns) (now joined) (length (now out)) ⌝ }
-    ensures { λ r. ⌜ (r ≡ summedSlot k x (now (joined .entry)))
+    ensures { λ r. ⌜ (r ≡ summedSlot k w (now (joined .entry)))
         × (now (out .exit) ≡ splice (now (out .entry)) 0 (messageAt k w (now (ns .entry)) (now (joined .entry)))) ⌝ }
 {
     let d = round_message::first_sum(joined, k.servers);
@@ -48,10 +48,10 @@ fn take_one(joined: &[u8], k: Table, w: Waiting, ns: &[u32], x: Slot, out: &mut 
     let sigma = sigma_of(k, ns, w.rh, d, e);
     round_message::write_round(out, 35, w.id, k.own as u8, sigma, w.tau);
     Slot {
-        id: x.id,
+        id: w.id,
         stage: AWAITS_TWO,
-        r: x.r,
-        s: x.s,
+        r: w.r,
+        s: w.s,
         d: d as u64,
         e: e as u64,
     }
@@ -78,7 +78,7 @@ pub fn round_one(
                 return refused(refusal);
             }
             let ns = numbers_at(numbers, k, at);
-            let slot = take_one(joined, k, w, ns, list[at], out);
+            let slot = take_one(joined, k, w, ns, out);
             *written = 14;
             records(at, slot)
         }

@@ -31,5 +31,6 @@ pub mod Made
 pub mod Examples
 pub mod CallExamples
 pub mod TopExamples
+pub mod SoundExamples
 pub mod TableExamples
 pub mod WaitingExamples

@@ -1,5 +1,5 @@
--- Document 01, "Judging" and "Who can cause which refusal": the rules of one server, as functions of what it knows. A
--- table's bytes say what a server knows (Table), and so does the ledger (Ledger).
+-- Document 01, "Judging" and "Who can cause which refusal", and document 02, eight returns waiting: the rules of one server, as
+-- functions of what it knows. A table says what a server knows (Table), and so does the ledger (Ledger).
 -- Assumes nothing.
 use mathlib.Core.Bool.{Bool, false, not, _||_}
 use mathlib.Core.List.{List, [], _∷_, _++_, map}
@@ -74,7 +74,8 @@ unfoldable pub isMember : ℕ → List ℕ → Bool
 isMember x [] = false
 isMember x (y ∷ ys) = eqb y x || isMember x ys
 
--- Opening: "S and own number, sheet, N, 4, 14". The 14, which asks for the table's length, is in `Table.openRefusal`
+-- Opening: "S and own number, sheet, N, 4, 14". The 14, which asks for room for the table's three parts, is in
+-- `Table.openRefusal`
 unfoldable pub openFault : Setting → ℕ → ℕ → List ℕ → ℕ → ℕ
 openFault σ servers own sheet returns =
     orElse (serversFault servers)
@@ -151,8 +152,8 @@ whileWaiting none = 11
 whileWaiting (some w) = 0
 
 -- The refusals of each call, 0 for none, in the order told. A share with its pair and the room of the output buffer: "11, 13,
--- 7, 8, 10, 9, 14". "Decided and waiting together never exceed N, and 13 is given when they reach it. An id that waits is
--- refused 10; a ninth return is refused 11"
+-- 7, 8, 10, 9, 14". "Decided and waiting together never exceed N, and 13 is given when they reach it .. An id that waits is
+-- refused 10; a ninth return .. is refused 11."
 unfoldable pub shareRefusal : Setting → ServerState → List ℕ → ℕ → ℕ → ℕ → ℕ
 shareRefusal σ k m r s room =
     whileOpen (k .stage)
@@ -163,7 +164,7 @@ shareRefusal σ k m r s room =
     (orElse (check (not (isMember (idIn m) (k .used ++ map heldId ws))) 10)
     (orElse (check (allowedPair σ (k .opened .columns) r s) 9) (check (leb (roundLength σ) room) 14)))))))
 
--- "Round one: 11, 12, 14." "Both rounds and drop name an id. An id not waiting is refused 11"
+-- "Round one: 11, 12, 14." "Both rounds and drop name an id .. an id not waiting .. is refused 11."
 unfoldable pub oneRefusal : Setting → ServerState → ℕ → List ℕ → ℕ → ℕ
 oneRefusal σ k id joined room =
     let o = k .opened in
@@ -182,7 +183,7 @@ twoRefusal σ k id joined =
 unfoldable pub dropRefusal : ServerState → ℕ → ℕ
 dropRefusal k id = whileOpen (k .stage) (λ ws. whileWaiting (find heldId id ws))
 
--- "Close: 11, 14." "A close while any waits is refused 11"
+-- "Close: 11, 14." ".. or a close while any waits is refused 11."
 unfoldable pub closeRefusal : Setting → ServerState → ℕ → ℕ
 closeRefusal σ k room =
     whileOpen (k .stage)

@@ -15,13 +15,14 @@
 --   then           4 N     the ids decided, in the order in which they were
 --
 -- Beside the bytes stand the records of the returns that wait and the numbers of their shares (WaitingList). "Both are part
--- of the table in every rule: opening gives them, each call gets them as the last one left them, and a refusal keeps them."
+-- of the table in every rule: opening gives them, each call of demand 3's lists gets them as the last one left them, and a
+-- refusal keeps them."
 -- While returns wait there is room for their ids: the returns decided and those that wait are at most N. Opening and the calls
 -- write 0 into the room for further ids, into free records and into the numbers of their places: a decided return leaves its
 -- id and, where it is accepted, what its share adds to the totals.
 -- A longer slice of bytes or of numbers holds a table too; what lies past the table is never read and never written. No fault
--- in a table that is lent: other bytes in the room for further ids; which ids were decided; and d, e, r × h(r) and tau that
--- the share does not give.
+-- in a table that is lent: other bytes in the room for further ids; which ids were decided; d, e, r × h(r) and tau that the
+-- share does not give; totals that no accepted returns give; returns that wait in a closed table, which every call refuses 11.
 -- Assumes nothing.
 use mathlib.Core.Bool.{Bool, true, false, cond, _&&_}
 use mathlib.Core.List.{List, [], _∷_, _++_}
@@ -242,7 +243,7 @@ module _ (σ : Setting) (T : Lent) where
       (idsPlace σ (sheetSize σ (T .bytes)) cs (returnsIn σ (T .bytes)) + 4 * decidedIn σ (T .bytes))
       (bytesOf 4 id)
 
-  -- "the record of a return that is decided, and its elements, become 0"
+  -- a return that is decided: its record and the numbers of its place become 0
   unfoldable pub decidedTable : ℕ → List ℕ → Lent
   decidedTable id t = record {
     bytes = t;

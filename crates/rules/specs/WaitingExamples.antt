@@ -1,18 +1,17 @@
 -- Document 02, eight returns waiting: calls on tables in which several returns wait, by rows that compute.
 -- Assumes nothing.
-use mathlib.Core.Bool.{Bool, _&&_, not}
+use mathlib.Core.Bool.{_&&_, not}
 use mathlib.Core.List.{List, [], _∷_, _++_}
 use Prim.Native.Nat.{ℕ, zero, suc, _+_}
 use lib.Dec.{eqb}
-use lib.ListN.{length, getD, take, drop}
-use Rattle.slots.specs.declared.Slot.{Slot}
+use lib.ListN.{getD, take, drop}
 use Rattle.slots.specs.Slots.{freeSlot}
-use Rattle.rules.specs.Server.{isMember}
-use Rattle.rules.specs.WaitingList.{waitingCount, freePlace, placeOf}
+use Rattle.rules.specs.WaitingList.{waitingCount}
 use Rattle.rules.specs.Table.{Lent, idsIn, tableSound, shareRefused, shareTable, oneRefused, oneTable, oneBytes, twoRefused}
-use Rattle.rules.specs.Table.{twoVerdict, twoTable, dropRefused, dropTable, closeRefused, closeTable, closeBytes}
+use Rattle.rules.specs.Table.{twoVerdict, twoTable, dropRefused, dropTable, closeRefused, closeBytes}
 use Rattle.rules.specs.Examples.{Row, row, σ, same, honest, cheat, opened}
-use Rattle.rules.specs.TableExamples.{shareIn, took, ones, summedUp, twos, broken}
+use Rattle.rules.specs.SoundExamples.{withNumbers}
+use Rattle.rules.specs.TableExamples.{shareIn, withP, took, ones, twos, broken}
 
 -- the table of server i for sheet 17 and N, and with so many honest returns waiting, under the ids 1, 2 ..
 abbrev openFor : ℕ → ℕ → Lent
@@ -65,10 +64,19 @@ decided1 i = twoTable σ (summedBoth i) 1 seconds1
 abbrev decidedBoth : ℕ → Lent
 decidedBoth i = twoTable σ (decided1 i) 2 seconds2
 
+-- a third return taken once the first is decided
+abbrev thirdTaken : ℕ → Lent
+thirdTaken i = shareTable σ (decided1 i) (shareIn honest 3 i) 4 9
+
+-- the numbers of the first two places exchanged
+abbrev exchanged : Lent → Lent
+exchanged T = withNumbers T (take 11 (drop 11 (T .elements)) ++ take 11 (T .elements) ++ drop 22 (T .elements))
+
 unfoldable pub mixed : List Row
 mixed =
     row "the messages of a return are those that it has alone"
-    (same firsts2 (ones (openFor 4) cheat 2 3) && same seconds1 (twos (openFor 4) honest 1 4))
+    (same firsts2 (ones (openFor 4) cheat 2 3)
+    && (same seconds1 (twos (openFor 4) honest 1 4) && same seconds2 (twos (openFor 4) cheat 2 3)))
     ∷ row "and so is its verdict" (twoVerdict σ (summedBoth 0) seconds1 && not (twoVerdict σ (decided1 0) seconds2))
     ∷ row "none of the calls is refused"
     (eqb (oneRefused σ (twoWait 0) 2 firsts2 14) 0
@@ -77,7 +85,10 @@ mixed =
     ∷ row "each has its own stage" (eqb (stageAt (summed2 0) 0) 1 && eqb (stageAt (summed2 0) 1) 2)
     ∷ row "round one under an id in the second wait: 11" (eqb (oneRefused σ (summed2 0) 2 firsts2 14) 11)
     ∷ row "round two under an id in the first wait: 11" (eqb (twoRefused σ (summed2 0) 1 seconds1) 11)
-    ∷ row "the messages of the other return: 12" (eqb (oneRefused σ (twoWait 0) 1 firsts2 14) 12)
+    ∷ row "the messages of the other return: 12"
+    (eqb (oneRefused σ (twoWait 0) 1 firsts2 14) 12 && eqb (twoRefused σ (summedBoth 0) 1 seconds2) 12)
+    ∷ row "elements of two returns exchanged: the own message is another, 12"
+    (eqb (twoRefused σ (exchanged (summedBoth 0)) 1 seconds1) 12)
     ∷ row "an id that does not wait: 11"
     (eqb (oneRefused σ (twoWait 0) 3 firsts1 14) 11
     && (eqb (twoRefused σ (summedBoth 0) 3 seconds1) 11 && eqb (dropRefused σ (twoWait 0) 3) 11))
@@ -88,7 +99,7 @@ mixed =
     ∷ row "and its numbers, not those of the other"
     (same (drop 11 (dropTable σ (twoWait 0) 2 .elements)) (drop 11 (openFor 4 0 .elements))
     && same (take 11 (dropTable σ (twoWait 0) 2 .elements)) (take 11 (twoWait 0 .elements)))
-    ∷ row "the next share goes into the first free record" (eqb (freePlace (decided1 0 .slots)) 0 && eqb (placeOf 2 (decided1 0 .slots)) 1)
+    ∷ row "the next share goes into the first free record" (eqb (idAt (thirdTaken 0) 0) 3 && eqb (idAt (thirdTaken 0) 1) 2)
     ∷ row "the ids decided stand in the order of the verdicts" (same (idsIn σ (decidedBoth 0 .bytes)) (1 ∷ 2 ∷ []))
     ∷ row "one was accepted" (eqb (getD (closeBytes σ (decidedBoth 0)) 2 0) 1)
     ∷ []
@@ -103,7 +114,9 @@ eight =
     ∷ row "of N = 9: taken" (eqb (shareAt (dropTable σ (manyWait 9 8 0) 3) 9) 0)
     ∷ row "two waiting of N = 2: 13" (eqb (shareRefused σ (manyWait 2 2 0) broken 1 9 13) 13)
     ∷ row "an id that waits used again: 10" (eqb (shareAt (manyWait 9 7 0) 7) 10 && eqb (shareAt (manyWait 9 7 0) 1) 10)
-    ∷ row "10 before 9, 8 before 10" (eqb (shareRefused σ (manyWait 9 2 0) (shareIn honest 1 0) 1 9 13) 10)
+    ∷ row "10 before 9, 8 before 10"
+    (eqb (shareRefused σ (manyWait 9 2 0) (shareIn honest 1 0) 1 9 13) 10
+    && eqb (shareRefused σ (manyWait 9 2 0) (withP (shareIn honest 1 0)) 1 9 13) 8)
     ∷ row "a close while the eighth waits: 11" (eqb (closeRefused σ (manyWait 9 8 0) 100) 11)
     ∷ row "a close while one of eight records waits: 11"
     (eqb (closeRefused σ (dropTable σ (dropTable σ (manyWait 9 3 0) 1) 2) 100) 11)

@@ -18,14 +18,15 @@ use Rattle.rules.specs.Values.{legalValues}
 use Rattle.rules.specs.Judging.{shareSize, addedUp, letsIn, allowedPair}
 use Rattle.rules.specs.Making.{madeShare, randomCount, shareMessage}
 use Rattle.rules.specs.Messages.{placeIn, roundLength}
-use Rattle.rules.specs.Server.{Opened, Waiting, mostWaiting, waitingOf, messageOne, messageTwo, summed}
+use Rattle.rules.specs.Server.{Opened, Waiting, Wait, mostWaiting, waitingOf, messageOne, messageTwo, summed}
 use Rattle.slots.specs.Slots.{freeSlot}
-use Rattle.rules.specs.WaitingList.{isFree, placeSize, numbersAt}
+use Rattle.rules.specs.WaitingList.{isFree, placeSize, numbersAt, waitsIn}
 use Rattle.rules.specs.Table.{Lent, openRefusal, openedTable, decidedIn, unusedIn}
 use Rattle.rules.specs.Joining.{joinRefusal, joinCount, joinTotals}
 use Rattle.rules.specs.Ledger.{Call, share, roundOne, roundTwo, drop, close, Answer, wrote, judged}
 use Rattle.rules.specs.Ledger.{Note, Pending, noteIn, isOpen, isClosed, waiting, Decided, Ledger, empty}
 use Rattle.rules.specs.Ledger.{isAccepted, isDropped, notesWith, idsOf, notesOf, refusalOf, ledgerStep, runLedger, ledgerAnswers}
+use Rattle.rules.specs.Ledger.{ledgerWait}
 use Rattle.rules.specs.Ledger.{closingMessage}
 use Rattle.rules.specs.Runs.{runTable, tableAnswers}
 use Rattle.rules.specs.Keyed.{those}
@@ -217,6 +218,12 @@ module _ (σ : Setting) (𝓟 : Pool σ) (id : ℕ) (shares : ℕ → List ℕ) 
     pub pair : allowedPair σ (columns σ 𝓟) r s ≡ true
     pub enough : roundLength σ ≤ room
 
+-- the returns that wait in server i's table after its calls
+abbrev pub waitsAfter : (σ : Setting) (𝓟 : Pool σ) → ℕ → List Wait
+waitsAfter σ 𝓟 i =
+    let T = runTable σ (tableAt σ 𝓟 i) (𝓟 .calls i) in
+    waitsIn (columns σ 𝓟) (T .slots) (T .elements)
+
 -- record j is free: then it is 0, and the numbers of its place are
 abbrev pub Erased : List Column → Lent → ℕ → Type 0
 Erased cs T j =
@@ -270,9 +277,13 @@ pub record WholeRun (σ : Setting) (𝓟 : Pool σ) : Type 0 where
   pub within-returns : (i : ℕ) → i < 𝓟 .servers
       → length (ledgerAt σ 𝓟 i .decided) + length (waiting (ledgerAt σ 𝓟 i .progress)) ≤ 𝓟 .returns
   pub at-most-eight : (i : ℕ) → i < 𝓟 .servers → length (waiting (ledgerAt σ 𝓟 i .progress)) ≤ mostWaiting
+  -- "In the ledger, too, each id has its own stage": an id waits or is decided once
+  pub once : (i : ℕ) → i < 𝓟 .servers → Distinct (idsOf (notesAt σ 𝓟 i))
   -- 11. A decided return leaves its id and, where it is accepted, what its share adds to the totals, and nothing else: the
-  -- room for further ids is 0, and so are a record in which no return waits and the numbers of its place. No condition is
-  -- needed
+  -- records that are not free say the returns that wait in the ledger, and no others; the room for further ids is 0, and so
+  -- are a record that is free and the numbers of its place. No condition is needed
+  pub holds : (i : ℕ) → i < 𝓟 .servers
+      → Rearranged (waitsAfter σ 𝓟 i) (map (ledgerWait σ (openedAt σ 𝓟 i)) (waiting (ledgerAt σ 𝓟 i .progress)))
   pub unused : (i : ℕ) → i < 𝓟 .servers
       → unusedIn σ (runTable σ (tableAt σ 𝓟 i) (𝓟 .calls i) .bytes)
       ≡ replicate (4 * (𝓟 .returns - decidedIn σ (runTable σ (tableAt σ 𝓟 i) (𝓟 .calls i) .bytes))) 0

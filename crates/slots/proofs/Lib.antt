@@ -1,3 +1,4 @@
+-- Laws of the eight records, and the steps by which functions over the lent slice are walked, here and in other crates.
 pub mod Eight
 pub mod Element
 pub mod Env

@@ -1,5 +1,5 @@
-// The waiting list: a lent slice of eight records. Functions over the slice are few and thin, since each is a walk of its code
-// by hand: the eight are copied out, the rules work on them by value, and one change is applied.
+// The waiting list: a lent slice of eight records. Functions over the slice are few and thin, since each is proved by a walk of
+// its code: the eight are copied out, the rules work on them by value, and one change is applied.
 ghost use mathlib.Core.Path.{_≡_};
 ghost use Prim.Native.Nat.{_<_};
 ghost use lib.ListN.{length, replicate};

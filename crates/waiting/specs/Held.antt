@@ -1,4 +1,4 @@
--- What a record says, with the numbers of its place, in the numbers of code: rules' waitingAt without the pair and the share.
+-- What a record says, with the numbers of its place, in the numbers of code: rules' waitingAt without the share.
 -- Assumes nothing.
 use mathlib.Core.List.{List}
 use Prim.Native.Nat.{ℕ, _+_}
@@ -8,4 +8,4 @@ use Rattle.waiting.specs.declared.Waiting.{Waiting}
 
 unfoldable pub heldAt : Slot → List ℕ → ℕ → Waiting
 heldAt x ns size =
-    record { id = x .id; d = x .d; e = x .e; rh = getD ns size 0; tau = getD ns (size + 1) 0 }
+    record { id = x .id; r = x .r; s = x .s; d = x .d; e = x .e; rh = getD ns size 0; tau = getD ns (size + 1) 0 }

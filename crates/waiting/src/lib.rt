@@ -18,10 +18,12 @@ pub const AWAITS_ONE: u32 = 1;
 
 pub const AWAITS_TWO: u32 = 2;
 
-// What a return that waits is known by, besides its share and its pair: its id; d_i and e_i in the first wait, the sums d and
+// What a return that waits is known by, besides its share: its id and its pair; d_i and e_i in the first wait, the sums d and
 // e in the second; r h_i(r) and tau_i.
 pub struct Waiting {
     pub id: u32,
+    pub r: u64,
+    pub s: u64,
     pub d: u32,
     pub e: u32,
     pub rh: u32,
@@ -135,6 +137,8 @@ pub fn held(x: Slot, ns: &[u32], size: usize) -> Waiting
 {
     Waiting {
         id: x.id,
+        r: x.r,
+        s: x.s,
         d: x.d as u32,
         e: x.e as u32,
         rh: ns[size],

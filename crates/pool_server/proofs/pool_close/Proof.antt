@@ -1,7 +1,5 @@
 -- `pool_close` meets its contract: a walk of its code, by hand. The list is only read, by `copied` at its own lifetime; all else is given
--- to the work,
--- whose answer is handed back.
--- Assumes nothing.
+-- to the call, whose answer is handed back. Assumes nothing.
 use mathlib.Core.Path.{_≡_, refl, ap}
 use Prim.Native.Nat.{ℕ, _<_, _^_}
 use mathlib.Core.List.{[], _∷_, List}

@@ -1,7 +1,5 @@
--- `pool_open` meets its contract: a walk of its code, by hand. All but the list is given to the work, and the list to `clear` with the
--- refusal that the
--- work answers.
--- Assumes nothing.
+-- `pool_open` meets its contract: a walk of its code, by hand. All but the list is given to the call, and the list to `clear` with the
+-- refusal that the call answers. Assumes nothing.
 use mathlib.Core.Path.{_≡_, refl, ap}
 use Prim.Native.Nat.{ℕ, _<_, _^_}
 use mathlib.Core.List.{[], _∷_, List}

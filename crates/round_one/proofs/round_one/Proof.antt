@@ -28,7 +28,7 @@ one-refusal-requires c κs =
     let u = c .before in
     let r = u .before .before in
     let a = r .before .before .before .before .before .args in
-    let T = lent (a .table .now) (a .t2) (a .numbers .now) in
+    let T = lent (a .table .now) (a .list) (a .numbers .now) in
     let n = names T (a .id) 1 _ _ _ (sym (r .find .ensures) ∙ u .k .given .1) in
     n .waits .sound .limited
 
@@ -41,7 +41,7 @@ returns c =
     let u = c .before .before .before .before in
     let r = u .before .before in
     let a = r .before .before .before .before .before .args in
-    let T = lent (a .table .now) (a .t2) (a .numbers .now) in
+    let T = lent (a .table .now) (a .list) (a .numbers .now) in
     let n = names T (a .id) 1 _ _ _ (sym (r .find .ensures) ∙ u .k .given .1) in
     rw (c .refused2 .ensures)
     (first-refused T (a .id) (a .joined .now) (a .out .now) (a .written .now) _ _ _ n _ (f .one-refusal .ensures) (c .before .if1 .taken))
@@ -51,36 +51,18 @@ numbers-at-requires c κs =
     let u = c .before .before .before in
     let r = u .before .before in
     let a = r .before .before .before .before .before .args in
-    let T = lent (a .table .now) (a .t2) (a .numbers .now) in
+    let T = lent (a .table .now) (a .list) (a .numbers .now) in
     let n = names T (a .id) 1 _ _ _ (sym (r .find .ensures) ∙ u .k .given .1) in
     in-run T _ _ (n .waits)
 
-mul-take-one : tie.Need-mul-take-one
-mul-take-one c =
-    let u = c .before .before .before .before in
-    let r = u .before .before in
-    let a = r .before .before .before .before .before .args in
-    let T = lent (a .table .now) (a .t2) (a .numbers .now) in
-    let n = names T (a .id) 1 _ _ _ (sym (r .find .ensures) ∙ u .k .given .1) in
-    record { fits = omega (arith, n .waits .within) }
-
-array-copy-out-take-one : tie.Need-array-copy-out-take-one
-array-copy-out-take-one c =
-    let u = c .before .before .before .before in
-    let r = u .before .before in
-    let a = r .before .before .before .before .before .args in
-    let T = lent (a .table .now) (a .t2) (a .numbers .now) in
-    let n = names T (a .id) 1 _ _ _ (sym (r .find .ensures) ∙ u .k .given .1) in
-    omega (arith, n .waits .within)
-
 take-one-requires : tie.Need-take-one-requires
 take-one-requires c κs =
-    let p = c .before .before in
+    let p = c .before in
     let f = p .before .before in
-    let u = c .before .before .before .before .before .before in
+    let u = c .before .before .before .before .before in
     let r = u .before .before in
     let a = r .before .before .before .before .before .args in
-    let T = lent (a .table .now) (a .t2) (a .numbers .now) in
+    let T = lent (a .table .now) (a .list) (a .numbers .now) in
     let n = names T (a .id) 1 _ _ _ (sym (r .find .ensures) ∙ u .k .given .1) in
     let m = p .numbers-at .ensures ∙ numbers-are T _ (n .waits .sound) _ in
     first-ready T (a .id) (a .joined .now) (a .out .now) (a .written .now) _ _ _ n _ (f .one-refusal .ensures) (p .before .if1 .left) _ m
@@ -93,7 +75,7 @@ returns-2 c =
     let u = c .before .before in
     let r = u .before .before in
     let a = r .before .before .before .before .before .args in
-    let T = lent (a .table .now) (a .t2) (a .numbers .now) in
+    let T = lent (a .table .now) (a .list) (a .numbers .now) in
     rw (c .refused .ensures)
     (first-unnamed T (a .id) (a .joined .now) (a .out .now) (a .written .now) _ (sym (r .find .ensures) ∙ u .fault .given .1))
 
@@ -103,17 +85,17 @@ same-length c = search needs
 returns-3 : tie.Need-returns-3
 returns-3 c =
     let t = c .before .before .before in
-    let p = t .before .before .before in
+    let p = t .before .before in
     let f = p .before .before in
-    let u = c .before .before .before .before .before .before .before .before .before .before in
+    let u = c .before .before .before .before .before .before .before .before .before in
     let r = u .before .before in
     let a = r .before .before .before .before .before .args in
-    let T = lent (a .table .now) (a .t2) (a .numbers .now) in
+    let T = lent (a .table .now) (a .list) (a .numbers .now) in
     let n = names T (a .id) 1 _ _ _ (sym (r .find .ensures) ∙ u .k .given .1) in
     let m = p .numbers-at .ensures ∙ numbers-are T _ (n .waits .sound) _ in
     rw (c .records .ensures)
     (first-done T (a .id) (a .joined .now) (a .out .now) (a .written .now) _ _ _ n _ (f .one-refusal .ensures) (p .before .if1 .left) _ m
-    _ _ _ refl (t .take-one .ensures .0) (t .take-one .ensures .1))
+    _ _ (t .take-one .ensures .0) (t .take-one .ensures .1))
 
 pub round-one-spec : {M : Type 1} → statement M
 round-one-spec =
@@ -127,8 +109,6 @@ round-one-spec =
     refused-requires-2
     returns
     numbers-at-requires
-    mul-take-one
-    array-copy-out-take-one
     take-one-requires
     records-requires
     returns-2

@@ -33,11 +33,11 @@ cast-write-round c = search needs
 write-round-requires : tie.Need-write-round-requires
 write-round-requires c κs = search needs
 
+cast-t13 : tie.Need-cast-t13
+cast-t13 c = search needs
+
 cast-t14 : tie.Need-cast-t14
 cast-t14 c = search needs
-
-cast-t15 : tie.Need-cast-t15
-cast-t15 c = search needs
 
 same-length : tie.Need-same-length
 same-length c = search needs
@@ -62,7 +62,7 @@ take-one-spec =
     sigma-of-requires
     cast-write-round
     write-round-requires
+    cast-t13
     cast-t14
-    cast-t15
     same-length
     returns)

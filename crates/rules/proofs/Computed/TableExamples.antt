@@ -2,7 +2,8 @@
 use mathlib.Core.Bool.{true}
 use mathlib.Core.Path.{_≡_, refl}
 use Rattle.algebra.specs.Lists.{every}
-use Rattle.rules.specs.TableExamples.{limits, onTables, inOrder, otherOrders, erasures}
+use Rattle.rules.specs.SoundExamples.{limits}
+use Rattle.rules.specs.TableExamples.{onTables, inOrder, otherOrders, erasures}
 use Rattle.rules.specs.WaitingExamples.{manyWait, mixed, eight}
 use Rattle.rules.proofs.Computed.Computing.{everything}
 

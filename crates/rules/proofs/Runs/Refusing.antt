@@ -4,7 +4,7 @@
 use mathlib.Core.Path.{_≡_, refl, ap, _∙_}
 use mathlib.Core.Bool.{Bool, true, false}
 use mathlib.Core.List.{List, _++_, map}
-use mathlib.Core.Option.{none}
+use mathlib.Core.Option.{some, none}
 use Prim.Native.Nat.{ℕ, _+_, _<_}
 use native.Mathlib.Omega.{arith}
 use borrow.Author.Tests.{lt-ltb, ltb-true, ne-eqb}
@@ -17,7 +17,8 @@ use Rattle.rules.specs.Messages.{idIn, headerFault, elementsFault}
 use Rattle.rules.specs.Keyed.{find}
 use Rattle.rules.specs.Server.{Opened, Wait, heldId, mostWaiting, isMember, whileOpen, whileOne, whileTwo, whileWaiting}
 use Rattle.rules.specs.Server.{shareRefusal, oneRefusal, twoRefusal, dropRefusal, closeRefusal}
-use Rattle.rules.specs.Ledger.{share, roundOne, roundTwo, drop, close, Pending, noteIn, pendingId, isOpen, Decided}
+use Rattle.rules.specs.Ledger.{share, roundOne, roundTwo, drop, close, Note, Pending, waitsOne, waitsTwo, noteIn}
+use Rattle.rules.specs.Ledger.{pendingId, isOpen, Decided}
 use Rattle.rules.specs.Ledger.{idsOf, notesOf, ledgerWait, ledgerStage, ledgerState, refusalOf}
 use Rattle.rules.proofs.Histories.Keyed.{in-member, not-found, through}
 use Rattle.rules.proofs.Histories.Moves.{at, many-used, many-told, all-ids, find-told}
@@ -79,6 +80,17 @@ module _ (σ : Setting) (o : Opened) (ws : List Pending) (ds : List Decided) whe
   pub not-waiting-drop : (id : ℕ) → (In id (map pendingId ws) → ⊥) → refusalOf σ o (at (isOpen ws) ds) (drop id) ≡ 11
   unfolding refusalOf ledgerState ledgerStage dropRefusal whileOpen whileWaiting
   not-waiting-drop id h = rw (none-told id h) refl
+
+  -- an id that waits in the other stage
+  pub second-wait-one : (id : ℕ) (n : Note) (d e : ℕ) → find pendingId id ws ≡ some (waitsTwo n d e) → (joined : List ℕ) (room : ℕ)
+      → refusalOf σ o (at (isOpen ws) ds) (roundOne id joined room) ≡ 11
+  unfolding refusalOf ledgerState ledgerStage oneRefusal whileOpen whileOne ledgerWait through
+  second-wait-one id n d e h joined room = rw (find-told σ o id ws, h) refl
+
+  pub first-wait-two : (id : ℕ) (n : Note) → find pendingId id ws ≡ some (waitsOne n) → (joined : List ℕ)
+      → refusalOf σ o (at (isOpen ws) ds) (roundTwo id joined) ≡ 11
+  unfolding refusalOf ledgerState ledgerStage twoRefusal whileOpen whileTwo ledgerWait through
+  first-wait-two id n h joined = rw (find-told σ o id ws, h) refl
 
   -- "a close while any waits is refused 11"
   pub close-waiting : 0 < length ws → (room : ℕ) → refusalOf σ o (at (isOpen ws) ds) (close room) ≡ 11

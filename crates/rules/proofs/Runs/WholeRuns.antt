@@ -9,13 +9,13 @@ use Rattle.rules.specs.WholeRun.{Pool, columns, openedAt, tableAt, Whole
 use Rattle.rules.proofs.Computed.Facts.{document01-facts}
 use Rattle.rules.proofs.Returns.OnSheets.{sheet-few-pairs}
 use Rattle.rules.proofs.Tables.Opens.{tables-tell, tables-answer}
-use Rattle.rules.proofs.Tables.Erased.{unused-zero, erased-zero}
+use Rattle.rules.proofs.Tables.Erased.{unused-zero, records-hold, erased-zero}
 use Rattle.rules.proofs.Histories.PoolOpened.{is-read}
 use Rattle.rules.proofs.Runs.WholeTotals.{closed-together}
 use Rattle.rules.proofs.Runs.Verdicts.{verdict, honest}
 use Rattle.rules.proofs.Runs.Handled.{handled, handled-mixed}
 use Rattle.rules.proofs.Runs.Mixed.{mixing, bytes-on}
-use Rattle.rules.proofs.Runs.WithinLimits.{within-returns, at-most-eight}
+use Rattle.rules.proofs.Runs.WithinLimits.{within-returns, at-most-eight, once}
 
 -- 9, on the table
 alone : (σ : Setting) → Facts σ → (𝓟 : Pool σ) → (i : ℕ) → i < 𝓟 .servers → (id : ℕ)
@@ -39,6 +39,8 @@ whole-run σ facts 𝓟 = record {
   alone = alone σ facts 𝓟;
   within-returns = within-returns σ 𝓟;
   at-most-eight = at-most-eight σ 𝓟;
+  once = once σ 𝓟;
+  holds = records-hold σ facts 𝓟;
   unused = unused-zero σ facts 𝓟;
   erased = erased-zero σ facts 𝓟;
 }

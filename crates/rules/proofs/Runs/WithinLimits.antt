@@ -5,10 +5,11 @@ use mathlib.Core.List.{map}
 use Prim.Native.Nat.{ℕ, _+_, _≤_, _<_}
 use native.Mathlib.Omega.{arith}
 use lib.ListN.{length, length-map, length-append}
+use Rattle.algebra.specs.Lists.{Distinct}
 use Rattle.rules.specs.Settings.{Setting}
 use Rattle.rules.specs.Server.{mostWaiting}
-use Rattle.rules.specs.Ledger.{noteIn, waiting, Decided, Ledger, notesOf}
-use Rattle.rules.specs.WholeRun.{Pool, openedAt, ledgerAt, notesIn}
+use Rattle.rules.specs.Ledger.{noteIn, waiting, Decided, Ledger, idsOf, notesOf}
+use Rattle.rules.specs.WholeRun.{Pool, openedAt, ledgerAt, notesIn, notesAt}
 use Rattle.rules.proofs.Histories.NotesGrow.{eight-on}
 use Rattle.rules.proofs.Runs.Agreement.{history-at, sound-at}
 
@@ -21,6 +22,9 @@ many-notes l =
 module _ (σ : Setting) (𝓟 : Pool σ) (i : ℕ) (l : i < 𝓟 .servers) where
   pub within-returns : length (ledgerAt σ 𝓟 i .decided) + length (waiting (ledgerAt σ 𝓟 i .progress)) ≤ 𝓟 .returns
   within-returns = omega (arith, many-notes (ledgerAt σ 𝓟 i), sound-at σ 𝓟 i l .few)
+
+  pub once : Distinct (idsOf (notesAt σ 𝓟 i))
+  once = sound-at σ 𝓟 i l .apart
 
   pub at-most-eight : length (waiting (ledgerAt σ 𝓟 i .progress)) ≤ mostWaiting
   at-most-eight = eight-on σ (openedAt σ 𝓟 i) (history-at σ 𝓟 i l) (omega arith)

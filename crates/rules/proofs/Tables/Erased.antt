@@ -1,16 +1,18 @@
 -- A decided return leaves nothing behind: a table beside a ledger holds zeros in the room for further ids, in each free record
 -- and in the numbers of its place. By the pieces of its bytes, and by what is known of each record. Assumes nothing.
 use mathlib.Core.Path.{_≡_, sym, ap, ap₂, _∙_}
+use mathlib.Core.List.{map}
 use Prim.Native.Nat.{ℕ, _+_, _-_, _*_, _<_}
 use native.Mathlib.Omega.{arith}
 use lib.ListN.{length, take, replicate}
+use Rattle.algebra.specs.Lists.{Rearranged}
 use Rattle.words.specs.Bytes.{part}
 use Rattle.rules.specs.Settings.{Setting, Facts}
 use Rattle.rules.specs.Server.{Opened, mostWaiting}
 use Rattle.rules.specs.Table.{Lent, idsPlace, decidedIn, unusedIn}
-use Rattle.rules.specs.Ledger.{Ledger}
+use Rattle.rules.specs.Ledger.{Ledger, waiting, ledgerWait}
 use Rattle.rules.specs.Runs.{runTable}
-use Rattle.rules.specs.WholeRun.{Pool, columns, openedAt, tableAt, Erased}
+use Rattle.rules.specs.WholeRun.{Pool, columns, openedAt, tableAt, ledgerAt, waitsAfter, Erased}
 use Rattle.rules.proofs.Tables.Parts.{assemble, placed, decided-are, part-ids}
 use Rattle.rules.proofs.Tables.Invariant.{Beside}
 use Rattle.rules.proofs.Tables.Opens.{zeros-part, table-after}
@@ -43,6 +45,9 @@ module _ (σ : Setting) (facts : Facts σ) (𝓟 : Pool σ) (i : ℕ) (h : i < �
 
   pub unused-zero : unusedIn σ (T .bytes) ≡ replicate (4 * (𝓟 .returns - decidedIn σ (T .bytes))) 0
   unused-zero = beside-unused σ (openedAt σ 𝓟 i) T _ (table-after σ facts 𝓟 i h)
+
+  pub records-hold : Rearranged (waitsAfter σ 𝓟 i) (map (ledgerWait σ (openedAt σ 𝓟 i)) (waiting (ledgerAt σ 𝓟 i .progress)))
+  records-hold = table-after σ facts 𝓟 i h .listed .same
 
   pub erased-zero : (j : ℕ) → j < mostWaiting → Erased (columns σ 𝓟) T j
   erased-zero j k = beside-erased σ (openedAt σ 𝓟 i) T _ (table-after σ facts 𝓟 i h) j k

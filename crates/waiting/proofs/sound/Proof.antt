@@ -1,6 +1,6 @@
 -- `waiting::sound` meets its contract. The loop's invariant: `at` is where the place of record i starts, and the answer is that of
 -- the records from i on, those before keep to the limits (`sound-next`); the measure is what is left of the places. Assumes nothing.
-use mathlib.Core.Path.{_≡_, refl, sym, ap, _∙_}
+use mathlib.Core.Path.{_≡_, refl, sym, _∙_}
 use Prim.Native.Nat.{_+_, _*_, _≤_, _<_, _-_}
 use native.Mathlib.Omega.{arith}
 use borrow.Author.Needs.{needs}
@@ -84,14 +84,17 @@ returns-2 c =
     let l = t .before .loop in
     let a = t .before .before .before .before .args in
     sym (l .inv .2
-    ∙ sound-not (a .gates) (a .size) (a .numbers .now) (a .t1) (l .i) _ (listed t) (rw (span, l .inv .1) at (sym (c .before .record-sound .ensures)) ∙ not-true _ (c .if2 .taken)))
+    ∙ sound-not (a .gates) (a .size) (a .numbers .now) (a .t1) (l .i) _ (listed t)
+    (rw (span, l .inv .1) at (sym (c .before .record-sound .ensures)) ∙ not-true _ (c .if2 .taken)))
     ∙ run-enough (a .gates) (a .size) (a .t1) (a .numbers .now) (enough t)
 
 add-i : tie.Need-add-i Inv-loop μ-loop
 add-i c = omega (arith, turn (c .before .before .before .before))
 
 loop-less : tie.Need-loop-less Inv-loop μ-loop
-loop-less c = omega (arith, c .before .before .before .before .loop-test .taken, c .before .before .before .before .before .before .before .before .pre .0)
+loop-less c =
+    let t = c .before .before .before .before in
+    omega (arith, t .loop-test .taken, t .before .before .before .before .pre .0)
 
 loop-again : tie.Need-loop-again Inv-loop μ-loop
 loop-again c =

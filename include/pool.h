@@ -39,7 +39,8 @@
  *     slots       pool_slot, POOL_SLOTS of them     for each return that waits: its id, its stage, r, s, d and e
  *     elements    uint32_t, POOL_ELEMENTS of them   for each slot a place for the share of the return that waits in it
  *
- * Slots are aligned to 8 bytes and elements to 4, as C wants; the bytes may stand anywhere. There are exactly eight slots. The
+ * Slots are aligned to 8 bytes and elements to 4, as C wants; the bytes may stand anywhere. Stored parts are copied back into
+ * pool_slot and uint32_t arrays: a cast pointer into a byte buffer need not be aligned. There are exactly eight slots. The
  * bytes and the elements may stand at the start of longer buffers: what lies past them is never read nor written. Slots and
  * elements hold numbers as the machine does. A host may read the slots; it writes to none of the parts.
  *
@@ -64,16 +65,17 @@
  * were, in any order of their bytes: those of all S servers, added up, are the returns.
  *
  * Several returns under way. Each call names its return: a share by the id in its message, the rounds and pool_drop by an
- * id. What becomes of a return does not depend on the calls on others between its own, and returns may be finished in any
- * order. A keeper takes what comes, in the order in which it comes (T stands for the three parts with their lengths):
+ * id. What becomes of a return that was taken does not depend on the calls on others between its own, and returns may be
+ * finished in any order. A keeper takes what comes, in the order in which it comes (T stands for the three parts with their
+ * lengths):
  *
- *     while (next(&m)) {                        // what is ready: a share with its r and s, or all S messages of a round
+ *     while (next(&m)) {                        // what is ready: a share with its r and s, all S messages of a round, or a drop
  *         switch (m.what) {
  *         case A_SHARE:
  *             answer = pool_share(T, m.bytes, m.len, m.r, m.s, out, sizeof out, &out_len);
  *             if (answer == POOL_STAGE && eight_wait(slots)) {
- *                 put_back(&m);                 // handed in again, with the same r and s, once a return is decided
- *                 continue;
+ *                 put_back(&m);                 // it comes again before any later share, with the same r and s,
+ *                 continue;                     // once a return is decided
  *             }
  *             break;
  *         case ALL_ROUND_ONE:
@@ -83,14 +85,22 @@
  *             answer = pool_round_two(T, m.id, m.bytes, m.len, &accepted);
  *             out_len = 0;                      // no message: the return is decided and its slot is free again
  *             break;
+ *         case A_DROP:
+ *             answer = pool_drop(T, m.id);
+ *             out_len = 0;
+ *             break;
  *         }
- *         if (answer == POOL_DECIDED)
- *             continue;                         // another return has this id: that one goes on, and this share is left
+ *         if (answer != POOL_DONE && m.what == A_SHARE && used(m.id))
+ *             continue;                         // another return has or had this id: it goes on, this share is left
  *         if (answer != POOL_DONE)
- *             tell_others(m.id, answer);        // they drop the return, and so does this server where it waits
- *         else if (store(T, out, out_len))      // all together
+ *             tell_others(m.id, answer);        // all drop the return where it waits; in round two only as said under Dropping
+ *         else if (store(T, out, out_len) && out_len > 0) // all together; a store that fails: stop, nothing more is sent
  *             send_others(m.id, out, out_len);  // only now
  *     }
+ *
+ * used: the id waits in a slot, or this table took it before. Such a share is refused 10, or 7, 8 or 13, which come before 10.
+ * A drop is ready where its return waits, after round one only as said under Dropping. One that comes before the share is kept
+ * until the share is taken; one of a return that was refused or is decided here is left, and nothing is told.
  *
  * The servers take the shares of returns in the same order. Otherwise each could have its eight slots full of returns that
  * another has no slot for, and none could be finished.
@@ -128,7 +138,7 @@ extern "C" {
 #define POOL_STAGE 11   /* table unsound or closed, nothing waits under that id in that stage, eight wait, or a close while one waits */
 #define POOL_JOINED 12  /* joined messages: length, kind, id, order, element, own message or counts wrong */
 #define POOL_FULL 13    /* N returns are decided or wait */
-#define POOL_ROOM 14    /* the output buffer is too short */
+#define POOL_ROOM 14    /* an output buffer is too short; in opening also a part of the table, or slots_len is not POOL_SLOTS */
 #define POOL_MANY 17    /* the sheet has more than 4,096 legal lists of values */
 #define POOL_RUN 19     /* shelf: the run is not R messages of W bytes */
 
@@ -179,7 +189,8 @@ typedef struct {
 /*
  * Sizes of buffers, in bytes, from S (2 to 8), N and what pool_sizes tells of the sheet: its columns, published entries and
  * share_bytes. A circuit has circuit_bytes, a share message share_bytes. Of a table POOL_TABLE_BYTES is the length of its
- * bytes; POOL_ELEMENTS counts numbers, not bytes.
+ * bytes; POOL_ELEMENTS counts numbers, not bytes. slots_len is POOL_SLOTS, not sizeof slots. In memory and in storage the parts
+ * take POOL_TABLE_BYTES, POOL_SLOTS * sizeof(pool_slot) and POOL_ELEMENTS * sizeof(uint32_t) bytes.
  */
 #define POOL_VALUES_BYTES(columns) (4 * (size_t)(columns))
 #define POOL_RANDOM_BYTES(servers, share_bytes) (((size_t)(servers) - 1) * ((size_t)(share_bytes) - 6) + 16)
@@ -268,8 +279,8 @@ uint32_t pool_make(const uint8_t *sheet, size_t sheet_len, uint32_t servers, uin
                    uint8_t *out, size_t out_len, size_t *written);
 
 /*
- * Opens a table of server `own` (0 to S - 1) for `returns` decided returns (N, 1 to 1,024): writes its three parts. An N above
- * the sheet's greatest_returns is refused.
+ * Opens a table of server `own` (0 to S - 1) for `returns` returns, decided and waiting together (N, 1 to 1,024): writes its
+ * three parts. An N above the sheet's greatest_returns is refused.
  *     table     POOL_TABLE_BYTES; *written is this length
  *     slots     slots_len is POOL_SLOTS
  *     elements  POOL_ELEMENTS numbers
@@ -284,7 +295,7 @@ uint32_t pool_open(uint32_t servers, uint32_t own, const uint8_t *sheet, size_t 
  * Takes a share into the first free slot and its place, and writes the server's round-one message, POOL_ROUND_BYTES. The bytes
  * of the table stay as they are.
  *     r         from M + 1 to p - 1; s from 0 to p - 1: the same at every server
- * A ninth share is refused 11 and handed in again, with the same r and s, once a return is decided.
+ * A ninth share is refused 11 and handed in again, before any later share and with the same r and s, once a return is decided.
  * Refusals: 11 for a table that is unsound (other than eight slots or too few numbers included) or closed, or in which eight
  * returns wait; 13 for N returns that are decided or wait; 7, 8, 10 for an id that was decided or waits, 9, 14.
  */

@@ -1,10 +1,10 @@
 // The calls on a table. They change it, so each is timed where returns come one after another, on every side alike. A
 // table is opened for 64 returns and seven more. For each id the calls that lead up to the measured one are made unmeasured,
-// then the measured one is timed, then the return is dropped unmeasured. After 64 returns a fresh table is opened,
-// unmeasured. So a share looks through 32 decided ids on the average, and the fast form's list of ids grows as it does
-// in use (a clone of its table would have to make room at every call). Where eight returns wait, seven others were taken
-// before and stay in the first wait. Closing alone is timed on a table that is
-// restored before each call, unmeasured: by a copy of the bytes, or by a clone. No call may be refused.
+// then the measured one is timed; after a share or round one the return still waits and is dropped unmeasured. After 64
+// returns a fresh table is opened, unmeasured. So a share looks through 32 decided ids on the average, and the fast form's
+// list of ids grows as it does in use (a clone of its table would have to make room at every call). Where eight returns
+// wait, seven others were taken before: they stay in the first seven slots and await round one. Closing alone is timed on a
+// table that is restored before each call, unmeasured: by a copy of the three parts, or by a clone. No call may be refused.
 //
 // The clock is read once for several tables in the same state, and the time of an empty turn is taken off. At M = 256
 // it is one table: more would push the fast form's work space, which it keeps in each table, out of the nearest cache.

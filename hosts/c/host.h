@@ -30,7 +30,7 @@ static inline const char *host_words(uint32_t refusal)
         "table unsound or closed, nothing waits under that id in that stage, eight wait, or a close while one waits",
         "joined messages: length, kind, id, order, element, own message or counts wrong",
         "N returns are decided or wait",
-        "the output buffer is too short",
+        "an output buffer is too short; in opening also a part of the table, or slots_len is not POOL_SLOTS",
         [POOL_MANY] = "the sheet has more than 4,096 legal lists of values",
         [POOL_RUN] = "the run is not so many messages of this length",
     };

@@ -36,7 +36,9 @@ func Example() {
 			log.Fatal(err)
 		}
 		for own, table := range tables {
-			ones[id][own], _ = table.Share(shares[own], pair)
+			if ones[id][own], err = table.Share(shares[own], pair); err != nil {
+				log.Fatal(err)
+			}
 		}
 	}
 	for own, table := range tables {
@@ -44,7 +46,9 @@ func Example() {
 	}
 	for id := len(returns) - 1; id >= 0; id-- {
 		for own, table := range tables {
-			twos[id][own], _ = table.RoundOne(uint32(id), ones[id][:])
+			if twos[id][own], err = table.RoundOne(uint32(id), ones[id][:]); err != nil {
+				log.Fatal(err)
+			}
 		}
 		for own, table := range tables {
 			accepted, err := table.RoundTwo(uint32(id), twos[id][:])
@@ -54,7 +58,9 @@ func Example() {
 
 	var messages [servers][]byte
 	for own, table := range tables {
-		messages[own], _ = table.Close()
+		if messages[own], err = table.Close(); err != nil {
+			log.Fatal(err)
+		}
 	}
 	totals, err := pool.Join(servers, sheet, most, messages[:])
 	fmt.Printf("%+v %v\n", totals, err)

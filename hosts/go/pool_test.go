@@ -193,6 +193,16 @@ func TestRefusalInWords(t *testing.T) {
 	}
 }
 
+// addPlain adds the values of a return on the sheet of TestPools to the plain sums.
+func addPlain(plain, values []uint32) {
+	plain[0] += values[0]
+	plain[1+values[1]]++
+	plain[6] += values[2]
+	plain[7+values[3]]++
+	plain[9] += values[4]
+	plain[10] += values[5]
+}
+
 // Random pools of every number of servers: the totals are the plain sums.
 func TestPools(t *testing.T) {
 	random := rand.New(rand.NewSource(1))
@@ -214,12 +224,7 @@ func TestPools(t *testing.T) {
 			if !all.judge(t, sheet, shares) {
 				t.Fatalf("%d servers, return %d: an honest return is rejected", n, id)
 			}
-			plain[0] += values[0]
-			plain[1+values[1]]++
-			plain[6] += values[2]
-			plain[7+values[3]]++
-			plain[9] += values[4]
-			plain[10] += values[5]
+			addPlain(plain, values)
 		}
 		totals := all.closeAndJoin(t, sheet, 6)
 		if totals.Accepted != 6 {

@@ -27,7 +27,7 @@ const (
 	Stage   Refusal = 11 // table unsound or closed, nothing waits under that id in that stage, eight wait, or a close while one waits
 	Joined  Refusal = 12 // joined messages at fault
 	Full    Refusal = 13 // N returns are decided or wait
-	Room    Refusal = 14 // the output buffer is too short
+	Room    Refusal = 14 // an output buffer is too short; in opening also a part of the table, or slots_len is not POOL_SLOTS
 	Many    Refusal = 17 // the sheet has more than 4,096 legal returns
 	Run     Refusal = 19 // messages that are not of one length, or a stored run of another length
 )
@@ -46,7 +46,7 @@ var words = [...]string{
 	Stage:   "table unsound or closed, nothing waits under that id in that stage, eight wait, or a close while one waits",
 	Joined:  "joined messages: length, kind, id, order, element, own message or counts wrong",
 	Full:    "N returns are decided or wait: this table takes no more",
-	Room:    "the output buffer is too short",
+	Room:    "an output buffer is too short; in opening also a part of the table, or slots_len is not POOL_SLOTS",
 	Many:    "more than 4,096 legal returns: take fewer columns, options or bits, or lower tops",
 	Run:     "not so many messages of one length: give whole messages, and the number and length that were stored",
 }

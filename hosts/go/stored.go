@@ -13,7 +13,7 @@ import (
 //	4 bytes    how many bytes the table has
 //	4 bytes    how many elements it has
 //	           its bytes, its eight slots of 40 bytes each, its elements of 4 bytes each
-//	4 bytes    the CRC-32 of all that stands before, so that one half of an older copy is told
+//	4 bytes    the CRC-32 of all that stands before, so that damage, or a mixture with an older copy, is noticed
 const (
 	storedMark  = "pooltab\x02"
 	storedHead  = len(storedMark) + 8
@@ -39,12 +39,14 @@ func (t *Table) MarshalBinary() ([]byte, error) {
 			b = order.AppendUint64(b, number)
 		}
 	}
-	b = append(b, elements(t.elements)...)
+	for _, x := range t.elements {
+		b = order.AppendUint32(b, x)
+	}
 	return order.AppendUint32(b, crc32.ChecksumIEEE(b)), nil
 }
 
-// UnmarshalBinary makes the table the one that was stored. Anything but a whole slice of MarshalBinary is an error (ErrStored)
-// and leaves the table as it was.
+// UnmarshalBinary makes the table the one that was stored. A slice that is not as MarshalBinary gives it, cut or damaged, is an
+// error (ErrStored) and leaves the table as it was. A checksum notices damage, not intent.
 //
 // Restore the last table that was stored and no older one: see pool.h.
 func (t *Table) UnmarshalBinary(b []byte) error {
@@ -52,13 +54,12 @@ func (t *Table) UnmarshalBinary(b []byte) error {
 	if err != nil {
 		return fmt.Errorf("pool: restore: %w: %v", ErrStored, err)
 	}
-	restored := Table{bytes: append([]byte(nil), b[storedHead:][:length]...)}
+	t.bytes = append([]byte(nil), b[storedHead:][:length]...)
 	rest := b[storedHead+length:]
-	for k := range restored.slots {
-		restored.slots[k], rest = storedSlot(rest), rest[storedSlots/Slots:]
+	for k := range t.slots {
+		t.slots[k], rest = storedSlot(rest), rest[storedSlots/Slots:]
 	}
-	restored.elements = numbers(rest[:elementBytes*count])
-	*t = restored
+	t.elements = numbers(rest[:elementBytes*count])
 	return nil
 }
 

@@ -12,18 +12,26 @@ import "bytes"
 // among them.
 //
 // MarshalBinary and UnmarshalBinary carry a table over a restart, all of it in one slice. Store it after each call, together
-// with the message that the call gave and before that message is sent. Use a table from one goroutine at a time.
+// with the message that the call gave and before that message is sent. Use a table from one goroutine at a time. Do not copy a
+// Table: pass the pointer.
 //
 // A table holds the whole share of each return that waits, and is as secret. When a return is decided it is erased, all but
 // its id and, if it was accepted, what it added to the server's shares of the totals. These stay, after Close too.
 type Table struct {
+	_        noCopy
 	bytes    []byte
 	slots    [Slots]slot
 	elements []uint32
 }
 
-// Open opens the table of server own (from 0) of so many servers, for at most so many decided returns: N, from 1 to the
-// sheet's Sizes.GreatestReturns.
+// noCopy makes go vet tell of a copy: it would share bytes and elements with the table, and have slots of its own.
+type noCopy struct{}
+
+func (*noCopy) Lock()   {}
+func (*noCopy) Unlock() {}
+
+// Open opens the table of server own (from 0) of so many servers, for at most so many returns, decided and waiting together:
+// N, from 1 to the sheet's Sizes.GreatestReturns.
 func Open(servers, own uint32, sheet *Sheet, returns uint32) (*Table, error) {
 	t := &Table{elements: make([]uint32, sheet.tableElements())}
 	// With more returns the core refuses before it looks at the room.
@@ -39,7 +47,8 @@ func Open(servers, own uint32, sheet *Sheet, returns uint32) (*Table, error) {
 }
 
 // Share takes the server's share of a return and gives its round-one message. A ninth return is refused (Stage): hand it in
-// again, with the same pair, once one of the eight is decided. The servers take the shares of returns in the same order.
+// again, before any later share and with the same pair, once one of the eight is decided. The servers take the shares of
+// returns in the same order.
 func (t *Table) Share(message []byte, pair Pair) ([]byte, error) {
 	out := make([]byte, roundBytes)
 	n, number := coreShare(t, message, pair.R, pair.S, out)

@@ -260,8 +260,7 @@ static void shelve(void)
 
 int LLVMFuzzerInitialize(int *argc, char ***argv)
 {
-    (void)argc;
-    (void)argv;
+    (void)argc, (void)argv;
     calls_start(GUARDED);
     return 0;
 }
@@ -269,7 +268,7 @@ int LLVMFuzzerInitialize(int *argc, char ***argv)
 int LLVMFuzzerTestOneInput(const uint8_t *data, size_t size)
 {
     struct circuit_counts circuit;
-    uint32_t lists;
+    uint32_t lists, entries;
     input.at = data;
     input.left = size;
     before = 8;
@@ -281,12 +280,11 @@ int LLVMFuzzerTestOneInput(const uint8_t *data, size_t size)
         note(7, 1, call_circuit(&sheet, POOL_MAX_CIRCUIT_BYTES, &out));
         note(7, 3, call_every_return(&sheet, POOL_MAX_EVERY_RETURN_BYTES, &lists, &out));
         break;
-    case 1: {
-        uint32_t entries = byte() | (uint32_t)byte() << 8;
+    case 1:
+        entries = byte() | (uint32_t)byte() << 8;
         bytes(&message, RUN_BYTES / 2);
         note(7, 2, call_read_circuit(entries, &message, &circuit));
         break;
-    }
     case 2:
         arbitrary_table();
         break;

@@ -98,7 +98,10 @@ static uint32_t round_one(uint32_t id)
     return refused;
 }
 
-/* Whether anything is left at any server in slot k and its place: what is not 0, or not known to be. */
+/*
+ * Whether anything is left at any server in slot k and its place: what is not 0, or not known to be. Of the slot, which was
+ * marked as defined before, only what the deciding call itself worked out from elements can be not known.
+ */
 static uint32_t left(size_t k)
 {
     static const uint8_t zeros[POOL_MAX_SHARE_BYTES + 8];

@@ -60,7 +60,8 @@ fn set(slot: &mut Slot, field: usize, number: u64) {
     }
 }
 
-/// A table with room for a return in any record: `idle` alone, N = 9, so that one more may wait.
+/// Tables with room for one more return at least: in `idle` one is decided, and nothing waits and N = 9, or seven others
+/// wait and N = 12.
 fn roomy(suite: &mut Suite) -> Result<[Fixture; 3], String> {
     Ok([
         Fixture::new(suite, 2, 0, &[17], 9)?,

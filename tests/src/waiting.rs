@@ -115,10 +115,13 @@ pub fn full(suite: &mut Suite) -> Verdict {
             let call = hall.share(suite, NOBODY + decided)?;
             let number = if decided + waiting as u32 == returns { 13 } else { 0 };
             suite.number(&call, number)?;
-            // However broken the share is, and with an id that waits.
+            // However broken the share is, and under an id that waits.
             if number == 13 {
                 suite.number(&Call { message: Vec::new(), ..call.clone() }, 13)?;
                 suite.number(&Call { r: 0, room: 0, ..call.clone() }, 13)?;
+                for shares in &hall.shares {
+                    suite.number(&Call { message: shares[OWN].clone(), ..call.clone() }, 13)?;
+                }
                 continue;
             }
             let shares = hall.pool.make_zeros(suite, &mut hall.rng, NOBODY + decided)?;

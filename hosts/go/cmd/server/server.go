@@ -10,8 +10,8 @@ import (
 )
 
 // server handles returns together with its peer, up to eight at a time. Server 0 begins them, in the order in which its shares
-// arrive; so both take their shares in the same order, and neither table is asked to hold a ninth. All is done by one
-// goroutine, in run: only it uses the table.
+// arrive, and no ninth while eight are under way: so neither table is asked to hold a ninth, in whichever order shares are
+// taken. All is done by one goroutine, in run: only it uses the table.
 type server struct {
 	own    uint
 	sheet  *pool.Sheet

@@ -1,11 +1,13 @@
 -- Laws of `All`, `In`, `Distinct`, `every` and `countFrom`. By induction on the list. Assumes nothing.
-use mathlib.Core.Path.{_≡_, refl, sym, ap, _∙_, subst}
+use mathlib.Core.Path.{_≡_, refl, sym, ap, ap₂, _∙_, subst}
 use mathlib.Core.Logic.{_⊎_, ⊎-elim, inl, inr, _≢_}
 use mathlib.Core.Bool.{Bool, true, false, _&&_}
 use mathlib.Core.List.{List, [], _∷_, _++_, map}
 use Prim.Native.Nat.{ℕ, zero, suc, _+_, _≤_, _<_}
 use native.Mathlib.Decide.{ℕ-discrete}
 use native.Mathlib.Omega.{arith}
+use borrow.Author.Tests.{ltb-true, ltb-false}
+use lib.Dec.{ltb}
 use lib.ListN.{length, getD}
 use Rattle.algebra.specs.Lists.{All, all[], all∷, In, Distinct, distinct[], distinct∷, tabulate, every, countFrom}
 
@@ -91,6 +93,10 @@ module _ {A B : Type 0} (f : A → B) where
   map-distinct apart (all∷ {a = a} p ps) (distinct∷ fresh d) =
       distinct∷ (map-all (all-both (λ i k ne. apart i a k p ne) ps fresh)) (map-distinct apart ps d)
 
+pub map-same : {A B : Type 0} (f g : A → B) (s : List A) → ((x : A) → In x s → f x ≡ g x) → map f s ≡ map g s
+map-same f g [] h = refl
+map-same {B = B} f g (x ∷ s) h = ap₂ (λ (a : B) (v : List B). a ∷ v) (h x (inl refl)) (map-same f g s (λ z k. h z (inr k)))
+
 -- tests
 pub and-true : (a b : Bool) → a ≡ true → b ≡ true → (a && b) ≡ true
 and-true a b p q = rw (p, q)
@@ -129,3 +135,48 @@ count-in a (suc n) j h k = go (count-in (suc a) n j) (ℕ-discrete a j)
     go : (suc a ≤ j → j < suc a + n → In j (countFrom (suc a) n)) → Dec (a ≡ j) → In j (a ∷ countFrom (suc a) n)
     go rest (yes e) = inl e
     go rest (no ne) = inr (rest (omega arith) (omega arith))
+
+pub count-distinct : (a n : ℕ) → Distinct (countFrom a n)
+unfolding countFrom
+count-distinct a zero = distinct[]
+count-distinct a (suc n) =
+    distinct∷ (in-all (countFrom (suc a) n) (λ b h (e : b ≡ a). (let q = in-count (suc a) n b h in omega arith))) (count-distinct (suc a) n)
+
+pub length-count : (a n : ℕ) → length (countFrom a n) ≡ n
+unfolding countFrom
+length-count a zero = refl
+length-count a (suc n) = ap suc (length-count (suc a) n)
+
+-- values at numbers that follow each other: two places of a list without repetition hold different values
+module _ {A : Type 0} (f : ℕ → A) where
+  pub count-apart : (a n : ℕ) → Distinct (map f (countFrom a n)) → (i j : ℕ) → a ≤ i → i < j → j < a + n → f i ≢ f j
+  unfolding countFrom
+  count-apart a zero d i j h k l = absurd (omega arith)
+  count-apart a (suc n) (distinct∷ fresh d) i j h k l = go (count-apart (suc a) n d i j) (ℕ-discrete a i)
+    where
+      go : (suc a ≤ i → i < j → j < suc a + n → f i ≢ f j) → Dec (a ≡ i) → f i ≢ f j
+      go rest (yes e) q =
+          not-in (f a) (map f (countFrom (suc a) n)) fresh
+          (subst (λ (v : A). In v (map f (countFrom (suc a) n))) (sym q ∙ ap f (sym e))
+          (in-map f j (countFrom (suc a) n) (count-in (suc a) n j (omega arith) (omega arith))))
+      go rest (no ne) q = rest (omega arith) k (omega arith) q
+
+  pub apart-count : (n : ℕ) → ((i j : ℕ) → i < j → j < n → f i ≢ f j) → Distinct (map f (countFrom 0 n))
+  apart-count n h =
+      map-distinct f differ (in-all (countFrom 0 n) (λ i k. (let q = in-count 0 n i k in omega arith))) (count-distinct 0 n)
+    where
+      differ : (i j : ℕ) → i < n → j < n → i ≢ j → f i ≢ f j
+      differ i j k l ne e = go (ltb i j) refl
+        where
+          go : (b : Bool) → ltb i j ≡ b → ⊥
+          go true q = h i j (ltb-true i j q) l e
+          go false q = h j i (let m = ltb-false i j q in omega arith) k (sym e)
+
+  getD-from : (a n i : ℕ) (d : A) → i < n → getD (map f (countFrom a n)) i d ≡ f (a + i)
+  unfolding countFrom
+  getD-from a zero i d h = absurd (omega arith)
+  getD-from a (suc n) zero d h = let e : a + 0 ≡ a = omega arith in ap f (sym e)
+  getD-from a (suc n) (suc i) d h = let e : suc a + i ≡ a + suc i = omega arith in getD-from (suc a) n i d (omega arith) ∙ ap f e
+
+  pub getD-count : (n i : ℕ) (d : A) → i < n → getD (map f (countFrom 0 n)) i d ≡ f i
+  getD-count n i d h = let e : 0 + i ≡ i = omega arith in getD-from 0 n i d h ∙ ap f e

@@ -1,5 +1,6 @@
--- Rearranged lists: two lists without repetition and with the same members are rearrangements of each other, since each
--- member can be taken out of both; a sum over a list depends on the members alone. Assumes nothing.
+-- Rearranged lists: two lists without repetition and with the same members, or the members of the one among the other's and no
+-- fewer, are rearrangements of each other, since each member can be taken out of both; a sum over a list depends on the members
+-- alone. Assumes nothing.
 use mathlib.Core.Path.{_≡_, refl, sym, ap, ap₂, _∙_, subst}
 use mathlib.Core.Logic.{_⊎_, ⊎-elim, inl, inr, _≢_}
 use mathlib.Core.List.{List, [], _∷_, _++_, map}
@@ -64,23 +65,33 @@ module _ {A : Type 0} where
         out = λ z q. ⊎-elim (λ e. inr (inl e)) (λ k. ⊎-elim (λ e. inl e) (λ j. inr (inr j)) (w .out z k)) q;
       }
 
+  -- what has the other members of a list
+  rest-has : (x : A) (s t : List A) → All (λ z. z ≢ x) s → ((z : A) → In z s → In z t) → (w : Without x t)
+      → (z : A) → In z s → In z (w .rest)
+  rest-has x s t fresh f w z h =
+      ⊎-elim (λ (q : x ≡ z). absurd (not-in x s fresh (subst (λ (v : A). In v s) (sym q) h))) (λ q. q) (w .out z (f z h))
+
   pub same-members : (s t : List A) → Distinct s → Distinct t → ((x : A) → In x s → In x t)
       → ((x : A) → In x t → In x s) → Rearranged s t
   same-members [] [] d e f g = none
   same-members [] (y ∷ t) d e f g = absurd (g y (inl refl))
   same-members (x ∷ s) t (distinct∷ fresh d) e f g =
       let w : Without x t = without x t e (f x (inl refl)) in
-      chain (keep x (same-members s (w .rest) d (w .apart) (there w) (here w))) (w .order)
+      chain (keep x (same-members s (w .rest) d (w .apart) (rest-has x s t fresh (λ z h. f z (inr h)) w) (here w))) (w .order)
     where
-      there : (w : Without x t) → (z : A) → In z s → In z (w .rest)
-      there w z h =
-          ⊎-elim (λ (q : x ≡ z). absurd (not-in x s fresh (subst (λ (v : A). In v s) (sym q) h))) (λ q. q)
-          (w .out z (f z (inr h)))
-
       here : (w : Without x t) → (z : A) → In z (w .rest) → In z s
       here w z h =
           ⊎-elim (λ (q : x ≡ z). absurd (not-in x (w .rest) (w .gone) (subst (λ (v : A). In v (w .rest)) (sym q) h))) (λ q. q)
           (g z (w .back z h))
+
+  -- a list without repetition whose members another has, and that is no shorter
+  pub fills : (s t : List A) → Distinct s → Distinct t → ((x : A) → In x s → In x t) → length t ≤ length s → Rearranged s t
+  fills [] [] d e f l = none
+  fills [] (y ∷ t) d e f l = absurd (omega arith)
+  fills (x ∷ s) t (distinct∷ fresh d) e f l =
+      let w : Without x t = without x t e (f x (inl refl)) in
+      let shorter : suc (length (w .rest)) ≡ length t = rearranged-length (w .order) in
+      chain (keep x (fills s (w .rest) d (w .apart) (rest-has x s t fresh (λ z h. f z (inr h)) w) (omega arith))) (w .order)
 
   -- sums over a list
   pub sum-cong : (f g : A → ℕ) (s : List A) → ((x : A) → In x s → f x ≡ g x) → sumOver f s ≡ sumOver g s

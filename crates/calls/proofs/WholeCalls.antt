@@ -1,25 +1,28 @@
 -- DEMAND 3 of the C functions: what every list of C calls at S servers comes to. The calls hand back what the ledger tells,
 -- so what is proved of the pool is proved of them; joining is handed the closing messages, and its promise says the rest.
 -- Assumes the promises of the calls.
-use mathlib.Core.Path.{_≡_, refl, sym, ap, ap₂, _∙_, subst}
-use mathlib.Core.List.{List, _++_, map}
+use mathlib.Core.Path.{_≡_, refl, sym, ap, _∙_, subst}
+use mathlib.Core.List.{List, map, flatten}
 use Prim.Native.Nat.{ℕ, zero, suc, _+_, _*_, _≤_, _<_}
 use native.Mathlib.Omega.{arith}
 use lib.ListN.{length, take}
-use Rattle.algebra.specs.Lists.{In}
+use Rattle.algebra.specs.Lists.{In, countFrom}
+use Rattle.algebra.proofs.Members.{map-same, in-count}
 use Rattle.algebra.proofs.Tables.{length-tabulate}
 use Rattle.words.specs.Bytes.{bytesOfAll}
 use Rattle.words.proofs.Elements.{length-bytes-all}
 use Rattle.rules.specs.Settings.{document01}
 use Rattle.rules.specs.Columns.{publishedIn, columnsOf}
-use Rattle.rules.specs.Messages.{placeIn}
+use Rattle.rules.specs.Messages.{oneByOne, placeIn, serverAt}
 use Rattle.rules.specs.Joining.{joinRefusal, joinCount, joinTotals, joinBytes}
 use Rattle.rules.specs.Ledger.{Answer, wrote, isClosed, closingMessage, empty}
-use Rattle.rules.specs.WholeRun.{handedIn, openedAt, ledgerAt, Conditions, Closed, closingsFrom, closings}
+use Rattle.rules.specs.WholeRun.{handedIn, openedAt, ledgerAt, Conditions, Closed, closings}
+use Rattle.rules.proofs.Histories.Origins.{handed-named}
+use Rattle.rules.proofs.Runs.Agreement.{history-at}
 use Rattle.rules.proofs.Runs.WholeRuns.{document01-whole-run}
 use Rattle.pool_totals.specs.Calls.{Joins}
 use Rattle.calls.specs.Calls.{callOf, Tells}
-use Rattle.calls.specs.Servers.{Servers, over, roundsIn, closingsIn, inOrder, poolOf, CConditions, Totals, WholeCalls}
+use Rattle.calls.specs.Servers.{Servers, over, roundsIn, closingsIn, poolOf, CConditions, Totals, WholeCalls}
 use Rattle.calls.proofs.Writing.{reads, number-done}
 use Rattle.calls.proofs.ManyCalls.{calls-tell}
 use Rattle.calls.proofs.Handing.{closedIn, rounds-same, closings-same, closed-wrote}
@@ -44,45 +47,48 @@ module _ (𝓢 : Servers) where
       ≡ handedIn document01 (openedAt document01 (poolOf 𝓢) i) empty (map callOf (𝓢 .log i .calls))
   rounds i h = rounds-same (openedAt document01 (poolOf 𝓢) i) empty (𝓢 .log i .calls) (told i h .by-ledger)
 
+  -- joined messages that are not refused name servers that there are
+  named : (i : ℕ) → i < 𝓢 .servers → (joined : List ℕ)
+      → In joined (handedIn document01 (openedAt document01 (poolOf 𝓢) i) empty (map callOf (𝓢 .log i .calls)))
+      → (j : ℕ) → j < 𝓢 .servers → serverAt document01 joined j < 𝓢 .servers
+  named i h = handed-named document01 (openedAt document01 (poolOf 𝓢) i) (history-at document01 (poolOf 𝓢) i h)
+
   conditions : CConditions 𝓢 → Conditions document01 (poolOf 𝓢)
   conditions 𝓒 = record {
     unaltered = λ i j h k joined q.
-        subst (λ (xs : List Answer). In (wrote (placeIn document01 joined j)) xs) (told j k .by-ledger)
+        subst (λ (xs : List Answer). In (wrote (placeIn document01 joined j)) xs) (told _ (named i h joined q j k) .by-ledger)
         (𝓒 .unaltered i j h k joined (subst (λ (xs : List (List ℕ)). In joined xs) (sym (rounds i h)) q));
     same-drops = 𝓒 .same-drops;
   }
 
   conditions-back : Conditions document01 (poolOf 𝓢) → CConditions 𝓢
   conditions-back 𝓒 = record {
-    unaltered = λ i j h k joined q.
-        subst (λ (xs : List Answer). In (wrote (placeIn document01 joined j)) xs) (sym (told j k .by-ledger))
-        (𝓒 .unaltered i j h k joined (subst (λ (xs : List (List ℕ)). In joined xs) (rounds i h) q));
+    unaltered = λ i j h k joined q. (
+        let handed = subst (λ (xs : List (List ℕ)). In joined xs) (rounds i h) q in
+        subst (λ (xs : List Answer). In (wrote (placeIn document01 joined j)) xs) (sym (told _ (named i h joined handed j k) .by-ledger))
+        (𝓒 .unaltered i j h k joined handed));
     same-drops = 𝓒 .same-drops;
   }
 
   module _ (𝓒 : CConditions 𝓢) (m : ℕ → List ℕ)
       (written-by : (i : ℕ) → i < 𝓢 .servers → In (m i) (over closingsIn (𝓢 .log i .calls))) where
-    closings-are : (i n : ℕ) → i + n ≤ 𝓢 .servers → inOrder m i n ≡ closingsFrom document01 (poolOf 𝓢) i n
-    unfolding inOrder closingsFrom
-    closings-are i zero h = refl
-    closings-are i (suc n) h =
+    joined-are : oneByOne m (𝓢 .servers) ≡ closings document01 (poolOf 𝓢)
+    joined-are =
+        ap flatten (map-same m _ (countFrom 0 (𝓢 .servers)) (λ i k. (
+        let q = in-count 0 (𝓢 .servers) i k in
         let l : i < 𝓢 .servers = omega arith in
-        let k : suc i + n ≤ 𝓢 .servers = omega arith in
-        ap₂ (λ (a b : List ℕ). a ++ b) (closes i l (m i) (written-by i l) .1) (closings-are (suc i) n k)
-
-    joined-are : inOrder m 0 (𝓢 .servers) ≡ closings document01 (poolOf 𝓢)
-    joined-are = closings-are 0 (𝓢 .servers) (omega arith)
+        closes i l (m i) (written-by i l) .1)))
 
     closed : Closed document01 (poolOf 𝓢)
     closed = document01-whole-run (poolOf 𝓢) .closed (conditions 𝓒) (λ i h. closes i h (m i) (written-by i h) .0)
 
     joins : (out : List ℕ) (accepted written a : ℕ) (out' : List ℕ) (accepted' written' : ℕ)
-        → Joins (𝓢 .servers) (𝓢 .sheet) (𝓢 .returns) (inOrder m 0 (𝓢 .servers)) out accepted written a out' accepted' written'
+        → Joins (𝓢 .servers) (𝓢 .sheet) (𝓢 .returns) (oneByOne m (𝓢 .servers)) out accepted written a out' accepted' written'
         → Totals 𝓢 out a out' accepted' written'
     unfolding joinBytes
     joins out accepted written a out' accepted' written' j =
         let S = 𝓢 .servers in
-        let joined = inOrder m 0 S in
+        let joined = oneByOne m S in
         let f : ℕ = joinRefusal document01 S (𝓢 .sheet) (𝓢 .returns) joined (length out) in
         let none : a ≡ 0 → f ≡ 0 = λ z. sym (j .totals .answer-is) ∙ z in
         let bytes : a ≡ 0 → take written' out' ≡ bytesOfAll 4 (joinTotals document01 S (𝓢 .sheet) (closings document01 (poolOf 𝓢))) =

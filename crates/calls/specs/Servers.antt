@@ -4,14 +4,14 @@
 use mathlib.Core.Path.{_≡_, sym}
 use mathlib.Core.Bool.{cond}
 use mathlib.Core.List.{List, [], _∷_, _++_, map}
-use Prim.Native.Nat.{ℕ, zero, suc, _*_, _%_, _<_}
+use Prim.Native.Nat.{ℕ, _*_, _%_, _<_}
 use lib.Dec.{eqb, leb}
 use lib.ListN.{length, take}
 use Rattle.algebra.specs.Lists.{In, Distinct, Rearranged, sumOver}
 use Rattle.words.specs.Bytes.{bytesOfAll}
 use Rattle.rules.specs.Settings.{document01}
 use Rattle.rules.specs.Columns.{check, publishedIn, publishedFrom}
-use Rattle.rules.specs.Messages.{placeIn}
+use Rattle.rules.specs.Messages.{oneByOne, placeIn, serverAt}
 use Rattle.rules.specs.Ledger.{wrote, isClosed, empty, closingMessage}
 use Rattle.rules.specs.WholeRun.{Bytes, Pool, columns, openedAt, ledgerAt, acceptedAt, droppedAt, addedEntry, KeepsForm}
 use Rattle.rules.specs.WholeRun.{handedIn, Conditions, WholeRun}
@@ -49,11 +49,6 @@ unfoldable pub over : (CCall → List (List ℕ)) → List CCall → List (List 
 over f [] = []
 over f (c ∷ cs) = f c ++ over f cs
 
--- messages one after another in server order
-unfoldable pub inOrder : (ℕ → List ℕ) → ℕ → ℕ → List ℕ
-inOrder m i zero = []
-inOrder m i (suc n) = m i ++ inOrder m (suc i) n
-
 module _ (𝓢 : Servers) where
   -- the pool whose calls are what the C calls asked
   abbrev pub poolOf : Pool document01
@@ -73,8 +68,9 @@ module _ (𝓢 : Servers) where
   -- "Round messages are unaltered when each one in a round call that is not refused is the one that the named server wrote
   -- for that id and round." "Drops are in the same order when no id dropped at one server is accepted at another."
   pub record CConditions : Type 0 where
-    pub unaltered : (i j : ℕ) → i < 𝓢 .servers → j < 𝓢 .servers → (joined : List ℕ) → In joined (over roundsIn (𝓢 .log i .calls))
-        → In (wrote (placeIn document01 joined j)) (map answerOf (𝓢 .log j .calls))
+    pub unaltered : (i place : ℕ) → i < 𝓢 .servers → place < 𝓢 .servers → (joined : List ℕ)
+        → In joined (over roundsIn (𝓢 .log i .calls))
+        → In (wrote (placeIn document01 joined place)) (map answerOf (𝓢 .log (serverAt document01 joined place) .calls))
     pub same-drops : (i j : ℕ) → i < 𝓢 .servers → j < 𝓢 .servers → (id : ℕ) → In id (droppedAt document01 poolOf i)
         → In id (acceptedAt document01 poolOf j) → ⊥
 
@@ -116,7 +112,7 @@ module _ (𝓢 : Servers) where
     -- pool_join, handed the bytes that pool_close wrote at each server, in server order
     pub joins : CConditions → (m : ℕ → List ℕ) → ((i : ℕ) → i < 𝓢 .servers → In (m i) (over closingsIn (𝓢 .log i .calls)))
         → (out : List ℕ) (accepted written a : ℕ) (out' : List ℕ) (accepted' written' : ℕ)
-        → Joins (𝓢 .servers) (𝓢 .sheet) (𝓢 .returns) (inOrder m 0 (𝓢 .servers)) out accepted written a out' accepted' written'
+        → Joins (𝓢 .servers) (𝓢 .sheet) (𝓢 .returns) (oneByOne m (𝓢 .servers)) out accepted written a out' accepted' written'
         → Totals out a out' accepted' written'
 
 -- CLAIM: there are such lists of C calls for everything that can be asked

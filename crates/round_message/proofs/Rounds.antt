@@ -1,23 +1,24 @@
 -- Joined round messages. The elements stand at 6 and at 10 of each message, so that rules' sums are sums of words at steps
--- of 14; and messages without a fault can be summed. Assumes nothing.
-use mathlib.Core.Path.{_≡_, refl}
+-- of 14, and the server at 5; and messages without a fault can be summed. Assumes nothing.
+use mathlib.Core.Path.{_≡_, refl, sym, ap₂, _∙_}
 use mathlib.Core.Bool.{Bool, true, _&&_}
 use mathlib.Core.List.{List}
-use Prim.Native.Nat.{ℕ, _*_, _<_}
+use Prim.Native.Nat.{ℕ, _+_, _-_, _*_, _<_}
 use native.Mathlib.Omega.{arith}
 use borrow.Author.Tests.{eqb-true, ltb-true}
 use lib.Dec.{eqb, ltb}
-use lib.ListN.{length}
+use lib.ListN.{length, getD, take, drop}
+use lib.Seq.{getD-take, getD-drop}
 use Rattle.algebra.proofs.Members.{and-left, and-right}
-use Rattle.words.specs.Bytes.{sameBytes}
 use Rattle.rules.specs.Settings.{document01}
 use Rattle.rules.specs.Columns.{check}
-use Rattle.rules.specs.Messages.{kindIn, idIn, serverIn, roundSound, roundFault, placeIn, firstIn, secondIn, firstSum, secondSum}
+use Rattle.rules.specs.Messages.{kindIn, idIn, serverIn, firstIn, secondIn, placeIn, serverAt, roundSound, stillMissing, ownKept}
+use Rattle.rules.specs.Messages.{placeSound, roundFault, firstSum, secondSum}
 use Rattle.field.specs.Residues.{prime}
 use Rattle.steps.specs.Words.{Words, sumOf}
-use Rattle.round_message.specs.Rounds.{Summable, soundAt, allSound}
+use Rattle.round_message.specs.Rounds.{Summable, allSound}
 use Rattle.steps.proofs.Every.{every-at}
-use Rattle.steps.proofs.Parts.{check-holds, second, fourth}
+use Rattle.steps.proofs.Parts.{span, check-holds, fourth}
 use Rattle.steps.proofs.Words.{words-within, words-sum}
 
 -- ---- sums
@@ -43,17 +44,31 @@ module _ (servers : ℕ) (joined : List ℕ) (s : Summable servers joined) where
   second-sum = words-sum 14 servers joined (s .long) 10 (omega arith) seconds (λ i h. refl)
 
 -- ---- faults
+-- the server that a place names, as a byte of the joined messages
+pub server-byte : (joined : List ℕ) (j : ℕ) → serverAt document01 joined j ≡ getD joined (14 * j + 5) 0
+server-byte joined j = getD-take 14 (drop (14 * j) joined) 5 0 (omega arith) ∙ getD-drop (14 * j) joined 5 0
+
 module _ (servers kind id own : ℕ) (mine joined : List ℕ) where
+  -- a place by the part that the code takes from it
+  abbrev taken : ℕ → List ℕ
+  taken i = take (14 * i + 14 - 14 * i) (drop (14 * i) joined)
+
+  pub place-tests : (i : ℕ) → placeSound document01 servers kind id own mine joined i
+      ≡ (roundSound document01 servers kind id (taken i)
+      && (stillMissing document01 joined (getD joined (14 * i + 5) 0) i && ownKept own mine (taken i)))
+  unfolding placeSound
+  place-tests i =
+      ap₂ (λ (m : List ℕ) (k : ℕ). roundSound document01 servers kind id m && (stillMissing document01 joined k i && ownKept own mine m))
+      (sym (span (14 * i) 14 joined)) (server-byte joined i)
+
   pub round-fault : roundFault document01 servers kind id own mine joined
-      ≡ check
-      (eqb (length joined) (14 * servers) && (allSound servers kind id joined && sameBytes (placeIn document01 joined own) mine)) 12
+      ≡ check (eqb (length joined) (14 * servers) && allSound servers kind id own mine joined) 12
   unfolding roundFault allSound
   round-fault = refl
 
 -- messages without a fault
 module _ (servers kind id own : ℕ) (mine joined : List ℕ) (sound : roundFault document01 servers kind id own mine joined ≡ 0) where
-  all-hold : eqb (length joined) (14 * servers) && (allSound servers kind id joined && sameBytes (placeIn document01 joined own) mine)
-      ≡ true
+  all-hold : eqb (length joined) (14 * servers) && allSound servers kind id own mine joined ≡ true
   all-hold = check-holds _ 11 (rw round-fault at sound)
 
   -- the two elements of message i
@@ -63,15 +78,19 @@ module _ (servers kind id own : ℕ) (mine joined : List ℕ) (sound : roundFaul
   abbrev secondBelow : ℕ → Bool
   secondBelow i = ltb (secondIn document01 (placeIn document01 joined i)) prime
 
+  -- what else is tested at a place
+  abbrev behind : ℕ → Bool
+  behind i =
+      stillMissing document01 joined (serverAt document01 joined i) i && ownKept own mine (placeIn document01 joined i)
+
   elements-hold : (i : ℕ) → i < servers → firstBelow i && secondBelow i ≡ true
-  unfolding allSound roundSound
+  unfolding allSound placeSound roundSound
   elements-hold i h =
       let m = placeIn document01 joined i in
-      let every : allSound servers kind id joined ≡ true
-      = second (eqb (length joined) (14 * servers)) (allSound servers kind id joined) (sameBytes (placeIn document01 joined own) mine)
-      all-hold in
-      fourth (eqb (kindIn m) kind) (eqb (idIn m) id) (eqb (serverIn m) i) (firstBelow i && secondBelow i)
-      (every-at (soundAt kind id joined) servers i every h)
+      fourth (eqb (kindIn m) kind) (eqb (idIn m) id) (ltb (serverIn m) servers) (firstBelow i && secondBelow i)
+      (and-left (roundSound document01 servers kind id m) (behind i)
+      (every-at (placeSound document01 servers kind id own mine joined) servers i
+      (and-right (eqb (length joined) (14 * servers)) (allSound servers kind id own mine joined) all-hold) h))
 
   pub rounds-summable : Summable servers joined
   rounds-summable = record {

@@ -1,18 +1,18 @@
-// The messages of the two rounds: what is at fault in joined ones, the sums over them, and one written, at document 01's
-// prime and width. The contracts cite the crate rules and specs/. Joined bytes may be any slice: their length is checked
-// first.
+// The messages of the two rounds: what is at fault in joined ones, in whatever order they arrived, the sums over them, and one
+// written, at document 01's prime and width. The contracts cite the crate rules and specs/. Joined bytes may be any slice: their
+// length is checked first.
 ghost use mathlib.Core.Path.{_≡_};
 ghost use Prim.Native.Nat.{_≤_};
 ghost use lib.ListN.{length};
 ghost use Rattle.words.specs.Bytes.{splice};
 ghost use Rattle.rules.specs.Settings.{document01};
-ghost use Rattle.rules.specs.Messages.{roundSound, roundFault, roundMessage, firstSum, secondSum};
-ghost use Rattle.round_message.specs.Rounds.{Placed, Whole, allSound, Summable};
+ghost use Rattle.rules.specs.Messages.{roundSound, stillMissing, ownKept, placeSound, roundFault, roundMessage, firstSum, secondSum};
+ghost use Rattle.round_message.specs.Rounds.{Placed, Places, InPlace, Whole, allSound, Summable};
 
-// Whether one server's 14 bytes are its message of a round for an id, with two elements.
-pub fn round_sound(m: &[u8], kind: u8, id: u32, server: u8) -> bool
+// Whether 14 bytes are a message of a round for an id, of one of the servers, with two elements.
+pub fn round_sound(m: &[u8], servers: u8, kind: u8, id: u32) -> bool
     requires { ⌜ length (now m) ≡ 14 ⌝ }
-    ensures { λ r. ⌜ r ≡ roundSound document01 kind id server (now (m .entry)) ⌝ }
+    ensures { λ r. ⌜ r ≡ roundSound document01 servers kind id (now (m .entry)) ⌝ }
 {
     if m[0] != kind {
         return false;
@@ -20,7 +20,7 @@ pub fn round_sound(m: &[u8], kind: u8, id: u32, server: u8) -> bool
     if share_message::id_of(m) != id {
         return false;
     }
-    if m[5] != server {
+    if servers <= m[5] {
         return false;
     }
     if field::P <= words::read_u32(m, 6) {
@@ -29,16 +29,65 @@ pub fn round_sound(m: &[u8], kind: u8, id: u32, server: u8) -> bool
     words::read_u32(m, 10) < field::P
 }
 
-// Whether each server's 14 bytes, from 14 times its place on, are its message.
-fn all_sound(joined: &[u8], servers: usize, kind: u8, id: u32) -> bool
-    requires { ⌜ Whole servers (now joined) ⌝ }
-    ensures { λ r. ⌜ r ≡ allSound servers kind id (now (joined .entry)) ⌝ }
+// Whether a server is still missing at place i: none of the places before names it.
+fn still_missing(joined: &[u8], server: u8, i: usize) -> bool
+    requires { ⌜ Places i (now joined) ⌝ }
+    ensures { λ r. ⌜ r ≡ stillMissing document01 (now (joined .entry)) server i ⌝ }
 {
+    let mut j: usize = 0;
+    while j < i {
+        if joined[14 * j + 5] == server {
+            return false;
+        }
+        j += 1;
+    }
+    true
+}
+
+// Whether a message, where it names the own server, is the own one.
+fn own_kept(m: &[u8], own: u8, mine: &[u8]) -> bool
+    requires { ⌜ length (now m) ≡ 14 ⌝ }
+    ensures { λ r. ⌜ r ≡ ownKept own (now (mine .entry)) (now (m .entry)) ⌝ }
+{
+    if m[5] != own {
+        return true;
+    }
+    words::equal(m, mine)
+}
+
+// Whether the 14 bytes from 14 times the place on are a message that is missing there, the own one unaltered.
+fn place_sound(
+    joined: &[u8],
+    servers: u8,
+    kind: u8,
+    id: u32,
+    own: u8,
+    mine: &[u8],
+    i: usize,
+) -> bool
+    requires { ⌜ InPlace i (now joined) ⌝ }
+    ensures { λ r. ⌜ r ≡ placeSound document01 servers kind id own (now (mine .entry)) (now (joined .entry)) i ⌝ }
+{
+    let start = 14 * i;
+    let end = start + 14;
+    if !round_sound(&joined[start..end], servers, kind, id) {
+        return false;
+    }
+    if !still_missing(joined, joined[start + 5], i) {
+        return false;
+    }
+    own_kept(&joined[start..end], own, mine)
+}
+
+// Whether each place is.
+fn all_sound(joined: &[u8], servers: u8, kind: u8, id: u32, own: u8, mine: &[u8]) -> bool
+    requires { ⌜ Whole servers (now joined) ⌝ }
+    ensures { λ r. ⌜ r ≡ allSound servers kind id own (now (mine .entry)) (now (joined .entry)) ⌝ }
+{
+    let count = servers as usize;
     let mut i: usize = 0;
-    while i < servers {
-        let start = 14 * i;
-        let end = start + 14;
-        if !round_sound(&joined[start..end], kind, id, i as u8) {
+    while i < count {
+        if !place_sound(joined, servers, kind, id, own, mine, i) {
             return false;
         }
         i += 1;
@@ -55,12 +104,7 @@ pub fn round_refusal(joined: &[u8], servers: u32, kind: u8, id: u32, own: u32, m
     if joined.len() != 14 * count {
         return 12;
     }
-    if !all_sound(joined, count, kind, id) {
-        return 12;
-    }
-    let start = 14 * (own as usize);
-    let end = start + 14;
-    if words::equal(&joined[start..end], mine) {
+    if all_sound(joined, servers as u8, kind, id, own as u8, mine) {
         return 0;
     }
     12

@@ -3,10 +3,13 @@ pub mod MessageBytes
 pub mod ShareBytes
 pub mod ClosingBytes
 pub mod Checks
+pub mod JoinedRuns
 pub mod Opening
 pub mod PoolOpened
 pub mod Shuffled
 pub mod Keyed
+pub mod AnyOrder
+pub mod WrittenRuns
 pub mod Moves
 pub mod NotesGrow
 pub mod Origins

@@ -11,6 +11,7 @@ pub mod Taken
 pub mod LedgerGrows
 pub mod Decided
 pub mod Run
+pub mod InAnyOrder
 pub mod Opens
 pub mod Erased
 pub mod Greatest

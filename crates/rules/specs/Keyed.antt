@@ -9,6 +9,11 @@ unfoldable pub find : {A : Type 0} → (A → ℕ) → ℕ → List A → Option
 find key id [] = none
 find key id (w ∷ ws) = cond (eqb (key w) id) (some w) (find key id ws)
 
+-- the first member with an id; `other` where there is none
+unfoldable pub under : {A : Type 0} → (A → ℕ) → A → ℕ → List A → A
+under key other id [] = other
+under key other id (w ∷ ws) = cond (eqb (key w) id) w (under key other id ws)
+
 unfoldable pub without : {A : Type 0} → (A → ℕ) → ℕ → List A → List A
 without key id [] = []
 without key id (w ∷ ws) = cond (eqb (key w) id) ws (w ∷ without key id ws)

@@ -6,7 +6,7 @@ use mathlib.Core.List.{List, [], _∷_, _++_, map}
 use Prim.Native.Nat.{ℕ, suc, _+_, _-_, _*_, _≤_, _<_, max}
 use lib.Dec.{eqb}
 use lib.ListN.{length, getD}
-use Rattle.algebra.specs.Lists.{In, sumOver}
+use Rattle.algebra.specs.Lists.{In, Rearranged, sumOver}
 use Rattle.algebra.specs.Modulo.{modulo}
 use Rattle.algebra.specs.Count.{countPairs}
 use Rattle.words.specs.Bytes.{part, elementsOf}
@@ -19,11 +19,11 @@ use Rattle.rules.specs.Making.{madeWhole, madeShare, shareMessage, share
 use Rattle.rules.specs.Messages.{idIn, shareElements, headerFault, elementsFault, roundLength}
 use Rattle.rules.specs.Server.{mostWaiting, messageOne, messageTwo}
 use Rattle.rules.specs.Joining.{joinTotals}
-use Rattle.rules.specs.Ledger.{Call, share, roundOne, roundTwo, wrote, judged, Pending, isOpen, empty, idsOf}
+use Rattle.rules.specs.Ledger.{Call, share, wrote, judged, Pending, isOpen, empty, idsOf}
 use Rattle.rules.specs.Ledger.{noteOf, refusalOf, runLedger, ledgerAnswers}
 use Rattle.rules.specs.WholeRun.{Pool, columns, openedAt, ledgerAt, acceptedAt, notesAt, returnOf, KeepsForm, Conditions}
 use Rattle.rules.specs.WholeRun.{DeliveredWhole, AllClosed, closings}
-use Rattle.rules.specs.WholeRun.{firstWait, firsts, secondWait, seconds}
+use Rattle.rules.specs.WholeRun.{bothRounds, firstWait, firsts, secondWait, seconds}
 
 -- ---- a return that making wrote, where making is not refused
 module _ (σ : Setting) (sheet : List ℕ) (servers id : ℕ) (values random : List ℕ) where
@@ -102,16 +102,14 @@ module _ (σ : Setting) (𝓟 : Pool σ) where
     pub enough : roundLength σ ≤ room
 
   -- such servers accept a return that making wrote: each is handed its part of the bytes, and both rounds' messages as they
-  -- were written; it writes two messages and accepts
+  -- were written, in any order; it writes two messages and accepts
   abbrev pub MadeAccepted : ℕ → List ℕ → List ℕ → ℕ → ℕ → ℕ → Type 0
   MadeAccepted id values random r s room =
       let shares = shareMade σ (𝓟 .sheet) (𝓟 .servers) id values random in
-      (i : ℕ) → i < 𝓟 .servers
+      (i : ℕ) → i < 𝓟 .servers → (ones twos : List (List ℕ))
+      → Rearranged ones (firsts σ 𝓟 id shares r s) → Rearranged twos (seconds σ 𝓟 id shares r s)
       → ledgerAnswers σ (openedAt σ 𝓟 i) (ledgerAt σ 𝓟 i)
-      (share (madePart σ (𝓟 .sheet) (𝓟 .servers) id values random i) r s room
-      ∷ roundOne id (firsts σ 𝓟 id shares r s) room
-      ∷ roundTwo id (seconds σ 𝓟 id shares r s)
-      ∷ [])
+      (share (madePart σ (𝓟 .sheet) (𝓟 .servers) id values random i) r s room ∷ bothRounds id ones twos room)
       ≡ wrote (messageOne σ (openedAt σ 𝓟 i) (firstWait σ 𝓟 id shares r s i))
       ∷ wrote (messageTwo σ (openedAt σ 𝓟 i) (secondWait σ 𝓟 id shares r s i))
       ∷ judged true

@@ -1,7 +1,8 @@
--- Document 01, "A return" and "Judging": messages 33, 34 and 35, their bytes, their reading and what is at fault in them.
+-- Document 01, "A return" and "Judging", and document 02, messages as they arrive: messages 33, 34 and 35, their bytes, their
+-- reading and what is at fault in them.
 -- Assumes nothing.
-use mathlib.Core.Bool.{Bool, _&&_}
-use mathlib.Core.List.{List, [], _∷_, _++_}
+use mathlib.Core.Bool.{Bool, not, _&&_, _||_}
+use mathlib.Core.List.{List, _∷_, _++_, map, flatten}
 use Prim.Native.Nat.{ℕ, _+_, _*_}
 use lib.Dec.{eqb, ltb}
 use lib.ListN.{length, getD, drop}
@@ -49,25 +50,46 @@ firstIn σ m = valueOf (part 6 (σ .width) m)
 abbrev pub secondIn : Setting → List ℕ → ℕ
 secondIn σ m = valueOf (part (6 + σ .width) (σ .width) m)
 
--- "each server's message of 14 bytes is judged from its own place in them"
+-- messages one after another: f 0, f 1, .., n of them
+abbrev pub oneByOne : (ℕ → List ℕ) → ℕ → List ℕ
+oneByOne f n = flatten (map f (countFrom 0 n))
+
+-- "each server's message of 14 bytes is judged from its own place in them", and the server that it names
 abbrev pub placeIn : Setting → List ℕ → ℕ → List ℕ
 placeIn σ joined i = part (roundLength σ * i) (roundLength σ) joined
 
--- "wrong kind, id, server order, element not below p"
+abbrev pub serverAt : Setting → List ℕ → ℕ → ℕ
+serverAt σ joined i = serverIn (placeIn σ joined i)
+
+-- "wrong kind, id, .. element not below p", or a server that is none of the S
 unfoldable pub roundSound : Setting → ℕ → ℕ → ℕ → List ℕ → Bool
-roundSound σ kind id server m =
+roundSound σ servers kind id m =
     eqb (kindIn m) kind
     && (eqb (idIn m) id
-    && (eqb (serverIn m) server && (ltb (firstIn σ m) (σ .modulus) && ltb (secondIn σ m) (σ .modulus))))
+    && (ltb (serverIn m) servers && (ltb (firstIn σ m) (σ .modulus) && ltb (secondIn σ m) (σ .modulus))))
 
--- "12: joined round messages: wrong length, kind, id, server order, element not below p; own round message altered":
--- the S messages of a round for an id, of which the one of server `own` is `mine`
+-- "The joined messages of a round may stand in any order, each server exactly once .. A server twice or missing is still
+-- refused 12": whether a server is still missing at place i, since none of the places before names it. Where none of S places
+-- names a server twice, none is missing at the end
+unfoldable pub stillMissing : Setting → List ℕ → ℕ → ℕ → Bool
+stillMissing σ joined server i = every (λ j. not (eqb (serverAt σ joined j) server)) (countFrom 0 i)
+
+-- "own round message altered": the message that names server `own` is `mine`
+unfoldable pub ownKept : ℕ → List ℕ → List ℕ → Bool
+ownKept own mine m = not (eqb (serverIn m) own) || sameBytes m mine
+
+unfoldable pub placeSound : Setting → ℕ → ℕ → ℕ → ℕ → List ℕ → List ℕ → ℕ → Bool
+placeSound σ servers kind id own mine joined i =
+    let m = placeIn σ joined i in
+    roundSound σ servers kind id m && (stillMissing σ joined (serverIn m) i && ownKept own mine m)
+
+-- "12: joined round messages: wrong length, kind, id, .. element not below p; own round message altered": the S messages of a
+-- round for an id, as they arrived, of which the one of server `own` is `mine`
 unfoldable pub roundFault : Setting → ℕ → ℕ → ℕ → ℕ → List ℕ → List ℕ → ℕ
 roundFault σ servers kind id own mine joined =
     check
     (eqb (length joined) (roundLength σ * servers)
-    && (every (λ i. roundSound σ kind id i (placeIn σ joined i)) (countFrom 0 servers)
-    && sameBytes (placeIn σ joined own) mine)) 12
+    && every (placeSound σ servers kind id own mine joined) (countFrom 0 servers)) 12
 
 -- the sums modulo p of the two elements of joined messages
 unfoldable pub firstSum : Setting → ℕ → List ℕ → ℕ

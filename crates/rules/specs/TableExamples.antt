@@ -1,12 +1,12 @@
 -- Document 01, "Judging", "Whole runs" and "Who can cause which refusal": calls on a server's table by rows that compute: on the
 -- tables of two servers, the orders of refusals, and what is kept of a return. SoundExamples has the tables within the limits,
--- WaitingExamples the rows about several returns that wait.
+-- WaitingExamples the rows about several returns that wait, OrderExamples those about joined messages in any order.
 -- Assumes nothing.
 use mathlib.Core.Bool.{Bool, _&&_, _||_, not}
 use mathlib.Core.List.{List, [], _∷_, _++_}
 use Prim.Native.Nat.{ℕ, _+_}
 use lib.Dec.{eqb}
-use lib.ListN.{set, take, drop, replicate}
+use lib.ListN.{set, take, replicate}
 use Rattle.algebra.specs.Lists.{every, tabulate}
 use Rattle.words.specs.Bytes.{bytesOf, bytesOfAll, splice}
 use Rattle.slots.specs.declared.Slot.{Slot}
@@ -50,10 +50,10 @@ abbrev joinedTotals : List ℕ
 joinedTotals = closeBytes σ (second 0) ++ closeBytes σ (second 1)
 
 -- the tables after the first share, 77, and after that return was dropped
-abbrev waiting : ℕ → Lent
+abbrev pub waiting : ℕ → Lent
 waiting = took fresh honest 77 4
 
-abbrev messages : List ℕ
+abbrev pub messages : List ℕ
 messages = ones fresh honest 77 4
 
 abbrev afterDrop : ℕ → Lent
@@ -87,7 +87,6 @@ onTables =
     ∷ row "messages of another id: 12" (eqb (oneRefused σ (waiting 0) 77 (ones fresh honest 78 4) 14) 12)
     ∷ row "messages of the other round: 12" (eqb (oneRefused σ (waiting 0) 77 (twos fresh honest 77 4) 14) 12)
     ∷ row "another's element that is p: 12" (eqb (oneRefused σ (waiting 0) 77 (take 20 messages ++ bytesOfAll 4 (P ∷ 0 ∷ [])) 14) 12)
-    ∷ row "messages in another server order: 12" (eqb (oneRefused σ (waiting 0) 77 (drop 14 messages ++ take 14 messages) 14) 12)
     ∷ row "one message missing: 12" (eqb (oneRefused σ (waiting 0) 77 (take 14 messages) 14) 12)
     ∷ row "room for 13 bytes: 14" (eqb (oneRefused σ (waiting 0) 77 messages 13) 14)
     ∷ row "a close while one waits: 11" (eqb (closeRefused σ (waiting 0) 100) 11)

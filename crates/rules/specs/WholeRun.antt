@@ -2,11 +2,11 @@
 -- Assumes nothing.
 use mathlib.Core.Path.{_≡_}
 use mathlib.Core.Bool.{true, false, cond}
-use mathlib.Core.List.{List, [], _∷_, _++_, map}
-use Prim.Native.Nat.{ℕ, zero, suc, _+_, _-_, _*_, _%_, _≤_, _<_, max}
+use mathlib.Core.List.{List, [], _∷_, _++_, map, flatten}
+use Prim.Native.Nat.{ℕ, suc, _+_, _-_, _*_, _%_, _≤_, _<_, max}
 use lib.Dec.{eqb, leb}
 use lib.ListN.{length, getD, replicate}
-use Rattle.algebra.specs.Lists.{All, In, Distinct, Rearranged, sumOver}
+use Rattle.algebra.specs.Lists.{All, In, Distinct, Rearranged, sumOver, countFrom}
 use Rattle.algebra.specs.Modulo.{modulo}
 use Rattle.algebra.specs.Count.{countPairs}
 use Rattle.words.specs.Bytes.{allBelow}
@@ -17,7 +17,7 @@ use Rattle.rules.specs.Run.{Valid}
 use Rattle.rules.specs.Values.{legalValues}
 use Rattle.rules.specs.Judging.{shareSize, addedUp, letsIn, allowedPair}
 use Rattle.rules.specs.Making.{madeShare, randomCount, shareMessage}
-use Rattle.rules.specs.Messages.{placeIn, roundLength}
+use Rattle.rules.specs.Messages.{roundLength, oneByOne, placeIn, serverAt}
 use Rattle.rules.specs.Server.{Opened, Waiting, Wait, mostWaiting, waitingOf, messageOne, messageTwo, summed}
 use Rattle.slots.specs.Slots.{freeSlot}
 use Rattle.rules.specs.WaitingList.{isFree, placeSize, numbersAt, waitsIn}
@@ -29,7 +29,7 @@ use Rattle.rules.specs.Ledger.{isAccepted, isDropped, notesWith, idsOf, 
 use Rattle.rules.specs.Ledger.{ledgerWait}
 use Rattle.rules.specs.Ledger.{closingMessage}
 use Rattle.rules.specs.Runs.{runTable, tableAnswers}
-use Rattle.rules.specs.Keyed.{those}
+use Rattle.rules.specs.Keyed.{under, those}
 use Rattle.rules.specs.Mixing.{on, callsOn, answersOn, answersTo, Mixing}
 
 -- the bytes of a call are bytes
@@ -92,8 +92,7 @@ notesIn l = notesOf (l .decided) ++ map noteIn (waiting (l .progress))
 
 -- the share noted under an id; one without elements where there is none
 unfoldable pub noteUnder : ℕ → List Note → Note
-noteUnder id [] = record { id = id; elements = []; r = 0; s = 0 }
-noteUnder id (n ∷ ns) = cond (eqb (n .id) id) n (noteUnder id ns)
+noteUnder id ns = under (λ n. n .id) (record { id = id; elements = []; r = 0; s = 0 }) id ns
 
 -- the joined messages of the round calls of a list that are not refused
 module _ (σ : Setting) (o : Opened) where
@@ -130,11 +129,12 @@ module _ (σ : Setting) (𝓟 : Pool σ) where
       (i : ℕ) → i < 𝓟 .servers → (n : Note) → In n (notesAt i) → n .id ≡ id → (n .r ≡ r) × (n .s ≡ s)
 
   -- "Round messages are unaltered when each one in a round call that is not refused is the one that the named server wrote
-  -- for that id and round": a message holds its id, its round and its server. "Drops are in the same order when no id
-  -- dropped at one server is accepted at another."
+  -- for that id and round": a message holds its id, its round and its server, at whatever place it stands. "Drops are in the
+  -- same order when no id dropped at one server is accepted at another."
   pub record Conditions : Type 0 where
-    pub unaltered : (i j : ℕ) → i < 𝓟 .servers → j < 𝓟 .servers → (joined : List ℕ)
-        → In joined (handedIn σ (openedAt σ 𝓟 i) empty (𝓟 .calls i)) → In (wrote (placeIn σ joined j)) (answersAt σ 𝓟 j)
+    pub unaltered : (i place : ℕ) → i < 𝓟 .servers → place < 𝓟 .servers → (joined : List ℕ)
+        → In joined (handedIn σ (openedAt σ 𝓟 i) empty (𝓟 .calls i))
+        → In (wrote (placeIn σ joined place)) (answersAt σ 𝓟 (serverAt σ joined place))
     pub same-drops : (i j : ℕ) → i < 𝓟 .servers → j < 𝓟 .servers → (id : ℕ) → In id (droppedAt σ 𝓟 i)
         → In id (acceptedAt σ 𝓟 j) → ⊥
 
@@ -152,12 +152,8 @@ module _ (σ : Setting) (𝓟 : Pool σ) where
   AllClosed = (i : ℕ) → i < 𝓟 .servers → ledgerAt σ 𝓟 i .progress ≡ isClosed
 
   -- the closing messages, one after another in server order
-  unfoldable pub closingsFrom : ℕ → ℕ → List ℕ
-  closingsFrom i zero = []
-  closingsFrom i (suc n) = closingMessage σ (openedAt σ 𝓟 i) (ledgerAt σ 𝓟 i) ++ closingsFrom (suc i) n
-
   abbrev pub closings : List ℕ
-  closings = closingsFrom 0 (𝓟 .servers)
+  closings = oneByOne (λ i. closingMessage σ (openedAt σ 𝓟 i) (ledgerAt σ 𝓟 i)) (𝓟 .servers)
 
   -- When all servers have closed
   pub record Closed : Type 0 where
@@ -180,30 +176,23 @@ module _ (σ : Setting) (𝓟 : Pool σ) where
         → joinTotals σ (𝓟 .servers) (𝓟 .sheet) closings
         ≡ map (λ e. sumOver (λ id. addedEntry id e) ids) (publishedFrom 0 (columns σ 𝓟))
 
--- A return of sound shares handed to servers that have room: the share, and both rounds with the messages as they were written
+-- both rounds of a return, with the messages as they arrived
+abbrev pub bothRounds : ℕ → List (List ℕ) → List (List ℕ) → ℕ → List Call
+bothRounds id ones twos room = roundOne id (flatten ones) room ∷ roundTwo id (flatten twos) ∷ []
+
+-- A return of sound shares handed to servers that have room, and the messages of both rounds as they are written
 module _ (σ : Setting) (𝓟 : Pool σ) (id : ℕ) (shares : ℕ → List ℕ) (r s : ℕ) where
   abbrev pub firstWait : ℕ → Waiting
   firstWait i = waitingOf σ (openedAt σ 𝓟 i) id (shares i) r s
 
-  unfoldable pub firstsFrom : ℕ → ℕ → List ℕ
-  firstsFrom i zero = []
-  firstsFrom i (suc n) = messageOne σ (openedAt σ 𝓟 i) (firstWait i) ++ firstsFrom (suc i) n
-
-  abbrev pub firsts : List ℕ
-  firsts = firstsFrom 0 (𝓟 .servers)
+  abbrev pub firsts : List (List ℕ)
+  firsts = map (λ i. messageOne σ (openedAt σ 𝓟 i) (firstWait i)) (countFrom 0 (𝓟 .servers))
 
   abbrev pub secondWait : ℕ → Waiting
-  secondWait i = summed σ (openedAt σ 𝓟 i) (firstWait i) firsts
+  secondWait i = summed σ (openedAt σ 𝓟 i) (firstWait i) (flatten firsts)
 
-  unfoldable pub secondsFrom : ℕ → ℕ → List ℕ
-  secondsFrom i zero = []
-  secondsFrom i (suc n) = messageTwo σ (openedAt σ 𝓟 i) (secondWait i) ++ secondsFrom (suc i) n
-
-  abbrev pub seconds : List ℕ
-  seconds = secondsFrom 0 (𝓟 .servers)
-
-  abbrev pub threeCalls : ℕ → ℕ → List Call
-  threeCalls room i = share (shareMessage σ id i (shares i)) r s room ∷ roundOne id firsts room ∷ roundTwo id seconds ∷ []
+  abbrev pub seconds : List (List ℕ)
+  seconds = map (λ i. messageTwo σ (openedAt σ 𝓟 i) (secondWait i)) (countFrom 0 (𝓟 .servers))
 
   -- what has to be so for the return to be taken
   pub record Ready (room : ℕ) : Type 0 where
@@ -249,19 +238,22 @@ pub record WholeRun (σ : Setting) (𝓟 : Pool σ) : Type 0 where
       → (Valid (modulo (σ .modulus)) σ (columns σ 𝓟) (addedUp (modulo (σ .modulus)) σ (columns σ 𝓟) (𝓟 .servers) x) → ⊥)
       → countPairs (σ .modulus) (σ .modulus) (letsIn σ (columns σ 𝓟) (𝓟 .servers) x)
       ≤ σ .modulus * max (suc (gatesIn (columns σ 𝓟) + gatesIn (columns σ 𝓟))) (testsIn (columns σ 𝓟) - 1)
-  -- 8. A return of sound shares is handled to its end: nothing is refused, and the verdict is that of its pair
+  -- 8. A return of sound shares is handled to its end: nothing is refused, in whatever order the messages of a round arrived
+  -- here, and the verdict is that of its pair
   pub handled : (id : ℕ) (shares : ℕ → List ℕ) (r s room : ℕ) → Ready σ 𝓟 id shares r s room
-      → (i : ℕ) → i < 𝓟 .servers
-      → ledgerAnswers σ (openedAt σ 𝓟 i) (ledgerAt σ 𝓟 i) (threeCalls σ 𝓟 id shares r s room i)
+      → (i : ℕ) → i < 𝓟 .servers → (ones twos : List (List ℕ))
+      → Rearranged ones (firsts σ 𝓟 id shares r s) → Rearranged twos (seconds σ 𝓟 id shares r s)
+      → ledgerAnswers σ (openedAt σ 𝓟 i) (ledgerAt σ 𝓟 i)
+      (share (shareMessage σ id i (shares i)) r s room ∷ bothRounds id ones twos room)
       ≡ wrote (messageOne σ (openedAt σ 𝓟 i) (firstWait σ 𝓟 id shares r s i))
       ∷ wrote (messageTwo σ (openedAt σ 𝓟 i) (secondWait σ 𝓟 id shares r s i))
       ∷ judged (letsIn σ (columns σ 𝓟) (𝓟 .servers) (λ j e. getD (shares j) e 0) r s)
       ∷ []
   -- and however other calls are mixed in, once the share is taken
   pub handled-mixed : (id : ℕ) (shares : ℕ → List ℕ) (r s room : ℕ) → Ready σ 𝓟 id shares r s room
-      → (i : ℕ) → i < 𝓟 .servers → (more : List Call)
-      → those (on id) more
-      ≡ roundOne id (firsts σ 𝓟 id shares r s) room ∷ roundTwo id (seconds σ 𝓟 id shares r s) ∷ []
+      → (i : ℕ) → i < 𝓟 .servers → (ones twos : List (List ℕ))
+      → Rearranged ones (firsts σ 𝓟 id shares r s) → Rearranged twos (seconds σ 𝓟 id shares r s)
+      → (more : List Call) → those (on id) more ≡ bothRounds id ones twos room
       → answersTo σ (openedAt σ 𝓟 i) id (ledgerAt σ 𝓟 i) (share (shareMessage σ id i (shares i)) r s room ∷ more)
       ≡ wrote (messageOne σ (openedAt σ 𝓟 i) (firstWait σ 𝓟 id shares r s i))
       ∷ wrote (messageTwo σ (openedAt σ 𝓟 i) (secondWait σ 𝓟 id shares r s i))

@@ -16,7 +16,6 @@ use Rattle.rules.specs.Runs.{runTable, tableAnswers}
 use Rattle.rules.specs.WholeRun.{Pool, tableAt, answersAt, acceptedAt, droppedAt, Conditions, AllClosed, closings, Closed}
 use Rattle.rules.proofs.Computed.Computing.{everything}
 use Rattle.rules.proofs.Computed.Facts.{document01-facts}
-use Rattle.rules.proofs.Histories.MessageBytes.{oneByOne}
 use Rattle.rules.proofs.Runs.WholeTotals.{closed-together}
 use Rattle.runs.proofs.Tests.{bytesCall, opensAt, isPool, poolOf, hasWritten, meets, meets-conditions}
 use Rattle.runs.proofs.Tests.{isEnded, allEnded, all-closed}
@@ -35,17 +34,18 @@ rOf id = cond (eqb id 6) 3 4
 abbrev pub takes : ℕ → ℕ → Call
 takes id i = give id (sharesOf id) (rOf id) 9 i
 
+-- server 1's message arrives first in round one, last in round two
 abbrev pub one : ℕ → Call
-one id = roundOne id (ones 2 sheet 9 id (sharesOf id) (rOf id) 9) 14
+one id = roundOne id (ones 2 sheet 9 (1 ∷ 0 ∷ []) id (sharesOf id) (rOf id) 9) 14
 
 abbrev pub two : ℕ → Call
-two id = roundTwo id (twos 2 sheet 9 id (sharesOf id) (rOf id) 9)
+two id = roundTwo id (twos 2 sheet 9 (0 ∷ 1 ∷ []) id (sharesOf id) (rOf id) 9)
 
 unfoldable pub calls : ℕ → List Call
 calls zero =
     (takes 1 0 ∷ takes 2 0 ∷ takes 3 0 ∷ takes 4 0 ∷ takes 5 0 ∷ takes 6 0 ∷ takes 7 0 ∷ takes 8 0 ∷ [])
     -- refused: a ninth return; a close while any waits; an id not waiting; another stage; messages of another id
-    ++ (takes 9 0 ∷ close 100 ∷ drop 9 ∷ two 5 ∷ roundOne 5 (ones 2 sheet 9 3 honest 4 9) 14 ∷ [])
+    ++ (takes 9 0 ∷ close 100 ∷ drop 9 ∷ two 5 ∷ roundOne 5 (ones 2 sheet 9 (0 ∷ 1 ∷ []) 3 honest 4 9) 14 ∷ [])
     ++ (one 5 ∷ one 1 ∷ one 5 ∷ two 5 ∷ drop 4 ∷ [])
     -- refused: an id that waits; one that is decided; and, with the ninth, decided and waiting have reached N
     ++ (takes 1 0 ∷ takes 5 0 ∷ takes 9 0 ∷ takes 10 0 ∷ [])
@@ -57,7 +57,7 @@ calls (suc i) =
     ++ (two 9 ∷ two 8 ∷ drop 4 ∷ two 7 ∷ two 6 ∷ two 5 ∷ two 3 ∷ close 10 ∷ two 2 ∷ close 10 ∷ [])
 
 pub is-pool : isPool document01 2 sheet 9 (λ i. lent 53 88) calls ≡ true
-unfolding everything isPool opensAt bytesCall calls ones twos oneByOne
+unfolding everything isPool opensAt bytesCall calls ones twos
 is-pool = refl
 
 abbrev pub pool : Pool document01
@@ -74,34 +74,34 @@ answered =
     ++ (100 ∷ [])
 
 answers-0 : map short (answersAt document01 pool 0) ≡ answered
-unfolding everything short calls ones twos oneByOne
+unfolding everything short calls ones twos
 answers-0 = refl
 
 table-answers-0 : map short (tableAnswers document01 (tableAt document01 pool 0) (calls 0)) ≡ answered
-unfolding everything short calls ones twos oneByOne
+unfolding everything short calls ones twos
 table-answers-0 = refl
 
 none-left : runTable document01 (tableAt document01 pool 0) (calls 0) .slots ≡ freeList
-unfolding everything calls ones twos oneByOne
+unfolding everything calls ones twos
 none-left = refl
 
 numbers-left : runTable document01 (tableAt document01 pool 0) (calls 0) .elements ≡ replicate 88 0
-unfolding everything calls ones twos oneByOne
+unfolding everything calls ones twos
 numbers-left = refl
 
 answers-1 : map short (answersAt document01 pool 1)
     ≡ (100 ∷ 100 ∷ 100 ∷ 100 ∷ 100 ∷ 100 ∷ 100 ∷ 100 ∷ [])
     ++ (100 ∷ 100 ∷ 100 ∷ 100 ∷ 200 ∷ 100 ∷ 100 ∷ 100 ∷ 100 ∷ 100 ∷ 100 ∷ [])
     ++ (200 ∷ 200 ∷ 400 ∷ 200 ∷ 300 ∷ 200 ∷ 200 ∷ 11 ∷ 200 ∷ 100 ∷ [])
-unfolding everything short calls ones twos oneByOne
+unfolding everything short calls ones twos
 answers-1 = refl
 
 pub meets-them : Conditions document01 pool
-unfolding everything meets hasWritten calls ones twos oneByOne
+unfolding everything meets hasWritten calls ones twos
 meets-them = meets-conditions document01 pool refl
 
 pub ended : AllClosed document01 pool
-unfolding everything allEnded isEnded calls ones twos oneByOne
+unfolding everything allEnded isEnded calls ones twos
 ended = all-closed document01 pool refl
 
 -- what is promised of it
@@ -110,17 +110,17 @@ joined = closed-together document01 document01-facts pool meets-them ended
 
 -- and what comes of it: the ids in the order of the verdicts at each server, and four of seven say yes
 accepted-0 : acceptedAt document01 pool 0 ≡ 5 ∷ 9 ∷ 1 ∷ 3 ∷ 2 ∷ 8 ∷ 7 ∷ []
-unfolding everything calls ones twos oneByOne
+unfolding everything calls ones twos
 accepted-0 = refl
 
 accepted-1 : acceptedAt document01 pool 1 ≡ 1 ∷ 9 ∷ 8 ∷ 7 ∷ 5 ∷ 3 ∷ 2 ∷ []
-unfolding everything calls ones twos oneByOne
+unfolding everything calls ones twos
 accepted-1 = refl
 
 dropped-ids : droppedAt document01 pool 1 ≡ 4 ∷ []
-unfolding everything calls ones twos oneByOne
+unfolding everything calls ones twos
 dropped-ids = refl
 
 join-is : joinResult 2 sheet 9 (closings document01 pool) ≡ 0 ∷ 7 ∷ 4 ∷ []
-unfolding everything joinResult calls ones twos oneByOne
+unfolding everything joinResult calls ones twos
 join-is = refl

@@ -11,6 +11,7 @@ use borrow.Author.Tests.{eqb-true}
 use lib.Dec.{eqb, lit<}
 use lib.ListN.{getD, take, drop}
 use Rattle.algebra.specs.Lists.{all∷, In, every, countFrom}
+use Rattle.algebra.proofs.Rearrangement.{rearranged-refl}
 use Rattle.algebra.specs.Count.{countPairs}
 use Rattle.words.specs.Bytes.{bytesOfAll, elementsOf}
 use Rattle.rules.specs.Settings.{document01}
@@ -19,16 +20,15 @@ use Rattle.rules.specs.Circuit.{gatesIn, testsIn}
 use Rattle.rules.specs.Judging.{letsIn}
 use Rattle.rules.specs.Making.{shareMessage, madeShare, makeRefusal}
 use Rattle.rules.specs.Ledger.{Call, share, empty, accepted, rejected, Decided, isAccepted, refusalOf, runLedger, ledgerAnswers}
-use Rattle.rules.specs.WholeRun.{Pool, openedAt, ledgerAt, acceptedAt, returnOf, KeepsForm, Ready, threeCalls, WholeRun}
+use Rattle.rules.specs.WholeRun.{Pool, openedAt, ledgerAt, acceptedAt, returnOf, KeepsForm, Ready, firsts, seconds, bothRounds, WholeRun}
 use Rattle.rules.specs.Made.{madePart, MadeReturn, Took, MadeOf, CanTake, MadeAccepted, joinedTotals, howMany, EncodedTotals}
 use Rattle.rules.proofs.Computed.Computing.{everything}
-use Rattle.rules.proofs.Histories.MessageBytes.{oneByOne}
 use Rattle.rules.proofs.Histories.Checks.{every-at}
 use Rattle.rules.proofs.Runs.WholeRuns.{document01-whole-run}
 use Rattle.rules.proofs.Runs.MadeRuns.{document01-made-run}
 use Rattle.runs.proofs.Tests.{bytesCall, opensAt, isPool, poolOf, isEnded, isReady, is-ready}
-use Rattle.runs.proofs.TwoServers.{ones, twos, short, lent, sheet, random, honest, false-return, calls, pool, meets-them, ended}
-use Rattle.runs.proofs.TwoServers.{pair-77, pair-78}
+use Rattle.runs.proofs.TwoServers.{ones, twos, give, short, lent, sheet, random, honest, false-return, calls}
+use Rattle.runs.proofs.TwoServers.{pool, meets-them, ended, pair-77, pair-78}
 
 -- ---- making: yes, and the random elements, as bytes
 abbrev valueBytes : List ℕ
@@ -98,11 +98,11 @@ abbrev rejected-78 : Decided
 rejected-78 = record { note = record { id = 78; elements = false-return 1; r = 3; s = 9 }; decision = rejected }
 
 in-77 : In accepted-77 (ledgerAt document01 pool 1 .decided)
-unfolding everything calls ones twos oneByOne
+unfolding everything calls ones twos
 in-77 = inl refl
 
 in-78 : In rejected-78 (ledgerAt document01 pool 1 .decided)
-unfolding everything calls ones twos oneByOne
+unfolding everything calls ones twos
 in-78 = inr (inl refl)
 
 lets-77 : letsIn document01 (columnsOf sheet) 2 (returnOf document01 pool 77) 4 9 ≡ true
@@ -116,7 +116,7 @@ honest-77 = whole-run .honest meets-them 1 (lit< tt) accepted-77 in-77 refl 4 9 
 
 -- the false return does not keep its form, so at most p × 3 pairs let it in
 broken-78 : KeepsForm document01 pool 78 → ⊥
-unfolding everything calls ones twos oneByOne
+unfolding everything calls ones twos
 broken-78 (all∷ e es) = omega arith
 
 few-78 : countPairs 2147483647 2147483647 (letsIn document01 (columnsOf sheet) 2 (returnOf document01 pool 78)) ≤ 2147483647 * 3
@@ -128,7 +128,7 @@ few-78 = subst (λ (k : ℕ). countPairs 2147483647 2147483647 (letsIn document0
 
 -- ---- totals: every accepted return is delivered whole, and one said yes
 accepted-0 : acceptedAt document01 pool 0 ≡ 77 ∷ []
-unfolding everything calls ones twos oneByOne
+unfolding everything calls ones twos
 accepted-0 = refl
 
 each-made : (id : ℕ) → In id (acceptedAt document01 pool 0) → MadeOf document01 pool id (elementsOf 4 valueBytes)
@@ -142,7 +142,7 @@ totals-77 : EncodedTotals document01 pool (acceptedAt document01 pool 0) (λ id.
 totals-77 = document01-made-run pool .totals meets-them ended 0 (lit< tt) _ each-made
 
 one-yes : getD (joinedTotals document01 pool) 0 0 ≡ 1
-unfolding everything howMany calls ones twos oneByOne
+unfolding everything howMany calls ones twos
 one-yes = totals-77 .yes-total [] [] refl
 
 -- ---- the first ten calls: 77 is accepted, and nothing waits
@@ -150,18 +150,18 @@ abbrev early : ℕ → List Call
 early i = take 10 (calls i)
 
 is-early : isPool document01 2 sheet 3 (λ i. lent 29 88) early ≡ true
-unfolding everything isPool opensAt bytesCall calls ones twos oneByOne
+unfolding everything isPool opensAt bytesCall calls ones twos
 is-early = refl
 
 abbrev earlyPool : Pool document01
 earlyPool = poolOf document01 2 sheet 3 (λ i. lent 29 88) early is-early
 
 ready-honest : Ready document01 earlyPool 78 honest 4 9 14
-unfolding everything isReady isEnded calls ones twos oneByOne
+unfolding everything isReady isEnded calls ones twos
 ready-honest = is-ready document01 earlyPool 78 honest 4 9 14 refl
 
 ready-false : Ready document01 earlyPool 78 false-return 3 9 14
-unfolding everything isReady isEnded calls ones twos oneByOne
+unfolding everything isReady isEnded calls ones twos
 ready-false = is-ready document01 earlyPool 78 false-return 3 9 14 refl
 
 -- they accept a return that making wrote
@@ -185,7 +185,8 @@ accepted-78 =
 answered : (ℕ → List ℕ) → ℕ → ℕ → ℕ → List ℕ
 answered shares r s i =
     map short (ledgerAnswers document01 (openedAt document01 earlyPool i) (ledgerAt document01 earlyPool i)
-    (threeCalls document01 earlyPool 78 shares r s 14 i))
+    (give 78 shares r s i
+    ∷ bothRounds 78 (firsts document01 earlyPool 78 shares r s) (seconds document01 earlyPool 78 shares r s) 14))
 
 -- from what the pair says
 answers-are : (shares : ℕ → List ℕ) (r s : ℕ) → Ready document01 earlyPool 78 shares r s 14 → (b : Bool)
@@ -193,7 +194,8 @@ answers-are : (shares : ℕ → List ℕ) (r s : ℕ) → Ready document01 early
     → (i : ℕ) → i < 2 → answered shares r s i ≡ 100 ∷ 100 ∷ cond b 200 300 ∷ []
 unfolding answered short
 answers-are shares r s ready b e i l =
-    ap (map short) (document01-whole-run earlyPool .handled 78 shares r s 14 ready i l)
+    ap (map short) (document01-whole-run earlyPool .handled 78 shares r s 14 ready i l _ _
+    (rearranged-refl (firsts document01 earlyPool 78 shares r s)) (rearranged-refl (seconds document01 earlyPool 78 shares r s)))
     ∙ ap (λ (v : Bool). 100 ∷ 100 ∷ cond v 200 300 ∷ []) e
 
 handled-honest : (i : ℕ) → i < 2 → answered honest 4 9 i ≡ 100 ∷ 100 ∷ 200 ∷ []

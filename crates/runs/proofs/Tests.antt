@@ -18,7 +18,7 @@ use Rattle.rules.specs.Settings.{Setting}
 use Rattle.rules.specs.Values.{legalValues}
 use Rattle.rules.specs.Judging.{shareSize, allowedPair}
 use Rattle.rules.specs.Making.{madeShare, randomCount}
-use Rattle.rules.specs.Messages.{placeIn, roundLength}
+use Rattle.rules.specs.Messages.{placeIn, serverAt, roundLength}
 use Rattle.rules.specs.Server.{isMember, mostWaiting}
 use Rattle.rules.specs.Table.{Lent}
 use Rattle.rules.specs.Ledger.{Call, share, roundOne, roundTwo, drop, close, Answer, refused, wrote, judged, done, Note}
@@ -128,7 +128,8 @@ module _ (σ : Setting) (𝓟 : Pool σ) where
 
   abbrev unalteredAt : ℕ → ℕ → Bool
   unalteredAt i j =
-      every (λ joined. hasWritten (placeIn σ joined j) (answersAt σ 𝓟 j)) (handedIn σ (openedAt σ 𝓟 i) empty (𝓟 .calls i))
+      every (λ joined. hasWritten (placeIn σ joined j) (answersAt σ 𝓟 (serverAt σ joined j)))
+      (handedIn σ (openedAt σ 𝓟 i) empty (𝓟 .calls i))
 
   abbrev dropsAt : ℕ → ℕ → Bool
   dropsAt i j = every (λ id. not (isMember id (acceptedAt σ 𝓟 j))) (droppedAt σ 𝓟 i)
@@ -139,7 +140,7 @@ module _ (σ : Setting) (𝓟 : Pool σ) where
   pub meets-conditions : meets ≡ true → Conditions σ 𝓟
   unfolding meets
   meets-conditions e = record {
-    unaltered = λ i j l b joined h. written-in (placeIn σ joined j) (answersAt σ 𝓟 j)
+    unaltered = λ i j l b joined h. written-in (placeIn σ joined j) (answersAt σ 𝓟 (serverAt σ joined j))
         (every-in _ (handedIn σ (openedAt σ 𝓟 i) empty (𝓟 .calls i))
         (each-at unalteredAt (and-left (each unalteredAt) (each dropsAt) e) i j l b) joined h);
     same-drops = λ i j l b id h k. no-member-in id (acceptedAt σ 𝓟 j)

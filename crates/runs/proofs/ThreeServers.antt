@@ -17,7 +17,6 @@ use Rattle.rules.specs.WholeRun.{Pool, answersAt, acceptedAt, Conditions, AllCl
 use Rattle.rules.specs.Made.{MadeOf, joinedTotals, howMany, EncodedTotals}
 use Rattle.rules.proofs.Computed.Computing.{everything}
 use Rattle.rules.proofs.Computed.Facts.{document01-facts}
-use Rattle.rules.proofs.Histories.MessageBytes.{oneByOne}
 use Rattle.runs.proofs.Tests.{bytesCall, opensAt, isPool, poolOf, hasWritten, meets, meets-conditions}
 use Rattle.runs.proofs.Tests.{isEnded, allEnded, all-closed, isWhole, made-of}
 use Rattle.rules.proofs.Runs.WholeTotals.{closed-together}
@@ -44,19 +43,26 @@ second = made (0 ∷ 2 ∷ 1 ∷ []) 192837465
 abbrev altered : ℕ → List ℕ
 altered i = cond (eqb i 2) (set (second 2) 0 12) (second i)
 
+-- as messages arrive at server i: the own one first, and in round two last
+abbrev ownFirst : ℕ → List ℕ
+ownFirst i = i ∷ ((i + 1) % 3) ∷ ((i + 2) % 3) ∷ []
+
+abbrev ownLast : ℕ → List ℕ
+ownLast i = ((i + 2) % 3) ∷ ((i + 1) % 3) ∷ i ∷ []
+
 -- a share and both rounds
 abbrev through : ℕ → (ℕ → List ℕ) → ℕ → List Call
 through id shares i =
     give id shares 7 5 i
-    ∷ roundOne id (ones 3 sheet 4 id shares 7 5) 14
-    ∷ roundTwo id (twos 3 sheet 4 id shares 7 5)
+    ∷ roundOne id (ones 3 sheet 4 (ownFirst i) id shares 7 5) 14
+    ∷ roundTwo id (twos 3 sheet 4 (ownLast i) id shares 7 5)
     ∷ []
 
 unfoldable pub calls : ℕ → List Call
 calls zero = through 1 first 0 ++ through 2 altered 0 ++ through 3 second 0 ++ (close 26 ∷ [])
 calls (suc zero) =
     through 1 first 1
-    ++ (give 2 altered 7 5 1 ∷ roundOne 2 (ones 3 sheet 4 2 altered 7 5) 14 ∷ drop 2 ∷ [])
+    ++ (give 2 altered 7 5 1 ∷ roundOne 2 (ones 3 sheet 4 (ownFirst 1) 2 altered 7 5) 14 ∷ drop 2 ∷ [])
     ++ through 3 second 1
     ++ (close 26 ∷ [])
 calls (suc (suc i)) =
@@ -67,31 +73,31 @@ calls (suc (suc i)) =
     ++ (close 25 ∷ close 26 ∷ [])
 
 pub is-pool : isPool document01 3 sheet 4 (λ i. lent 53 216) calls ≡ true
-unfolding everything isPool opensAt bytesCall calls ones twos oneByOne
+unfolding everything isPool opensAt bytesCall calls ones twos
 is-pool = refl
 
 abbrev pub pool : Pool document01
 pool = poolOf document01 3 sheet 4 (λ i. lent 53 216) calls is-pool
 
 answers-0 : map short (answersAt document01 pool 0) ≡ 100 ∷ 100 ∷ 200 ∷ 100 ∷ 100 ∷ 300 ∷ 100 ∷ 100 ∷ 200 ∷ 100 ∷ []
-unfolding everything short calls ones twos oneByOne
+unfolding everything short calls ones twos
 answers-0 = refl
 
 answers-1 : map short (answersAt document01 pool 1) ≡ 100 ∷ 100 ∷ 200 ∷ 100 ∷ 100 ∷ 400 ∷ 100 ∷ 100 ∷ 200 ∷ 100 ∷ []
-unfolding everything short calls ones twos oneByOne
+unfolding everything short calls ones twos
 answers-1 = refl
 
 answers-2 : map short (answersAt document01 pool 2)
     ≡ 100 ∷ 400 ∷ 100 ∷ 100 ∷ 200 ∷ 100 ∷ 100 ∷ 300 ∷ 100 ∷ 100 ∷ 200 ∷ 14 ∷ 100 ∷ []
-unfolding everything short calls ones twos oneByOne
+unfolding everything short calls ones twos
 answers-2 = refl
 
 pub meets-them : Conditions document01 pool
-unfolding everything meets hasWritten calls ones twos oneByOne
+unfolding everything meets hasWritten calls ones twos
 meets-them = meets-conditions document01 pool refl
 
 pub ended : AllClosed document01 pool
-unfolding everything allEnded isEnded calls ones twos oneByOne
+unfolding everything allEnded isEnded calls ones twos
 ended = all-closed document01 pool refl
 
 -- what is promised of it
@@ -100,20 +106,20 @@ joined = closed-together document01 document01-facts pool meets-them ended
 
 -- and what comes of it: 1 and 3 are accepted; one yes, the last option twice, and 3 + 1
 accepted-ids : acceptedAt document01 pool 2 ≡ 1 ∷ 3 ∷ []
-unfolding everything calls ones twos oneByOne
+unfolding everything calls ones twos
 accepted-ids = refl
 
 join-is : joinResult 3 sheet 4 (closings document01 pool) ≡ 0 ∷ 2 ∷ 1 ∷ 0 ∷ 0 ∷ 2 ∷ 4 ∷ []
-unfolding everything joinResult calls ones twos oneByOne
+unfolding everything joinResult calls ones twos
 join-is = refl
 
 -- both accepted returns are delivered whole, so the totals are those of their values
 made-1 : MadeOf document01 pool 1 (1 ∷ 2 ∷ 3 ∷ [])
-unfolding everything isWhole calls ones twos oneByOne
+unfolding everything isWhole calls ones twos
 made-1 = made-of document01 pool 1 (1 ∷ 2 ∷ 3 ∷ []) (random 987654321) refl
 
 made-3 : MadeOf document01 pool 3 (0 ∷ 2 ∷ 1 ∷ [])
-unfolding everything isWhole calls ones twos oneByOne
+unfolding everything isWhole calls ones twos
 made-3 = made-of document01 pool 3 (0 ∷ 2 ∷ 1 ∷ []) (random 192837465) refl
 
 abbrev values : ℕ → List ℕ
@@ -132,13 +138,13 @@ told = document01-made-run pool .totals meets-them ended 2 (lit< tt) values each
 
 -- one says yes; two chose the last option; the numbers add up to 4
 yes-told : getD (joinedTotals document01 pool) 0 0 ≡ 1
-unfolding everything howMany calls ones twos oneByOne
+unfolding everything howMany calls ones twos
 yes-told = told .yes-total [] (choice 3 ∷ number 2 ∷ []) refl
 
 option-told : getD (joinedTotals document01 pool) 3 0 ≡ 2
-unfolding everything howMany calls ones twos oneByOne
+unfolding everything howMany calls ones twos
 option-told = told .option-total (yesNo ∷ []) (number 2 ∷ []) 3 2 refl (lit< tt)
 
 number-told : getD (joinedTotals document01 pool) 4 0 ≡ 4
-unfolding everything calls ones twos oneByOne
+unfolding everything calls ones twos
 number-told = told .number-total (yesNo ∷ choice 3 ∷ []) [] 2 refl

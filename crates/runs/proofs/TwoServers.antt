@@ -2,12 +2,11 @@
 -- are refused in between; antt computes it. It meets the conditions, so what demand 3 says of it holds. Assumes nothing.
 use mathlib.Core.Path.{_≡_, refl}
 use mathlib.Core.Bool.{true, cond}
-use mathlib.Core.List.{List, [], _∷_, _++_, map}
+use mathlib.Core.List.{List, [], _∷_, _++_, map, flatten}
 use Prim.Native.Nat.{ℕ, _+_, _-_}
 use lib.ListN.{getD, set, take, replicate}
-use Rattle.algebra.specs.Lists.{tabulate}
+use Rattle.algebra.specs.Lists.{tabulate, countFrom}
 use Rattle.algebra.specs.Modulo.{modulo}
-use Rattle.words.specs.Bytes.{part}
 use Rattle.rules.specs.Settings.{document01}
 use Rattle.rules.specs.Columns.{columnsOf}
 use Rattle.rules.specs.Making.{shareOf, madeShare, shareMessage}
@@ -19,7 +18,6 @@ use Rattle.rules.specs.Ledger.{Call, share, roundOne, roundTwo, drop, close, An
 use Rattle.rules.specs.WholeRun.{Pool, answersAt, acceptedAt, droppedAt, Conditions, OnePair, AllClosed, closings, Closed}
 use Rattle.rules.proofs.Computed.Computing.{everything}
 use Rattle.rules.proofs.Computed.Facts.{document01-facts}
-use Rattle.rules.proofs.Histories.MessageBytes.{oneByOne}
 use Rattle.runs.proofs.Tests.{bytesCall, opensAt, isPool, poolOf, hasWritten, meets, meets-conditions, onePair, one-pair}
 use Rattle.runs.proofs.Tests.{isEnded, allEnded, all-closed}
 use Rattle.rules.proofs.Runs.WholeTotals.{closed-together}
@@ -32,13 +30,14 @@ module _ (servers : ℕ) (sheet : List ℕ) (returns : ℕ) where
   abbrev pub taken : ℕ → (ℕ → List ℕ) → ℕ → ℕ → ℕ → Waiting
   taken id shares r s i = waitingOf document01 (openedAs i) id (shares i) r s
 
-  unfoldable pub ones : ℕ → (ℕ → List ℕ) → ℕ → ℕ → List ℕ
-  ones id shares r s = oneByOne (λ i. messageOne document01 (openedAs i) (taken id shares r s i)) 0 servers
+  -- joined as they arrived, from these servers in this order
+  unfoldable pub ones : List ℕ → ℕ → (ℕ → List ℕ) → ℕ → ℕ → List ℕ
+  ones order id shares r s = flatten (map (λ i. messageOne document01 (openedAs i) (taken id shares r s i)) order)
 
-  unfoldable pub twos : ℕ → (ℕ → List ℕ) → ℕ → ℕ → List ℕ
-  twos id shares r s =
-      let joined = ones id shares r s in
-      oneByOne (λ i. messageTwo document01 (openedAs i) (summed document01 (openedAs i) (taken id shares r s i) joined)) 0 servers
+  unfoldable pub twos : List ℕ → ℕ → (ℕ → List ℕ) → ℕ → ℕ → List ℕ
+  twos order id shares r s =
+      let joined = ones (countFrom 0 servers) id shares r s in
+      flatten (map (λ i. messageTwo document01 (openedAs i) (summed document01 (openedAs i) (taken id shares r s i) joined)) order)
 
 abbrev pub give : ℕ → (ℕ → List ℕ) → ℕ → ℕ → ℕ → Call
 give id shares r s i = share (shareMessage document01 id i (shares i)) r s 14
@@ -80,31 +79,31 @@ wholeFalse = 2 ∷ 2 ∷ 3 ∷ 6 ∷ 0 ∷ 2147483645 ∷ 5 ∷ 7 ∷ 35 ∷ []
 abbrev pub false-return : ℕ → List ℕ
 false-return i = tabulate (shareOf (modulo 2147483647) 2 (λ k. getD wholeFalse k 0) (λ j k. getD random (4 + k) 0) i) 9
 
--- joined messages of two servers in the wrong order
-abbrev swapped : List ℕ → List ℕ
-swapped joined = part 14 14 joined ++ part 0 14 joined
+-- as messages arrive at server i: the own one first
+abbrev ownFirst : ℕ → List ℕ
+ownFirst i = i ∷ (1 - i) ∷ []
 
 unfoldable pub calls : ℕ → List Call
 calls i =
     give 77 honest 4 9 i
-    -- refused: a call that the stage does not allow; another id, own message altered, wrong order, cut; no room
+    -- refused: a call that the stage does not allow; another id, own message altered, a server twice, cut; no room
     ∷ close 100
-    ∷ roundOne 77 (ones 2 sheet 3 78 honest 4 9) 14
-    ∷ roundOne 77 (ones 2 sheet 3 77 honest 5 9) 14
-    ∷ roundOne 77 (swapped (ones 2 sheet 3 77 honest 4 9)) 14
-    ∷ roundOne 77 (take 27 (ones 2 sheet 3 77 honest 4 9)) 14
-    ∷ roundOne 77 (ones 2 sheet 3 77 honest 4 9) 13
-    ∷ roundOne 77 (ones 2 sheet 3 77 honest 4 9) 14
-    ∷ roundTwo 77 (ones 2 sheet 3 77 honest 4 9)
-    ∷ roundTwo 77 (twos 2 sheet 3 77 honest 4 9)
+    ∷ roundOne 77 (ones 2 sheet 3 (ownFirst i) 78 honest 4 9) 14
+    ∷ roundOne 77 (ones 2 sheet 3 (ownFirst i) 77 honest 5 9) 14
+    ∷ roundOne 77 (ones 2 sheet 3 (i ∷ i ∷ []) 77 honest 4 9) 14
+    ∷ roundOne 77 (take 27 (ones 2 sheet 3 (ownFirst i) 77 honest 4 9)) 14
+    ∷ roundOne 77 (ones 2 sheet 3 (ownFirst i) 77 honest 4 9) 13
+    ∷ roundOne 77 (ones 2 sheet 3 (ownFirst i) 77 honest 4 9) 14
+    ∷ roundTwo 77 (ones 2 sheet 3 (ownFirst i) 77 honest 4 9)
+    ∷ roundTwo 77 (twos 2 sheet 3 (ownFirst i) 77 honest 4 9)
     -- refused: another server's share, an element p, an id decided, r = M
     ∷ share (shareMessage document01 78 (1 - i) (false-return i)) 3 9 14
     ∷ share (shareMessage document01 78 i (set (false-return i) 0 2147483647)) 3 9 14
     ∷ give 77 honest 4 9 i
     ∷ give 78 false-return 1 9 i
     ∷ give 78 false-return 3 9 i
-    ∷ roundOne 78 (ones 2 sheet 3 78 false-return 3 9) 14
-    ∷ roundTwo 78 (twos 2 sheet 3 78 false-return 3 9)
+    ∷ roundOne 78 (ones 2 sheet 3 (ownFirst i) 78 false-return 3 9) 14
+    ∷ roundTwo 78 (twos 2 sheet 3 (ownFirst i) 78 false-return 3 9)
     ∷ give 79 honest 4 9 i
     ∷ drop 79
     -- refused: three returns are decided; no room; closed
@@ -115,7 +114,7 @@ calls i =
     ∷ []
 
 pub is-pool : isPool document01 2 sheet 3 (λ i. lent 29 88) calls ≡ true
-unfolding everything isPool opensAt bytesCall calls ones twos oneByOne
+unfolding everything isPool opensAt bytesCall calls ones twos
 is-pool = refl
 
 abbrev pub pool : Pool document01
@@ -124,24 +123,24 @@ pool = poolOf document01 2 sheet 3 (λ i. lent 29 88) calls is-pool
 answers : map short (answersAt document01 pool 1)
     ≡ (100 ∷ 11 ∷ 12 ∷ 12 ∷ 12 ∷ 12 ∷ 14 ∷ 100 ∷ 12 ∷ 200 ∷ [])
     ++ (7 ∷ 8 ∷ 10 ∷ 9 ∷ 100 ∷ 100 ∷ 300 ∷ 100 ∷ 400 ∷ 13 ∷ 14 ∷ 100 ∷ 11 ∷ [])
-unfolding everything short calls ones twos oneByOne
+unfolding everything short calls ones twos
 answers = refl
 
 pub meets-them : Conditions document01 pool
-unfolding everything meets hasWritten calls ones twos oneByOne
+unfolding everything meets hasWritten calls ones twos
 meets-them = meets-conditions document01 pool refl
 
 pub ended : AllClosed document01 pool
-unfolding everything allEnded isEnded calls ones twos oneByOne
+unfolding everything allEnded isEnded calls ones twos
 ended = all-closed document01 pool refl
 
 -- ids 77 and 78 have one pair each
 pub pair-77 : OnePair document01 pool 77 4 9
-unfolding everything onePair calls ones twos oneByOne
+unfolding everything onePair calls ones twos
 pair-77 = one-pair document01 pool 77 4 9 refl
 
 pub pair-78 : OnePair document01 pool 78 3 9
-unfolding everything onePair calls ones twos oneByOne
+unfolding everything onePair calls ones twos
 pair-78 = one-pair document01 pool 78 3 9 refl
 
 -- what is promised of it
@@ -150,13 +149,13 @@ joined = closed-together document01 document01-facts pool meets-them ended
 
 -- and what comes of it: 77 is accepted, 79 dropped, and the one total is 1
 accepted-ids : acceptedAt document01 pool 1 ≡ 77 ∷ []
-unfolding everything calls ones twos oneByOne
+unfolding everything calls ones twos
 accepted-ids = refl
 
 dropped-ids : droppedAt document01 pool 0 ≡ 79 ∷ []
-unfolding everything calls ones twos oneByOne
+unfolding everything calls ones twos
 dropped-ids = refl
 
 join-is : joinResult 2 sheet 3 (closings document01 pool) ≡ 0 ∷ 1 ∷ 1 ∷ []
-unfolding everything joinResult calls ones twos oneByOne
+unfolding everything joinResult calls ones twos
 join-is = refl

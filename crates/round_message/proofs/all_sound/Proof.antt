@@ -1,69 +1,44 @@
--- `round_message::all_sound` meets its contract. The loop's invariant: the answer is that of the messages from i on (`every-next`);
--- the part that is judged is the one at server i's place (`span`). The measure is what is left of S. Assumes nothing.
-use mathlib.Core.Path.{_≡_, sym, ap, _∙_}
+-- `round_message::all_sound` meets its contract. The loop's invariant: the answer is that of the places from i on (`every-next`).
+-- The measure is what is left of S. Assumes nothing.
+use mathlib.Core.Path.{_≡_, sym, _∙_}
 use mathlib.Core.Bool.{Bool, true, false}
 use mathlib.Core.List.{List}
-use Prim.Native.Nat.{ℕ, _+_, _*_, _≤_, _-_}
-use lib.ListN.{take, drop}
+use Prim.Native.Nat.{ℕ, _≤_, _-_}
 use borrow.Author.Needs.{needs}
 use borrow.Author.Tests.{not-true, not-false}
 use Rattle.rules.specs.Settings.{document01}
-use Rattle.rules.specs.Messages.{roundSound}
-use Rattle.round_message.specs.Rounds.{soundAt, allSound}
+use Rattle.rules.specs.Messages.{placeSound}
+use Rattle.round_message.specs.Rounds.{allSound}
 use Rattle.steps.proofs.Every.{from, every-start, every-next, every-not, every-end}
-use Rattle.steps.proofs.Parts.{span}
 use Rattle.round_message.proofs.all_sound.Statement.{statement}
 use Rattle.round_message.proofs.all_sound.Tie as tie
 
--- the message of server i, as the code takes it from its place
-abbrev judged : ℕ → ℕ → List ℕ → ℕ → Bool
-judged kind id joined i = roundSound document01 kind id i (take (14 * i + 14 - 14 * i) (drop (14 * i) joined))
-
-from-place : (kind id : ℕ) (joined : List ℕ) (i : ℕ) → judged kind id joined i ≡ soundAt kind id joined i
-from-place kind id joined i = ap (roundSound document01 kind id i) (span (14 * i) 14 joined)
+abbrev sound : ℕ → ℕ → ℕ → ℕ → List ℕ → List ℕ → ℕ → Bool
+sound servers kind id own mine joined = placeSound document01 servers kind id own mine joined
 
 abbrev Inv-loop : tie.InvT-loop
-Inv-loop joined servers kind id i₀ i = (i ≤ servers) × (allSound servers kind id joined ≡ from (soundAt kind id joined) servers i)
+Inv-loop joined servers kind id own mine count i₀ i =
+    (i ≤ servers) × (allSound servers kind id own mine joined ≡ from (sound servers kind id own mine joined) servers i)
 
 abbrev μ-loop : tie.MeasureT-loop
-μ-loop joined servers kind id i₀ i = servers - i
+μ-loop joined servers kind id own mine count i₀ i = servers - i
 
 loop-holds : tie.Need-loop-holds Inv-loop μ-loop
 unfolding allSound
 loop-holds c =
-    let a = c .before .args in
-    (search needs, every-start (soundAt (a .kind) (a .id) (a .joined .now)) (a .servers))
+    let a = c .before .before .args in
+    (search needs, every-start (sound (a .servers) (a .kind) (a .id) (a .own) (a .mine .now) (a .joined .now)) (a .servers))
 
-mul-start : tie.Need-mul-start Inv-loop μ-loop
-mul-start c = search needs
-
-add-end : tie.Need-add-end Inv-loop μ-loop
-add-end c = search needs
-
-sub-round-sound : tie.Need-sub-round-sound Inv-loop μ-loop
-sub-round-sound c = search needs
-
-part-round-sound-start : tie.Need-part-round-sound-start Inv-loop μ-loop
-part-round-sound-start c = search needs
-
-part-round-sound-end : tie.Need-part-round-sound-end Inv-loop μ-loop
-part-round-sound-end c = search needs
-
-cast-round-sound : tie.Need-cast-round-sound Inv-loop μ-loop
-cast-round-sound c = search needs
-
-round-sound-requires : tie.Need-round-sound-requires Inv-loop μ-loop
-round-sound-requires c κs = search needs
+place-sound-requires : tie.Need-place-sound-requires Inv-loop μ-loop
+place-sound-requires c κs = search needs
 
 returns : tie.Need-returns Inv-loop μ-loop
 returns c =
     let a = c .before .before .before .before .before .before .args in
-    let l = c .before .before .before .before .loop in
-    let t = soundAt (a .kind) (a .id) (a .joined .now) in
-    let said : c .before .round-sound .result ≡ judged (a .kind) (a .id) (a .joined .now) (l .i) = c .before .round-sound .ensures in
-    let own : t (l .i) ≡ c .before .round-sound .result = sym (said ∙ from-place (a .kind) (a .id) (a .joined .now) (l .i)) in
-    let bad : t (l .i) ≡ false = own ∙ not-true _ (c .if1 .taken) in
-    sym (l .inv .1 ∙ every-not t (a .servers) (l .i) (c .before .before .before .loop-test .taken) bad)
+    let l = c .before .before .before .loop in
+    let t = sound (a .servers) (a .kind) (a .id) (a .own) (a .mine .now) (a .joined .now) in
+    let bad : t (l .i) ≡ false = sym (c .before .place-sound .ensures) ∙ not-true _ (c .if1 .taken) in
+    sym (l .inv .1 ∙ every-not t (a .servers) (l .i) (c .before .before .loop-test .taken) bad)
 
 add-i : tie.Need-add-i Inv-loop μ-loop
 add-i c = search needs
@@ -74,18 +49,17 @@ loop-less c = search needs
 loop-again : tie.Need-loop-again Inv-loop μ-loop
 loop-again c =
     let a = c .before .before .before .before .before .before .args in
-    let l = c .before .before .before .before .loop in
-    let t = soundAt (a .kind) (a .id) (a .joined .now) in
-    let said : c .before .round-sound .result ≡ judged (a .kind) (a .id) (a .joined .now) (l .i) = c .before .round-sound .ensures in
-    let own : t (l .i) ≡ c .before .round-sound .result = sym (said ∙ from-place (a .kind) (a .id) (a .joined .now) (l .i)) in
-    let good : t (l .i) ≡ true = own ∙ not-false _ (c .if1 .left) in
-    (search needs, l .inv .1 ∙ every-next t (a .servers) (l .i) (c .before .before .before .loop-test .taken) good)
+    let l = c .before .before .before .loop in
+    let t = sound (a .servers) (a .kind) (a .id) (a .own) (a .mine .now) (a .joined .now) in
+    let good : t (l .i) ≡ true = sym (c .before .place-sound .ensures) ∙ not-false _ (c .if1 .left) in
+    (search needs, l .inv .1 ∙ every-next t (a .servers) (l .i) (c .before .before .loop-test .taken) good)
 
 returns-2 : tie.Need-returns-2 Inv-loop μ-loop
 returns-2 c =
-    let a = c .before .before .before .args in
+    let a = c .before .before .before .before .args in
     let l = c .before .loop in
-    sym (l .inv .1 ∙ every-end (soundAt (a .kind) (a .id) (a .joined .now)) (a .servers) (l .i) (search needs))
+    let t = sound (a .servers) (a .kind) (a .id) (a .own) (a .mine .now) (a .joined .now) in
+    sym (l .inv .1 ∙ every-end t (a .servers) (l .i) (search needs))
 
 pub all-sound-spec : {M : Type 1} → statement M
 all-sound-spec =
@@ -94,13 +68,7 @@ all-sound-spec =
     Inv-loop
     μ-loop
     loop-holds
-    mul-start
-    add-end
-    sub-round-sound
-    part-round-sound-start
-    part-round-sound-end
-    cast-round-sound
-    round-sound-requires
+    place-sound-requires
     returns
     add-i
     loop-less

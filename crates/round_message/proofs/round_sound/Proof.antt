@@ -35,7 +35,7 @@ returns-3 c =
     simp (
       eq-eqb _ _ (c .before .before .before .before .if1 .left),
       eq-eqb _ _ (rw (c .before .before .before .id-of .ensures) at (c .before .before .if2 .left)),
-      ne-eqb _ _ (c .if3 .taken),
+      le-ltb _ _ (c .if3 .taken),
     )
 
 read-u32-requires : tie.Need-read-u32-requires
@@ -48,7 +48,7 @@ returns-4 c =
     simp (
       eq-eqb _ _ (c .before .before .before .before .before .before .if1 .left),
       eq-eqb _ _ (rw (i .before .id-of .ensures) at (i .if2 .left)),
-      eq-eqb _ _ (c .before .before .if3 .left),
+      lt-ltb _ _ (c .before .before .if3 .left),
       le-ltb _ _ (rw (c .before .read-u32 .ensures) at (c .if4 .taken)),
     )
 
@@ -62,7 +62,7 @@ returns-5 c =
     simp (
       eq-eqb _ _ (c .before .before .before .before .before .before .before .if1 .left),
       eq-eqb _ _ (rw (i .before .id-of .ensures) at (i .if2 .left)),
-      eq-eqb _ _ (c .before .before .before .if3 .left),
+      lt-ltb _ _ (c .before .before .before .if3 .left),
       lt-ltb _ _ (rw (c .before .before .read-u32 .ensures) at (c .before .if4 .left)),
       c .read-u322 .ensures,
     )

@@ -1,5 +1,6 @@
 -- A proof that says `unfolding everything` computes with all definitions of document 01: unfolding a definition unfolds
 -- what its own line names. Assumes nothing.
+use mathlib.Core.List.{flatten}
 use Rattle.algebra.specs.Sums.{sum, product}
 use Rattle.algebra.specs.Interpolation.{descending, others, weight, basis, interpolate}
 use Rattle.algebra.specs.Modulo.{inverseFrom}
@@ -27,12 +28,12 @@ use Rattle.rules.specs.Judging.{gAt, hAt, dOf, eOf, sigmaOf, tauOf, adde
 use Rattle.rules.specs.Judging.{allowedPair, letsIn}
 use Rattle.rules.specs.Making.{fOf, gOf, whole, shareOf, shareMessage, shareLength, randomCount, madeFrom}
 use Rattle.rules.specs.Making.{valuesFault, randomFault, makeRefusal, makeBytes}
-use Rattle.rules.specs.Messages.{headerFault, elementsFault, roundMessage, roundSound, roundFault, firstSum, secondSum}
-use Rattle.rules.specs.Messages.{bothZero}
+use Rattle.rules.specs.Messages.{headerFault, elementsFault, roundMessage, roundSound, stillMissing, ownKept, placeSound}
+use Rattle.rules.specs.Messages.{roundFault, firstSum, secondSum, bothZero}
 use Rattle.rules.specs.Server.{isMember, openFault, waitingOf, sigmaIn, messageOne, messageTwo, summed, publishedShares}
 use Rattle.rules.specs.Server.{totalsMessage, totalsLength, whileOpen, whileOne, whileTwo, whileWaiting}
 use Rattle.rules.specs.Server.{shareRefusal, oneRefusal, twoRefusal, dropRefusal, closeRefusal}
-use Rattle.rules.specs.Keyed.{find, without, changed, those}
+use Rattle.rules.specs.Keyed.{find, under, without, changed, those}
 use Rattle.rules.specs.WaitingList.{firstWhere, waitingCount, waitingAt, waitAt, recordsFrom, present, recordSound, recordsSound}
 use Rattle.rules.specs.WaitingList.{waitingSound}
 use Rattle.rules.specs.Table.{totalsPlace, idsPlace, tableLength, stageIn, tableState}
@@ -50,7 +51,7 @@ use Rattle.rules.specs.Shelf.{firstBytes, shelved, shelfRefusal}
 use Rattle.rules.specs.Ledger.{notesWith, ledgerTotals, closingMessage, ledgerWait, ledgerStage, ledgerState, refusalOf, decideAs}
 use Rattle.rules.specs.Ledger.{sumsNoted, ledgerAfter, secondMessage, answerOf, runLedger, ledgerAnswers}
 use Rattle.rules.specs.Runs.{tableRefusal, tableAfter, tableAnswer, runTable, tableAnswers}
-use Rattle.rules.specs.WholeRun.{notesIn, noteUnder, joinedIn, handedIn, closingsFrom, firstsFrom, secondsFrom}
+use Rattle.rules.specs.WholeRun.{notesIn, noteUnder, joinedIn, handedIn}
 
 unfoldable pub part0 : Unit {0}
 unfolding sum product descending others weight basis interpolate inverseFrom tabulate every countFrom sumOver valueOf
@@ -129,8 +130,8 @@ unfolding ledgerAnswers tableRefusal tableAfter tableAnswer runTable tableAnswer
 part18 = tt
 
 unfoldable pub part19 : Unit {0}
-unfolding closingsFrom firstsFrom secondsFrom largestIn constantsOf addsOf scalesOf constantsIn addsIn scalesIn greatestUpTo sizesOf
-    sizeByKind columnSize circuitSize lengthWithin bitLength bitSum topSums topSteps twoNumbers
+unfolding under flatten stillMissing ownKept placeSound largestIn constantsOf addsOf scalesOf constantsIn addsIn scalesIn
+    greatestUpTo sizesOf sizeByKind columnSize circuitSize lengthWithin bitLength bitSum topSums topSteps twoNumbers
     firstBytes shelved shelfRefusal
 part19 = tt
 

@@ -5,6 +5,7 @@ use Rattle.algebra.specs.Lists.{every}
 use Rattle.rules.specs.SoundExamples.{limits}
 use Rattle.rules.specs.TableExamples.{onTables, inOrder, otherOrders, erasures}
 use Rattle.rules.specs.WaitingExamples.{manyWait, mixed, eight}
+use Rattle.rules.specs.OrderExamples.{threeServers, sameSlots, reversed}
 use Rattle.rules.proofs.Computed.Computing.{everything}
 
 pub limits-hold : every (λ row. row .holds) limits ≡ true
@@ -34,3 +35,11 @@ mixed-hold = refl
 pub eight-hold : every (λ row. row .holds) eight ≡ true
 unfolding everything eight manyWait
 eight-hold = refl
+
+pub three-servers-hold : every (λ row. row .holds) threeServers ≡ true
+unfolding everything threeServers
+three-servers-hold = refl
+
+pub reversed-hold : every (λ row. row .holds) reversed ≡ true
+unfolding everything reversed sameSlots
+reversed-hold = refl

@@ -10,10 +10,11 @@ use native.Mathlib.Omega.{arith}
 use borrow.Author.Tests.{eqb-true, eq-eqb, ne-eqb}
 use lib.Dec.{eqb}
 use lib.ListN.{length}
-use Rattle.algebra.specs.Lists.{In, Rearranged, keep, swap, chain}
+use Rattle.algebra.specs.Lists.{In, Distinct, distinct∷, Rearranged, keep, swap, chain}
+use Rattle.algebra.proofs.Members.{in-map, not-in}
 use Rattle.algebra.proofs.Rearrangement.{rearranged-refl}
 use Rattle.rules.specs.Server.{isMember}
-use Rattle.rules.specs.Keyed.{find, without, changed, those}
+use Rattle.rules.specs.Keyed.{find, under, without, changed, those}
 
 -- ---- whether an id is among ids
 pub no-member-in : (x : ℕ) (s : List ℕ) → isMember x s ≡ false → In x s → ⊥
@@ -116,6 +117,26 @@ module _ {A : Type 0} (key : A → ℕ) (id : ℕ) where
           → map g (cond b (f w ∷ ws) (w ∷ changed key id f ws)) ≡ g w ∷ map g ws
       go true r = ap (λ (x : B). x ∷ map g ws) (h w)
       go false r = ap (λ (x : List B). g w ∷ x) r
+
+-- ---- the first member with an id
+module _ {A : Type 0} (key : A → ℕ) (other : A) where
+  pub under-in : (w : A) (ws : List A) → Distinct (map key ws) → In w ws → under key other (key w) ws ≡ w
+  unfolding under
+  under-in w [] d h = absurd h
+  under-in w (y ∷ ws) d (inl e) = rw (eq-eqb (key y) (key w) (ap key e)) e
+  under-in w (y ∷ ws) (distinct∷ fresh d) (inr h) = rw (ne-eqb (key y) (key w) differ) (under-in w ws d h)
+    where
+      differ : key y ≡ key w → ⊥
+      differ e = not-in (key y) (map key ws) fresh (subst (λ (v : ℕ). In v (map key ws)) (sym e) (in-map key w ws h))
+
+  pub under-has : (id : ℕ) (P : A → Type 0) (ws : List A) → P other → ((w : A) → In w ws → P w) → P (under key other id ws)
+  unfolding under
+  under-has id P [] z h = z
+  under-has id P (w ∷ ws) z h = go (eqb (key w) id) (h w (inl refl)) (under-has id P ws z (λ v k. h v (inr k)))
+    where
+      go : (b : Bool) → P w → P (under key other id ws) → P (cond b w (under key other id ws))
+      go true p q = p
+      go false p q = q
 
 -- ---- through a map that keeps ids
 module _ {A B : Type 0} (key : A → ℕ) (key′ : B → ℕ) (g : A → B) (keeps : (a : A) → key′ (g a) ≡ key a) (id : ℕ) where

@@ -1,17 +1,19 @@
--- A round message is read back: kind, id, server and both elements stand at their places. The messages of several
--- servers, one after another and of one length, are each found at their own place. Assumes nothing.
+-- A round message is read back: kind, id, server and both elements stand at their places. Messages of one size, one after
+-- another, are each found at their place, and a run is cut into them. Assumes nothing.
 use mathlib.Core.Path.{_≡_, refl, sym, ap, _∙_}
-use mathlib.Core.List.{List, [], _∷_, _++_}
+use mathlib.Core.List.{List, [], _∷_, _++_, map, flatten}
 use Prim.Native.Nat.{ℕ, zero, suc, _+_, _*_, _^_, _≤_, _<_}
-use native.Mathlib.Nat.{mul-zero}
+use native.Mathlib.Nat.{mul-zero, zero-add}
 use native.Mathlib.Omega.{arith}
-use lib.ListN.{length, take, drop, length-append}
-use lib.Seq.{take-at, drop-at, drop-append-add, take-all}
+use lib.ListN.{length, getD, take, drop, length-map, length-append, take-append-drop, drop-of-length-le}
+use lib.Seq.{take-at, drop-at, drop-append-add, take-all, drop-drop, ext-getD}
+use Rattle.algebra.specs.Lists.{All, all[], all∷, countFrom}
+use Rattle.algebra.proofs.Members.{map-all, in-all, in-count, length-count, getD-count}
 use Rattle.words.specs.Bytes.{valueOf, bytesOf, part}
 use Rattle.words.proofs.Numbers.{length-bytes, value-bytes}
 use Rattle.words.proofs.Splice.{part-of-drop}
 use Rattle.rules.specs.Settings.{Setting, Facts}
-use Rattle.rules.specs.Messages.{kindIn, idIn, serverIn, firstIn, secondIn, roundMessage, roundLength}
+use Rattle.rules.specs.Messages.{kindIn, idIn, serverIn, firstIn, secondIn, roundMessage, roundLength, oneByOne}
 
 -- ---- an element has a byte, and fits its bytes
 power-above : (w m : ℕ) → 33554432 < m → m ≤ 256 ^ w → 0 < w
@@ -65,33 +67,66 @@ module _ (σ : Setting) (kind id server x y : ℕ) where
       ∙ ap valueOf (take-all w (bytesOf w y) long)
       ∙ value-bytes w y h
 
--- ---- messages one after another
-unfoldable pub oneByOne : (ℕ → List ℕ) → ℕ → ℕ → List ℕ
-oneByOne f i zero = []
-oneByOne f i (suc n) = f i ++ oneByOne f (suc i) n
+-- ---- messages of one size, one after another
+module _ (size : ℕ) where
+  abbrev pub Sized : List (List ℕ) → Type 0
+  Sized ms = All (λ m. length m ≡ size) ms
 
-module _ (f : ℕ → List ℕ) (size : ℕ) where
-  pub length-one-by-one : (i n : ℕ) → ((j : ℕ) → j < i + n → length (f j) ≡ size) → length (oneByOne f i n) ≡ size * n
-  unfolding oneByOne
-  length-one-by-one i zero h = sym (mul-zero size)
-  length-one-by-one i (suc n) h =
-      let first : length (f i) ≡ size = h i (omega arith) in
-      let rest : length (oneByOne f (suc i) n) ≡ size * n = length-one-by-one (suc i) n (λ j l. h j (omega arith)) in
+  pub length-flatten : (ms : List (List ℕ)) → Sized ms → length (flatten ms) ≡ size * length ms
+  unfolding flatten
+  length-flatten [] all[] = sym (mul-zero size)
+  length-flatten (m ∷ ms) (all∷ e es) =
+      let rest : length (flatten ms) ≡ size * length ms = length-flatten ms es in
       rw length-append (omega arith)
 
-  -- the message of server i + j stands at place j
-  pub part-one-by-one : (i n j : ℕ) → ((k : ℕ) → k < i + n → length (f k) ≡ size) → j < n
-      → part (size * j) size (oneByOne f i n) ≡ f (i + j)
-  unfolding oneByOne
-  part-one-by-one i zero j h l = absurd (omega arith)
-  part-one-by-one i (suc n) zero h l =
-      let e : i + 0 ≡ i = omega arith in
-      rw (mul-zero, e) (take-at (f i) (oneByOne f (suc i) n) size (h i (omega arith)))
-  part-one-by-one i (suc n) (suc j) h l =
-      let first : length (f i) ≡ size = h i (omega arith) in
-      let place : size * suc j ≡ length (f i) + size * j = omega arith in
-      let e : suc i + j ≡ i + suc j = omega arith in
-      ap (λ (k : ℕ). part k size (f i ++ oneByOne f (suc i) n)) place
-      ∙ ap (take size) (drop-append-add (f i) (oneByOne f (suc i) n) (size * j))
-      ∙ part-one-by-one (suc i) n j (λ k q. h k (omega arith)) (omega arith)
-      ∙ ap f e
+  -- message j stands at place j
+  pub part-flatten : (ms : List (List ℕ)) → Sized ms → (j : ℕ) → j < length ms → part (size * j) size (flatten ms) ≡ getD ms j []
+  unfolding flatten
+  part-flatten [] all[] j l = absurd (omega arith)
+  part-flatten (m ∷ ms) (all∷ e es) zero l = rw mul-zero (take-at m (flatten ms) size e)
+  part-flatten (m ∷ ms) (all∷ e es) (suc j) l =
+      let place : size * suc j ≡ length m + size * j = omega arith in
+      ap (λ (k : ℕ). part k size (m ++ flatten ms)) place
+      ∙ ap (take size) (drop-append-add m (flatten ms) (size * j))
+      ∙ part-flatten ms es j (omega arith)
+
+  -- a run cut into n parts, and put together again
+  abbrev pub cut : ℕ → List ℕ → List (List ℕ)
+  cut n s = map (λ i. part (size * i) size s) (countFrom 0 n)
+
+  pub cut-flatten : (ms : List (List ℕ)) → Sized ms → cut (length ms) (flatten ms) ≡ ms
+  cut-flatten ms es =
+      let many : length (cut (length ms) (flatten ms)) ≡ length ms =
+      length-map (countFrom 0 (length ms)) _ ∙ length-count 0 (length ms) in
+      ext-getD [] (cut (length ms) (flatten ms)) ms many (λ i l. (
+      let h : i < length ms = omega arith in
+      getD-count (λ k. part (size * k) size (flatten ms)) (length ms) i [] h ∙ part-flatten ms es i h))
+
+  flatten-from : (a n : ℕ) (s : List ℕ) → length s ≡ size * (a + n)
+      → flatten (map (λ i. part (size * i) size s) (countFrom a n)) ≡ drop (size * a) s
+  unfolding flatten countFrom
+  flatten-from a zero s e = sym (drop-of-length-le s {i = size * a} (omega arith))
+  flatten-from a (suc n) s e =
+      let next : suc a + n ≡ a + suc n = omega arith in
+      let there : size * a + size ≡ size * suc a = omega arith in
+      ap (λ (v : List ℕ). part (size * a) size s ++ v) (flatten-from (suc a) n s (rw next e))
+      ∙ ap (λ (k : ℕ). part (size * a) size s ++ drop k s) (sym there)
+      ∙ ap (λ (v : List ℕ). part (size * a) size s ++ v) (sym (drop-drop size (size * a) s))
+      ∙ take-append-drop size (drop (size * a) s)
+
+  pub flatten-cut : (n : ℕ) (s : List ℕ) → length s ≡ size * n → flatten (cut n s) ≡ s
+  flatten-cut n s e = flatten-from 0 n s (rw zero-add e) ∙ ap (λ (k : ℕ). drop k s) (mul-zero size)
+
+-- a message of each number below n
+module _ (f : ℕ → List ℕ) (size n : ℕ) (h : (j : ℕ) → j < n → length (f j) ≡ size) where
+  many : length (map f (countFrom 0 n)) ≡ n
+  many = length-map (countFrom 0 n) f ∙ length-count 0 n
+
+  pub sized : Sized size (map f (countFrom 0 n))
+  sized = map-all f (in-all (countFrom 0 n) (λ j k. (let q = in-count 0 n j k in h j (omega arith))))
+
+  pub length-one-by-one : length (oneByOne f n) ≡ size * n
+  length-one-by-one = length-flatten size (map f (countFrom 0 n)) sized ∙ ap (λ (k : ℕ). size * k) many
+
+  pub part-one-by-one : (j : ℕ) → j < n → part (size * j) size (oneByOne f n) ≡ f j
+  part-one-by-one j l = part-flatten size (map f (countFrom 0 n)) sized j (rw many l) ∙ getD-count f n j [] l

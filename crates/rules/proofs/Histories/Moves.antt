@@ -22,7 +22,7 @@ use Rattle.rules.specs.Settings.{Setting}
 use Rattle.rules.specs.Columns.{check}
 use Rattle.rules.specs.Judging.{allowedPair}
 use Rattle.rules.specs.Making.{shareLength}
-use Rattle.rules.specs.Messages.{kindIn, idIn, serverIn, shareElements, placeIn, roundLength, headerFault, elementsFault, roundFault}
+use Rattle.rules.specs.Messages.{kindIn, idIn, serverIn, shareElements, roundLength, headerFault, elementsFault, roundFault}
 use Rattle.rules.specs.Messages.{firstSum, secondSum, bothZero}
 use Rattle.rules.specs.Keyed.{find, without, changed}
 use Rattle.rules.specs.Server.{Opened, Waiting, Wait, heldId, mostWaiting, waitingOf, isMember, messageOne, messageTwo, withSums}
@@ -35,7 +35,8 @@ use Rattle.rules.specs.Ledger.{ledgerWait, ledgerStage, ledgerState, ref
 use Rattle.rules.specs.Ledger.{secondAnswer, secondMessage, answerOf, ledgerStep, ledgerSays, runLedger, ledgerAnswers}
 use Rattle.rules.specs.WholeRun.{BytesIn, joinedIn, handedIn}
 use Rattle.rules.proofs.Histories.Keyed.{no-member-in, through, find-map}
-use Rattle.rules.proofs.Histories.Checks.{check-passed, IsOf, round-passed}
+use Rattle.rules.proofs.Histories.Checks.{check-passed}
+use Rattle.rules.proofs.Histories.JoinedRuns.{Joined, round-passed}
 
 abbrev pub at : Progress → List Decided → Ledger
 at p ds = record { progress = p; decided = ds }
@@ -77,10 +78,6 @@ module _ (σ : Setting) (o : Opened) where
     pub pair : allowedPair σ (o .columns) (n .r) (n .s) ≡ true
     pub below : All (λ x. x < σ .modulus) (n .elements)
 
-  -- joined messages of a round and an id
-  abbrev pub Joined : ℕ → ℕ → List ℕ → Type 0
-  Joined kind id joined = (j : ℕ) → j < o .servers → IsOf kind id j (placeIn σ joined j)
-
   abbrev pub verdictOn : Note → List ℕ → Decided
   verdictOn n joined = record { note = n; decision = cond (bothZero σ (o .servers) joined) accepted rejected }
 
@@ -96,11 +93,11 @@ module _ (σ : Setting) (o : Opened) where
     notes : (ws : List Pending) (ds : List Decided) (n : Note) → Taken ws ds n
         → Moves (at (isOpen ws) ds) (wrote (messageOne σ o (noted σ o n))) [] (at (isOpen (waitsOne n ∷ ws)) ds)
     sums : (ws : List Pending) (ds : List Decided) (id : ℕ) (n : Note) (joined : List ℕ)
-        → find pendingId id ws ≡ some (waitsOne n) → Joined 34 (n .id) joined
+        → find pendingId id ws ≡ some (waitsOne n) → Joined σ (o .servers) 34 (n .id) joined
         → Moves (at (isOpen ws) ds) (wrote (secondAnswer σ o n joined)) (joined ∷ [])
         (at (isOpen (changed pendingId id (sumsOf joined) ws)) ds)
     judges : (ws : List Pending) (ds : List Decided) (id : ℕ) (p : Pending) (joined : List ℕ)
-        → find pendingId id ws ≡ some p → Joined 35 (noteIn p .id) joined
+        → find pendingId id ws ≡ some p → Joined σ (o .servers) 35 (noteIn p .id) joined
         → Moves (at (isOpen ws) ds) (judged (bothZero σ (o .servers) joined)) (joined ∷ [])
         (at (isOpen (without pendingId id ws)) (ds ++ (verdictOn (noteIn p) joined ∷ [])))
     drops : (ws : List Pending) (ds : List Decided) (id : ℕ) (p : Pending) → find pendingId id ws ≡ some p

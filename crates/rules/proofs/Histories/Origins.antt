@@ -1,17 +1,18 @@
 -- Where the answers and the decisions of a history come from: a message written is that of a share, that of joined
 -- messages of round one that were handed in, or a closing message; a return judged to the end was judged on joined
--- messages of round two that were handed in; a closed ledger wrote its closing message. By the history. Assumes nothing.
+-- messages of round two that were handed in, each of a server that there is; a closed ledger wrote its closing message. By the
+-- history. Assumes nothing.
 use mathlib.Core.Path.{_≡_, refl, sym, ap, _∙_, subst}
 use mathlib.Core.Logic.{_⊎_, ⊎-elim, inl, inr}
 use mathlib.Core.Bool.{Bool, true, false, cond, true≢false}
 use mathlib.Core.List.{List, [], _∷_, _++_, map}
 use mathlib.Core.Option.{some}
-use Prim.Native.Nat.{ℕ}
+use Prim.Native.Nat.{ℕ, _<_}
 use native.Mathlib.Omega.{arith}
 use Rattle.algebra.specs.Lists.{In}
 use Rattle.algebra.proofs.Members.{in-append, append-in, in-map}
 use Rattle.rules.specs.Settings.{Setting}
-use Rattle.rules.specs.Messages.{bothZero}
+use Rattle.rules.specs.Messages.{serverAt, bothZero}
 use Rattle.rules.specs.Keyed.{find, changed}
 use Rattle.rules.specs.Server.{Opened, messageOne}
 use Rattle.rules.specs.Ledger.{Answer, wrote, Note, Pending, waitsOne, noteIn, pendingId, Progress, isOpen, isClosed}
@@ -19,8 +20,9 @@ use Rattle.rules.specs.Ledger.{accepted, rejected, Decided, Ledger, isAc
 use Rattle.rules.specs.Ledger.{secondAnswer}
 use Rattle.rules.specs.WholeRun.{notesIn}
 use Rattle.rules.proofs.Histories.Shuffled.{rearranged-in}
+use Rattle.rules.proofs.Histories.JoinedRuns.{Joined}
 use Rattle.rules.proofs.Histories.Keyed.{found-out, changed-keeps}
-use Rattle.rules.proofs.Histories.Moves.{at, Moves, stays, notes, sums, judges, drops, closes, History, over, next, Joined}
+use Rattle.rules.proofs.Histories.Moves.{at, Moves, stays, notes, sums, judges, drops, closes, History, over, next}
 use Rattle.rules.proofs.Histories.Moves.{verdictOn, dropOf, sumsOf}
 use Rattle.rules.proofs.Histories.NotesGrow.{keeps-notes, keeps-note}
 
@@ -28,7 +30,7 @@ module _ (σ : Setting) (o : Opened) where
   -- ---- messages
   pub data Origin (ns : List Note) (hs : List (List ℕ)) (m : List ℕ) : Type 0 where
     of-share : (n : Note) → In n ns → m ≡ messageOne σ o (noted σ o n) → Origin ns hs m
-    of-one : (n : Note) → In n ns → (joined : List ℕ) → In joined hs → Joined σ o 34 (n .id) joined
+    of-one : (n : Note) → In n ns → (joined : List ℕ) → In joined hs → Joined σ (o .servers) 34 (n .id) joined
         → m ≡ secondAnswer σ o n joined → Origin ns hs m
     of-close : (l : Ledger) → m ≡ closingMessage σ o l → Origin ns hs m
 
@@ -64,11 +66,33 @@ module _ (σ : Setting) (o : Opened) where
       origin-more (keeps-notes σ o r) (λ j k. append-in j h hs (inl k)) (first-origin mv m e)
   origin (next {h = h} {hs = hs} mv r) m (inr k) = origin-more (λ n q. q) (λ j q. append-in j h hs (inr q)) (origin r m k)
 
+  -- ---- joined messages that were handed in name servers that there are
+  abbrev Named : List ℕ → Type 0
+  Named joined = (j : ℕ) → j < o .servers → serverAt σ joined j < o .servers
+
+  only-named : (kind id : ℕ) (run joined : List ℕ) → Joined σ (o .servers) kind id run → In joined (run ∷ []) → Named joined
+  only-named kind id run joined s (inl e) = subst Named e (λ j b. s .is-of-round j b .is-one)
+  only-named kind id run joined s (inr q) = absurd q
+
+  first-named : {l l′ : Ledger} {a : Answer} {h : List (List ℕ)} → Moves σ o l a h l′ → (joined : List ℕ) → In joined h → Named joined
+  first-named (stays l n) joined k = absurd k
+  first-named (notes ws ds n t) joined k = absurd k
+  first-named (sums ws ds id n run w s) joined k = only-named 34 (n .id) run joined s k
+  first-named (judges ws ds id p run w s) joined k = only-named 35 (noteIn p .id) run joined s k
+  first-named (drops ws ds id p w) joined k = absurd k
+  first-named (closes ds) joined k = absurd k
+
+  pub handed-named : {l l′ : Ledger} {xs : List Answer} {hs : List (List ℕ)} → History σ o l xs hs l′
+      → (joined : List ℕ) → In joined hs → Named joined
+  handed-named (over l) joined k = absurd k
+  handed-named (next {h = h} {hs = hs} mv r) joined k =
+      ⊎-elim (λ q. first-named mv joined q) (λ q. handed-named r joined q) (in-append joined h hs k)
+
   -- ---- decisions
   pub record JudgedOn (hs : List (List ℕ)) (k : Decided) : Type 0 where
     pub joined : List ℕ
     pub handed : In joined hs
-    pub sound : Joined σ o 35 (k .note .id) joined
+    pub sound : Joined σ (o .servers) 35 (k .note .id) joined
     pub says : isAccepted (k .decision) ≡ bothZero σ (o .servers) joined
 
   judged-more : {hs gs : List (List ℕ)} {k : Decided} → ((j : List ℕ) → In j hs → In j gs) → JudgedOn hs k → JudgedOn gs k

@@ -3,15 +3,15 @@
 -- encoding with its proof. Assumes nothing.
 use mathlib.Core.Path.{_≡_, refl, sym, ap, _∙_}
 use mathlib.Core.Bool.{true}
-use mathlib.Core.List.{List, _++_}
+use mathlib.Core.List.{List, _++_, map, flatten}
 use Prim.Native.Nat.{ℕ, zero, suc, _+_, _-_, _*_, _≤_, _<_}
-use native.Mathlib.Nat.{mul-comm, mul-le-mul-right, zero-add}
+use native.Mathlib.Nat.{mul-comm, mul-le-mul-right}
 use native.Mathlib.Omega.{arith}
 use borrow.Author.Tests.{eqb-true, eq-eqb}
 use lib.Dec.{eqb}
 use lib.ListN.{length, getD, drop}
 use lib.Seq.{getD-take, getD-drop}
-use Rattle.algebra.specs.Lists.{All, tabulate}
+use Rattle.algebra.specs.Lists.{All, tabulate, countFrom}
 use Rattle.algebra.specs.Modulo.{modulo}
 use Rattle.algebra.proofs.Members.{and-left, and-right}
 use Rattle.algebra.proofs.Sums.{sum-ext}
@@ -27,13 +27,13 @@ use Rattle.rules.specs.Values.{legalValues, encoding}
 use Rattle.rules.specs.Judging.{shareSize, addedUp}
 use Rattle.rules.specs.Making.{shareOf, madeWhole, shareMessage, shareLength, randomCount, madeFrom, valuesFault}
 use Rattle.rules.specs.Making.{randomFault, makeRefusal, makeBytes}
-use Rattle.rules.specs.Messages.{idIn, shareElements, headerFault, elementsFault}
+use Rattle.rules.specs.Messages.{idIn, shareElements, headerFault, elementsFault, oneByOne}
 use Rattle.rules.specs.Made.{madePart, shareMade, elementRead, MadeReturn}
 use Rattle.rules.proofs.Circuits.Limits.{within-both}
 use Rattle.rules.proofs.Circuits.Refusals.{sheet-limits}
 use Rattle.rules.proofs.Circuits.Encoding.{entry-below-modulus}
 use Rattle.rules.proofs.Returns.Shares.{Made, made, added-is-whole}
-use Rattle.rules.proofs.Histories.MessageBytes.{width-positive, oneByOne, length-one-by-one, part-one-by-one}
+use Rattle.rules.proofs.Histories.MessageBytes.{width-positive, length-one-by-one, part-one-by-one}
 use Rattle.rules.proofs.Histories.ShareBytes.{length-share, share-kind, share-id, share-server, share-elements}
 use Rattle.rules.proofs.Histories.Checks.{check-passed}
 
@@ -116,12 +116,12 @@ module _ (σ : Setting) (facts : Facts σ) (sheet : List ℕ) (servers : ℕ) (v
     entries-below = entry-below-modulus σ facts cs vs (sheet-limits sheet (m .is-read) .in-limits) (m .legal)
 
     -- the messages one after another
-    from-is : (i n : ℕ) → madeFrom σ cs servers vs zs id i n ≡ oneByOne messages i n
-    unfolding madeFrom oneByOne
+    from-is : (i n : ℕ) → madeFrom σ cs servers vs zs id i n ≡ flatten (map messages (countFrom i n))
+    unfolding madeFrom flatten countFrom
     from-is i zero = refl
     from-is i (suc n) = ap (λ (l : List ℕ). messages i ++ l) (from-is (suc i) n)
 
-    bytes-are : makeBytes σ sheet servers id values random ≡ oneByOne messages 0 servers
+    bytes-are : makeBytes σ sheet servers id values random ≡ oneByOne messages servers
     unfolding makeBytes
     bytes-are = from-is 0 servers
 
@@ -132,8 +132,7 @@ module _ (σ : Setting) (facts : Facts σ) (sheet : List ℕ) (servers : ℕ) (v
     at-place : (i : ℕ) → i < servers → read i ≡ messages i
     at-place i l =
         ap (λ (v : List ℕ). part (shareLength σ cs * i) (shareLength σ cs) v) bytes-are
-        ∙ part-one-by-one messages (shareLength σ cs) 0 servers i (λ k h. message-length k) l
-        ∙ ap messages (zero-add i)
+        ∙ part-one-by-one messages (shareLength σ cs) servers (λ k h. message-length k) i l
 
     share-read : (i : ℕ) → i < servers → shareElements σ (read i) ≡ shares i
     share-read i l = ap (shareElements σ) (at-place i l) ∙ share-elements σ id i (shares i) facts (shared .share-below i)
@@ -173,7 +172,7 @@ module _ (σ : Setting) (facts : Facts σ) (sheet : List ℕ) (servers : ℕ) (v
     made-return = record {
       length-is =
           ap length bytes-are
-          ∙ length-one-by-one messages (shareLength σ cs) 0 servers (λ k h. message-length k)
+          ∙ length-one-by-one messages (shareLength σ cs) servers (λ k h. message-length k)
           ∙ mul-comm (shareLength σ cs) servers;
       message-is = at-place;
       id-is = λ fits i l. ap idIn (at-place i l) ∙ share-id σ id i (shares i) fits;

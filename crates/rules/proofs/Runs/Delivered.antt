@@ -15,11 +15,11 @@ use Rattle.rules.specs.Settings.{Setting, Facts}
 use Rattle.rules.specs.Judging.{letsIn}
 use Rattle.rules.specs.Making.{makeRefusal}
 use Rattle.rules.specs.Server.{Opened, messageOne, messageTwo}
-use Rattle.rules.specs.Ledger.{Call, share, roundOne, roundTwo, wrote, judged, Note, waitsOne, noteIn, isOpen, waiting, Ledger}
+use Rattle.rules.specs.Ledger.{Call, share, wrote, judged, Note, waitsOne, noteIn, isOpen, waiting, Ledger}
 use Rattle.rules.specs.Ledger.{empty, notesOf}
 use Rattle.rules.specs.Ledger.{noteOf, refusalOf, ledgerAfter, ledgerStep, runLedger, ledgerAnswers}
 use Rattle.rules.specs.WholeRun.{BytesIn, Pool, columns, openedAt, ledgerAt, notesIn, notesAt, Ready}
-use Rattle.rules.specs.WholeRun.{firstWait, firsts, secondWait, seconds}
+use Rattle.rules.specs.WholeRun.{bothRounds, firstWait, secondWait}
 use Rattle.rules.specs.Made.{madePart, shareMade, MadeReturn, NotedFrom, Took, MadeOf, CanTake, MadeAccepted}
 use Rattle.rules.proofs.Returns.Shares.{Made, made}
 use Rattle.rules.proofs.Returns.OnSheets.{sheet-honest-let-in}
@@ -140,10 +140,10 @@ module _ (σ : Setting) (facts : Facts σ) (𝓟 : Pool σ) (id : ℕ) (values r
         (elementsOf 4 values) (elementsOf (σ .width) random) (known .legal) drawn r s (free .pair)
 
     pub made-accepted : MadeAccepted σ 𝓟 id values random r s lent
-    made-accepted i l =
+    made-accepted i l ones twos p q =
         let o = openedAt σ 𝓟 i in
-        let rest : List Call = roundOne id (firsts σ 𝓟 id shares r s) lent ∷ roundTwo id (seconds σ 𝓟 id shares r s) ∷ [] in
-        ap (λ (m : List ℕ). ledgerAnswers σ o (ledgerAt σ 𝓟 i) (share m r s lent ∷ rest)) (whole-of .message-is i l)
-        ∙ handled σ facts 𝓟 id shares r s lent made-ready i l
+        ap (λ (m : List ℕ). ledgerAnswers σ o (ledgerAt σ 𝓟 i) (share m r s lent ∷ bothRounds id ones twos lent))
+        (whole-of .message-is i l)
+        ∙ handled σ facts 𝓟 id shares r s lent made-ready ones twos p q i l
         ∙ ap (λ (b : Bool). wrote (messageOne σ o (firstWait σ 𝓟 id shares r s i))
         ∷ wrote (messageTwo σ o (secondWait σ 𝓟 id shares r s i)) ∷ judged b ∷ []) let-in

@@ -19,6 +19,7 @@ use Rattle.rules.specs.Judging.{addedUp, letsIn}
 use Rattle.rules.specs.Ledger.{Note}
 use Rattle.rules.specs.WholeRun.{Pool, columns, noteUnder, notesAt, returnOf, addedEntry, KeepsForm}
 use Rattle.rules.proofs.Histories.Opening.{positive}
+use Rattle.rules.proofs.Histories.Keyed.{under-has}
 use Rattle.rules.proofs.Histories.PoolOpened.{is-read}
 use Rattle.rules.proofs.Returns.OnSheets.{sheet-few-pairs}
 use Rattle.rules.proofs.Runs.Agreement.{sound-at}
@@ -28,12 +29,7 @@ use Rattle.rules.proofs.Runs.Verdicts.{lets-in-same}
 noteUnder-has : (P : List ℕ → Type 0) (id : ℕ) (ns : List Note) → P [] → ((n : Note) → In n ns → P (n .elements))
     → P (noteUnder id ns .elements)
 unfolding noteUnder
-noteUnder-has P id [] z h = z
-noteUnder-has P id (n ∷ ns) z h = go (eqb (n .id) id) (h n (inl refl)) (noteUnder-has P id ns z (λ m k. h m (inr k)))
-  where
-    go : (b : Bool) → P (n .elements) → P (noteUnder id ns .elements) → P (cond b n (noteUnder id ns) .elements)
-    go true p q = p
-    go false p q = q
+noteUnder-has P id ns z h = under-has (λ n. n .id) _ id (λ n. P (n .elements)) ns z h
 
 getD-below : (p : ℕ) → 0 < p → (xs : List ℕ) → All (λ x. x < p) xs → (e : ℕ) → getD xs e 0 < p
 getD-below p h [] all[] e = h

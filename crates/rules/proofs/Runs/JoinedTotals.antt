@@ -28,8 +28,8 @@ use Rattle.rules.specs.Joining.{messageLength, totalsAt, acceptedCount, 
 use Rattle.rules.specs.Joining.{joinTotals}
 use Rattle.rules.specs.Ledger.{Note, isAccepted, notesWith, ledgerTotals, closingMessage}
 use Rattle.rules.specs.WholeRun.{Pool, columns, openedAt, ledgerAt, acceptedAt, returnOf, addedEntry}
-use Rattle.rules.specs.WholeRun.{Conditions, AllClosed, closingsFrom, closings}
-use Rattle.rules.proofs.Histories.MessageBytes.{oneByOne, length-one-by-one, part-one-by-one}
+use Rattle.rules.specs.WholeRun.{Conditions, AllClosed, closings}
+use Rattle.rules.proofs.Histories.MessageBytes.{length-one-by-one, part-one-by-one}
 use Rattle.rules.proofs.Histories.Checks.{at-every}
 use Rattle.rules.proofs.Histories.Opening.{positive}
 use Rattle.rules.proofs.Histories.PoolOpened.{opened, limited, returns-limits}
@@ -101,20 +101,11 @@ module _ (σ : Setting) (facts : Facts σ) (𝓟 : Pool σ) (𝓒 : Conditions �
   closing-sums i = totals-sums σ (openedAt σ 𝓟 i) (length (acceptedNotes i)) (totalsOf i) facts (small-totals i)
 
   -- one after another
-  closings-are : (i n : ℕ) → closingsFrom σ 𝓟 i n ≡ oneByOne closing i n
-  unfolding closingsFrom oneByOne
-  closings-are i zero = refl
-  closings-are i (suc n) = ap (λ (l : List ℕ). closing i ++ l) (closings-are (suc i) n)
-
   closings-length : length (closings σ 𝓟) ≡ messageLength σ cs * S
-  closings-length =
-      ap length (closings-are 0 S) ∙ length-one-by-one closing (messageLength σ cs) 0 S (λ j h. closing-length j)
+  closings-length = length-one-by-one closing (messageLength σ cs) S (λ j h. closing-length j)
 
   place : (i : ℕ) → i < S → totalsAt σ cs (closings σ 𝓟) i ≡ closing i
-  place i l =
-      ap (λ (v : List ℕ). totalsAt σ cs v i) (closings-are 0 S)
-      ∙ part-one-by-one closing (messageLength σ cs) 0 S i (λ j h. closing-length j) l
-      ∙ ap closing (zero-add i)
+  place = part-one-by-one closing (messageLength σ cs) S (λ j h. closing-length j)
 
   -- the count is that of the first
   pub count-is : acceptedCount (closings σ 𝓟) ≡ length ids

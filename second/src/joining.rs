@@ -14,7 +14,8 @@ pub struct Joined {
     pub totals: Vec<u8>,
 }
 
-/// Joins S closing messages. Order of refusals: S, sheet, N, 4, 12, 14.
+/// Joins S closing messages, which stand in server order. Order of refusals: S, sheet, N, 4, 12,
+/// 14.
 pub fn join(
     servers: u32,
     sheet: &[u8],
@@ -33,6 +34,7 @@ pub fn join(
     let mut count = None;
     let mut totals = vec![0; sheet.published()];
     for (place, message) in (0u8..).zip(joined.chunks_exact(length)) {
+        // "Totals messages still stand in server order."
         let (own_count, own_totals) = closing_parts(place, message).ok_or(refusal::JOINED)?;
         // "Totals counts unequal or over N."
         if own_count > limit || *count.get_or_insert(own_count) != own_count {

@@ -12,6 +12,8 @@ pub const ROUND_LENGTH: usize = 14;
 pub const ROUND_ONE: u8 = 34;
 /// The kind byte of a round two message.
 pub const ROUND_TWO: u8 = 35;
+/// Where the server number stands in a round message.
+pub(crate) const SERVER: usize = 5;
 
 /// The Lagrange basis for the points 0..=degree at x: number j is the product of
 /// (x - k) / (j - k) over all k other than j. No quotient by x - k is formed, so x may
@@ -150,7 +152,7 @@ pub(crate) fn round_message(kind: u8, id: u32, server: u32, x: u64, y: u64) -> [
     let mut message = [0; ROUND_LENGTH];
     message[0] = kind;
     message[1..5].copy_from_slice(&id.to_le_bytes());
-    message[5] = server as u8;
+    message[SERVER] = server as u8;
     message[6..10].copy_from_slice(&field::bytes(x));
     message[10..14].copy_from_slice(&field::bytes(y));
     message
@@ -173,25 +175,30 @@ pub(crate) fn round_sums(round: &Round, joined: &[u8]) -> Result<(u64, u64), u32
         return Err(refusal::JOINED);
     }
     let mut sums = (0, 0);
-    for place in 0..round.servers {
-        // "Joined messages stand in server order; each server's message of 14 bytes is
-        // judged from its own place in them."
-        let start = ROUND_LENGTH * place as usize;
-        let message = &joined[start..start + ROUND_LENGTH];
-        let (x, y) = round_elements(round, place, message).ok_or(refusal::JOINED)?;
+    // The servers of the places before, a bit for each.
+    let mut seen = 0u32;
+    for place in 0..round.servers as usize {
+        // "Each server's message of 14 bytes is judged from its own place in them."
+        let message = &joined[ROUND_LENGTH * place..][..ROUND_LENGTH];
+        // "The joined messages of a round may stand in any order, each server exactly once."
+        // There are S: when all numbers are below S and none comes twice, none is missing.
+        let server = u32::from(message[SERVER]);
+        if server >= round.servers || seen >> server & 1 == 1 {
+            return Err(refusal::JOINED);
+        }
+        seen |= 1 << server;
+        let (x, y) = round_elements(round, message).ok_or(refusal::JOINED)?;
         sums = (sums.0 + x, sums.1 + y);
     }
     Ok((sums.0 % P, sums.1 % P))
 }
 
-/// The two elements of the message at one place; `None` for a wrong kind, id, server or
-/// element, or when the own message is altered.
-fn round_elements(round: &Round, place: u32, message: &[u8]) -> Option<(u64, u64)> {
+/// The two elements of a message; `None` for a wrong kind, id or element, or when it is the
+/// own one, told by its server byte, and altered.
+fn round_elements(round: &Round, message: &[u8]) -> Option<(u64, u64)> {
     let (header, elements) = message.split_at_checked(6)?;
-    let sound = header[0] == round.kind
-        && header[1..5] == round.id.to_le_bytes()
-        && u32::from(header[5]) == place;
-    if !sound || (place == round.own && message != round.written) {
+    let sound = header[0] == round.kind && header[1..5] == round.id.to_le_bytes();
+    if !sound || (u32::from(header[SERVER]) == round.own && message != round.written) {
         return None;
     }
     if !field::all_elements(elements) {

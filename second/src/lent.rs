@@ -169,8 +169,8 @@ fn note_share(table: &mut Table, at: usize, words: &[Word], found: &Findings) {
     rest.copy_from_slice(&[found.rh as u32, found.tau as u32]);
 }
 
-/// Takes round one's joined messages for the return that waits under an id; writes the server's
-/// round two message and gives its length. Order of refusals: 11, 12, 14.
+/// Takes round one's joined messages, in any order, for the return that waits under an id;
+/// writes the server's round two message and gives its length. Order of refusals: 11, 12, 14.
 pub fn round_one(
     table: &mut [u8],
     slots: &mut [Slot],
@@ -195,8 +195,8 @@ pub fn round_one(
     Ok(ROUND_LENGTH)
 }
 
-/// Takes round two's joined messages for the return that waits under an id; gives the verdict.
-/// Order of refusals: 11, 12.
+/// Takes round two's joined messages, in any order, for the return that waits under an id; gives
+/// the verdict. Order of refusals: 11, 12.
 pub fn round_two(
     table: &mut [u8],
     slots: &mut [Slot],

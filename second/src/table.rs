@@ -149,8 +149,8 @@ pub fn share<F: Form>(
     state.note_share(id, worked)
 }
 
-/// Takes round one's joined messages for the return that waits under an id; gives the
-/// server's round two message. Order of refusals: 11, 12, 14.
+/// Takes round one's joined messages, in any order, for the return that waits under an id;
+/// gives the server's round two message. Order of refusals: 11, 12, 14.
 pub fn round_one<F>(
     table: &mut Table<F>,
     id: u32,
@@ -160,8 +160,8 @@ pub fn round_one<F>(
     table.state.round_one(id, joined, room)
 }
 
-/// Takes round two's joined messages for the return that waits under an id; gives the
-/// verdict. Order of refusals: 11, 12.
+/// Takes round two's joined messages, in any order, for the return that waits under an id;
+/// gives the verdict. Order of refusals: 11, 12.
 pub fn round_two<F>(table: &mut Table<F>, id: u32, joined: &[u8]) -> Result<Verdict, u32> {
     table.state.round_two(id, joined)
 }

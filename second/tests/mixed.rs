@@ -109,8 +109,20 @@ impl Setting {
     }
 }
 
+/// The call with its joined messages, if it has any, in another order.
+fn shuffled(call: &Call, rng: &mut Rng) -> Call {
+    let mut call = call.clone();
+    if let Call::RoundOne { joined, .. } | Call::RoundTwo { joined, .. } = &mut call {
+        let mut messages: Vec<Vec<u8>> = joined.chunks(14).map(<[u8]>::to_vec).collect();
+        rng.shuffle(&mut messages);
+        *joined = messages.concat();
+    }
+    call
+}
+
 /// Mixes courses at one table, each in its order, never more than eight waiting; every answer
-/// is the one that it got alone. Then closes. Gives how many waited at most.
+/// is the one that it got alone, where the joined messages stood in server order. Then closes.
+/// Gives how many waited at most.
 fn mixed(setting: &Setting, courses: &[Course], rng: &mut Rng) -> usize {
     let mut table = Twins::open(setting.servers, setting.own, &setting.sheet, setting.limit);
     let mut done = vec![0; courses.len()];
@@ -123,11 +135,12 @@ fn mixed(setting: &Setting, courses: &[Course], rng: &mut Rng) -> usize {
         let open = left(&done);
         let i = open[rng.index(open.len())];
         let (call, answer) = &courses[i][done[i]];
+        let call = shuffled(call, rng);
         if done[i] == 0 && table.plain.waiting().len() == 8 {
-            assert_eq!(table.call(call), Answer::Refused(11));
+            assert_eq!(table.call(&call), Answer::Refused(11));
             continue;
         }
-        assert_eq!(table.call(call), *answer, "{call}");
+        assert_eq!(table.call(&call), *answer, "{call}");
         done[i] += 1;
         most = most.max(table.plain.waiting().len());
     }

@@ -181,8 +181,14 @@ fn damaged(joined: &[u8]) -> Vec<Vec<u8>> {
             );
         }
     }
-    all.push([&joined[14..], &joined[..14]].concat());
     all
+}
+
+/// Joined messages of two servers as they are and the other way round, with the place of a
+/// server's own message.
+fn both_orders(joined: &[u8], own: usize) -> [(Vec<u8>, usize); 2] {
+    let other = [&joined[14..], &joined[..14]].concat();
+    [(joined.to_vec(), own), (other, 1 - own)]
 }
 
 /// Joined messages with one of the elements at a place altered.
@@ -197,38 +203,52 @@ fn altered(joined: &[u8], place: usize) -> [Vec<u8>; 2] {
 #[test]
 fn joined_rounds() {
     let (mut tables, first) = waiting(&[18, 2], 3);
-    for (place, table) in tables.iter_mut().enumerate() {
-        for wrong in damaged(&first) {
-            refused(table, 12, |t| round_one(t, 7, &wrong, 14));
-            refused(table, 12, |t| round_one(t, 7, &wrong, 0));
-        }
-        for wrong in altered(&first, place) {
-            refused(table, 12, |t| round_one(t, 7, &wrong, 14));
-        }
-        refused(table, 14, |t| round_one(t, 7, &first, 13));
-        refused(table, 14, |t| round_one(t, 7, &first, 0));
-        // The others' messages may be any sound ones.
-        for other in altered(&first, 1 - place) {
-            assert!(round_one(&mut table.clone(), 7, &other, 14).is_ok());
+    for (own, table) in tables.iter_mut().enumerate() {
+        for (first, place) in both_orders(&first, own) {
+            joined_first(table, &first, place);
         }
     }
     let second = second_round(&mut tables, &first);
-    for (place, table) in tables.iter_mut().enumerate() {
-        for wrong in damaged(&second) {
-            refused(table, 12, |t| round_two(t, 7, &wrong));
-        }
-        for wrong in altered(&second, place) {
-            refused(table, 12, |t| round_two(t, 7, &wrong));
+    for (own, table) in tables.iter_mut().enumerate() {
+        for (second, place) in both_orders(&second, own) {
+            joined_second(table, &second, place);
         }
         // The first round's messages again.
         refused(table, 12, |t| round_two(t, 7, &first));
-        for other in altered(&second, 1 - place) {
-            assert_eq!(
-                round_two(&mut table.clone(), 7, &other),
-                Ok(Verdict::Rejected)
-            );
-        }
         assert_eq!(round_two(table, 7, &second), Ok(Verdict::Accepted));
+    }
+}
+
+/// Round one's messages, and faults in them; the own one stands at a place.
+fn joined_first(table: &mut Table, first: &[u8], place: usize) {
+    for wrong in damaged(first) {
+        refused(table, 12, |t| round_one(t, 7, &wrong, 14));
+        refused(table, 12, |t| round_one(t, 7, &wrong, 0));
+    }
+    for wrong in altered(first, place) {
+        refused(table, 12, |t| round_one(t, 7, &wrong, 14));
+    }
+    refused(table, 14, |t| round_one(t, 7, first, 13));
+    refused(table, 14, |t| round_one(t, 7, first, 0));
+    assert!(round_one(&mut table.clone(), 7, first, 14).is_ok());
+    // The others' messages may be any sound ones.
+    for other in altered(first, 1 - place) {
+        assert!(round_one(&mut table.clone(), 7, &other, 14).is_ok());
+    }
+}
+
+/// The same for round two.
+fn joined_second(table: &mut Table, second: &[u8], place: usize) {
+    for wrong in damaged(second) {
+        refused(table, 12, |t| round_two(t, 7, &wrong));
+    }
+    for wrong in altered(second, place) {
+        refused(table, 12, |t| round_two(t, 7, &wrong));
+    }
+    let verdict = |joined: &[u8]| round_two(&mut table.clone(), 7, joined);
+    assert_eq!(verdict(second), Ok(Verdict::Accepted));
+    for other in altered(second, 1 - place) {
+        assert_eq!(verdict(&other), Ok(Verdict::Rejected));
     }
 }
 

@@ -1,4 +1,4 @@
-//! Random damage to the three parts of a table.
+//! Random damage to the three parts of a table, and to joined round messages.
 
 use second::field::P;
 use second::gen::Rng;
@@ -91,6 +91,36 @@ fn elements(rng: &mut Rng, elements: &mut Vec<u32>) {
                 let at = rng.index(length);
                 let (wrong, other) = (rng.no_element(), rng.below(P) as u32);
                 elements[at] = rng.pick([wrong, elements[at] ^ 1, other]);
+            }
+        }
+    }
+}
+
+/// A few changes of the joined messages that server `own` is handed. Some leave them sound.
+pub fn damaged_joined(rng: &mut Rng, own: usize, joined: &mut Vec<u8>) {
+    for _ in 0..rng.pick([1, 1, 1, 2, 3]) {
+        let places = joined.len() / 14;
+        if places == 0 {
+            return;
+        }
+        let [one, two] = [(); 2].map(|()| 14 * rng.index(places));
+        let mut messages = joined.chunks_exact(14);
+        let mine = messages.position(|message| usize::from(message[5]) == own).map_or(one, |place| 14 * place);
+        let from = rng.pick([one, mine]);
+        let number = rng.index(places + 1) as u8;
+        match rng.below(8) {
+            0 => joined.copy_within(from..from + 14, two),
+            1 => joined.swap(from + 5, two + 5),
+            2 => joined[from + 5] = rng.pick([number, number, 8, 16 + number, 64 + number, 255]),
+            3 => joined[from + rng.index(5)] ^= rng.pick([1, 2, 128]),
+            4 => joined[from + rng.pick([6, 9, 10, 13])] ^= rng.pick([1, 2, 128]),
+            5 => joined[from + 6..from + 14].fill(rng.pick([0, 127, 255])),
+            6 => {
+                let message = joined[one..one + 14].to_vec();
+                joined.splice(two..two, message);
+            }
+            _ => {
+                joined.drain(from..from + rng.pick([1, 14, 14]));
             }
         }
     }

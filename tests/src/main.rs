@@ -15,6 +15,7 @@ mod layout;
 mod limits;
 mod lists;
 mod mixed;
+mod orders;
 mod pages;
 mod pools;
 mod records;
@@ -66,7 +67,7 @@ const REFUSALS: [(Function, &[u32]); 14] = [
 type Test = fn(&mut Suite) -> Verdict;
 
 /// Named tests without a seed of their own.
-const NAMED: [(&str, Test); 81] = [
+const NAMED: [(&str, Test); 91] = [
     ("header: constants", sizes::constants),
     ("header: a slot", sizes::slot),
     ("header: sizes", sizes::lengths),
@@ -127,6 +128,16 @@ const NAMED: [(&str, Test); 81] = [
     ("waiting: the record that is freed", waiting::freed),
     ("waiting: the first free record", waiting::first_free),
     ("waiting: what a record tells", waiting::told),
+    ("orders: from the last to the first", orders::turned),
+    ("orders: every run of four messages", orders::every_run),
+    ("orders: a server twice", orders::twice),
+    ("orders: a server missing", orders::missing),
+    ("orders: the own message altered", orders::own),
+    ("orders: the others' messages altered", orders::others),
+    ("orders: lengths", orders::lengths),
+    ("orders: 11, 12 and 14", orders::order),
+    ("orders: totals messages", orders::totals),
+    ("orders: random orders and damage", orders::random),
     ("mixed returns: the largest sheets", mixed::large),
     ("tops: a circuit told by hand", tops::circuit),
     ("tops: values past the top", tops::past),

@@ -1,5 +1,5 @@
 //! Calls on up to eight returns, mixed: each return's messages and verdict are those of the return alone on tables that
-//! were opened the same.
+//! were opened the same. Alone its round messages stand in server order, in the mix in random ones.
 
 use second::field;
 use second::gen::{self, Origin, Return, Rng};
@@ -7,6 +7,7 @@ use second::Sheet;
 
 use crate::calls::{plain, Call, Function};
 use crate::layout::{read, word, Slot, SLOTS};
+use crate::orders::shuffled;
 use crate::pools::Pool;
 use crate::suite::{Suite, Verdict};
 use crate::tops::{largest_sheet, longest_sheet};
@@ -63,6 +64,15 @@ fn call(given: &Return, phase: Phase, server: usize, last: &[Given]) -> Call {
     }
 }
 
+/// A call of the mix: joined messages, where it has any, stand in a random order.
+fn mixed_call(rng: &mut Rng, given: &Return, phase: Phase, server: usize, last: &[Given]) -> Call {
+    let call = call(given, phase, server, last);
+    match phase {
+        Phase::One | Phase::Two => Call { message: shuffled(rng, &call.message), ..call },
+        Phase::Share | Phase::Drop => call,
+    }
+}
+
 /// Carries out the call of a phase at a server of a pool.
 fn step(suite: &mut Suite, pool: &mut Pool, server: usize, given: &Return, call: Call) -> Result<Given, String> {
     let done = pool.at(suite, server, call)?;
@@ -113,7 +123,7 @@ fn noise(suite: &mut Suite, rng: &mut Rng, pool: &Pool, server: usize, courses: 
     let (one, two) = (&courses[rng.index(courses.len())], &courses[rng.index(courses.len())]);
     let phase = rng.pick([Phase::Share, Phase::One, Phase::Two, Phase::Drop]);
     let from = rng.index(two.phases.len());
-    let mut call = call(&two.given, phase, server, &two.phases[from].1);
+    let mut call = mixed_call(rng, &two.given, phase, server, &two.phases[from].1);
     if rng.chance(50) {
         call.id = one.given.id;
     }
@@ -139,7 +149,7 @@ fn advance(suite: &mut Suite, rng: &mut Rng, pool: &mut Pool, course: &mut Cours
     };
     let (phase, gives) = &course.phases[course.now];
     let last = course.now.checked_sub(1).map_or(&[][..], |before| &course.phases[before].1);
-    let call = call(&course.given, *phase, server, last);
+    let call = mixed_call(rng, &course.given, *phase, server, last);
     let mixed = step(suite, pool, server, &course.given, call.clone())?;
     if mixed != gives[server] {
         let text = format!("{mixed:?} among others\nmust be {:?} as alone", gives[server]);

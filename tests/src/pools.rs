@@ -6,6 +6,7 @@ use second::{Column, Sheet};
 
 use crate::calls::{plain, Call, Done, Function};
 use crate::layout::{id_of, put_word, word, Parts};
+use crate::orders::shuffled;
 use crate::suite::{Suite, Verdict};
 use crate::tops::{largest_sheet, longest_sheet};
 
@@ -136,7 +137,8 @@ fn add_values(sheet: &Sheet, values: &[u8], totals: &mut [u64]) {
     }
 }
 
-/// Honest returns of random values, now and then one dropped: all are accepted, and the joined totals are their sums.
+/// Honest returns of random values, their messages in random orders, now and then one dropped: all others are accepted,
+/// and the joined totals are their sums.
 fn honest(suite: &mut Suite, rng: &mut Rng, pool: &mut Pool, count: u32) -> Verdict {
     let mut totals = vec![0; pool.sheet.published()];
     let mut accepted = 0;
@@ -149,7 +151,9 @@ fn honest(suite: &mut Suite, rng: &mut Rng, pool: &mut Pool, count: u32) -> Verd
             pool.drop(suite, id)?;
             continue;
         }
-        let verdicts = pool.judge(suite, &shares, r, s)?;
+        let joined = pool.share(suite, &shares, r, s)?;
+        let joined = pool.round_one(suite, &shuffled(rng, &joined))?;
+        let verdicts = pool.round_two(suite, &shuffled(rng, &joined))?;
         if verdicts.iter().any(|&verdict| verdict != 1) {
             return Err(format!("an honest return has the verdicts {verdicts:?}, r = {r}, s = {s}, id {id}"));
         }

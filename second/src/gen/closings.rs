@@ -61,7 +61,7 @@ pub(super) fn damage_closings(rng: &mut Rng, joined: &mut Vec<u8>, published: us
 }
 
 /// Swaps the messages of so many bytes at two places.
-pub(super) fn swap(joined: &mut [u8], start: usize, other: usize, length: usize) {
+fn swap(joined: &mut [u8], start: usize, other: usize, length: usize) {
     for i in 0..length {
         joined.swap(start + i, other + i);
     }

@@ -3,6 +3,7 @@
 mod builder;
 mod calls;
 mod end;
+mod joined;
 mod noise;
 mod orderly;
 mod text;

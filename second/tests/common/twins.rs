@@ -5,7 +5,7 @@ use second::gen::{Answer, Call, Server};
 use second::{open, Stage, Table};
 
 /// A table in both forms.
-#[derive(Clone)]
+#[derive(Clone, Debug, PartialEq)]
 pub struct Twins {
     pub plain: Table,
     pub lent: Lent,

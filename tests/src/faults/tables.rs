@@ -4,6 +4,7 @@ use super::{alone_and_in_pairs, fault, returns, rooms, servers, sheets, Fault, P
 use crate::calls::{Call, Function};
 use crate::fixture::{other, Fixture, DECIDED, NEXT, UNKNOWN};
 use crate::layout::{put_word, Parts};
+use crate::orders::ordered;
 use crate::suite::{Suite, Verdict};
 
 const SHEET: [u8; 5] = [17, 18, 3, 19, 4];
@@ -121,25 +122,43 @@ pub fn share(suite: &mut Suite) -> Verdict {
     Ok(())
 }
 
-/// Joined round messages at fault, at server 1 of 3; `kind` is the round's.
-fn joined(order: u32, kind: u8) -> Vec<Fault> {
+/// The orders in which the messages of three servers stand: that of the servers, and one with none in its own place.
+const ORDERS: [[usize; 3]; 2] = [[0, 1, 2], [1, 2, 0]];
+
+/// Joined round messages at fault, at server 1 of 3; `kind` is the round's. They stand in this order. No two changes of
+/// server numbers give two others each other's: that is no fault.
+fn joined(order: u32, kind: u8, places: [usize; 3]) -> Vec<Fault> {
+    let at = |server: usize, at: usize| 14 * places.iter().position(|&place| place == server).unwrap_or(0) + at;
     let byte =
         |place: &'static str, at: usize, change: u8| fault(order, 12, place, move |call| call.message[at] ^= change);
     let mut faults = vec![
-        byte("kind 0", 0, kind),
-        byte("kind 1", 14, 34 ^ 35),
-        byte("kind 2", 28, 34 ^ 35),
-        byte("server 0", 5, 1),
-        byte("server 2", 33, 1),
-        byte("server 2", 33, 128),
-        byte("own", 20, 1),
-        byte("own", 27, 1),
+        byte("kind 0", at(0, 0), kind),
+        byte("kind 1", at(1, 0), 34 ^ 35),
+        byte("kind 2", at(2, 0), 34 ^ 35),
+        byte("server 0", at(0, 5), 1),
+        byte("server 0", at(0, 5), 2),
+        byte("server 0", at(0, 5), 3),
+        byte("server 1", at(1, 5), 1),
+        byte("server 1", at(1, 5), 3),
+        byte("server 1", at(1, 5), 2),
+        byte("server 1", at(1, 5), 32),
+        byte("server 2", at(2, 5), 1),
+        byte("server 2", at(2, 5), 128),
+        byte("own", at(1, 6), 1),
+        byte("own", at(1, 13), 1),
     ];
-    faults.extend([1, 2, 3, 4].map(|at| byte("id 0", at, 1)));
-    faults.extend([29, 30, 31, 32].map(|at| byte("id 2", at, 128)));
+    faults.extend([1, 2, 3, 4].map(|k| byte("id 0", at(0, k), 1)));
+    faults.extend([1, 2, 3, 4].map(|k| byte("id 2", at(2, k), 128)));
     let element =
         |at: usize, wrong: u64| fault(order, 12, "element", move |call| put_word(&mut call.message, at, wrong));
-    faults.extend([element(6, P), element(10, P), element(34, P), element(38, (1 << 32) - 1)]);
+    faults.extend([element(at(0, 6), P), element(at(0, 10), P)]);
+    faults.extend([element(at(2, 6), P), element(at(2, 10), (1 << 32) - 1)]);
+    // A server twice: the first stands for the second too.
+    let twice = |(from, to): (usize, usize)| {
+        let (from, to) = (at(from, 0), at(to, 0));
+        fault(order, 12, "twice", move |call| call.message.copy_within(from..from + 14, to))
+    };
+    faults.extend([(0, 1), (0, 2), (1, 0), (1, 2), (2, 0), (2, 1)].map(twice));
     faults
 }
 
@@ -169,33 +188,34 @@ fn named(fixture: &Fixture, odd: bool) -> Vec<Fault> {
 
 /// Round one: 11, 12, 14.
 pub fn round_one(suite: &mut Suite) -> Verdict {
-    for fixture in fixtures(suite)? {
-        let mut faults = named(&fixture, false);
+    for (fixture, order) in fixtures(suite)?.iter().flat_map(|fixture| ORDERS.map(|order| (fixture, order))) {
+        let mut faults = named(fixture, false);
         faults.extend(stages(&[&fixture.idle, &fixture.second, &fixture.full]));
-        faults.extend(tables(&fixture));
-        faults.extend(joined(1, 34));
+        faults.extend(tables(fixture));
+        faults.extend(joined(1, 34, order));
         faults.extend(rooms(2, 14));
         faults.extend(lengths(1));
         faults.extend(parts(0, 11, fixture.idle.elements.len()));
-        alone_and_in_pairs(suite, &fixture.round_one(), &faults)?;
+        let message = ordered(&fixture.joined_one, &order);
+        alone_and_in_pairs(suite, &Call { message, ..fixture.round_one() }, &faults)?;
     }
     Ok(())
 }
 
 /// Round two: 11, 12.
 pub fn round_two(suite: &mut Suite) -> Verdict {
-    for fixture in fixtures(suite)? {
-        let mut faults = named(&fixture, true);
+    for (fixture, order) in fixtures(suite)?.iter().flat_map(|fixture| ORDERS.map(|order| (fixture, order))) {
+        let mut faults = named(fixture, true);
         faults.extend(stages(&[&fixture.idle, &fixture.first, &fixture.full]));
-        faults.extend(tables(&fixture));
-        faults.extend(joined(1, 35));
+        faults.extend(tables(fixture));
+        faults.extend(joined(1, 35, order));
         faults.extend(lengths(1));
         faults.extend(parts(0, 11, fixture.idle.elements.len()));
-        alone_and_in_pairs(suite, &fixture.round_two(), &faults)?;
+        let message = ordered(&fixture.joined_two, &order);
+        alone_and_in_pairs(suite, &Call { message, ..fixture.round_two() }, &faults)?;
         // Round one's messages do not do for round two.
-        let mut call = fixture.round_two();
-        call.message.clone_from(&fixture.joined_one);
-        suite.number(&call, 12)?;
+        let message = ordered(&fixture.joined_one, &order);
+        suite.number(&Call { message, ..fixture.round_two() }, 12)?;
     }
     Ok(())
 }

@@ -101,14 +101,17 @@ pub fn own_message(table: &Table, parts: &Parts, record: usize) -> Vec<u8> {
     }
 }
 
-/// The sums of joined round messages for a record, or refusal 12.
+/// The sums of joined round messages for a record, or refusal 12. They may stand in any order: sorted by their server
+/// numbers, message k is server k's.
 fn sums(table: &Table, parts: &Parts, record: usize, joined: &[u8]) -> Result<(u64, u64), u32> {
     let mine = own_message(table, parts, record);
     if joined.len() != ROUND * table.servers as usize {
         return Err(refusal::JOINED);
     }
+    let mut messages: Vec<&[u8]> = joined.chunks(ROUND).collect();
+    messages.sort_by_key(|message| message[5]);
     let mut sums = (0, 0);
-    for (server, message) in joined.chunks(ROUND).enumerate() {
+    for (server, message) in messages.into_iter().enumerate() {
         let (x, y) = (word(message, 6), word(message, 10));
         let alike = message[..5] == mine[..5] && usize::from(message[5]) == server && x < P && y < P;
         let own = server != table.own as usize || message == mine;

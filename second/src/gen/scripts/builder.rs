@@ -5,7 +5,6 @@ use std::collections::BTreeMap;
 use super::{Answer, Call, Server, Step};
 use crate::gen::any::any_id;
 use crate::gen::{sheets, Origin, Return, Rng};
-use crate::judging::round_message;
 use crate::sheet::Sheet;
 use crate::table::{self, Table};
 
@@ -118,21 +117,5 @@ impl Builder {
         let made = Return::random(&mut self.rng, &self.sheet, self.servers, id, origin);
         self.returns.push(made);
         self.returns.len() - 1
-    }
-
-    /// The messages written for an id and a round, in server order; where none was written,
-    /// a made-up one.
-    pub fn joined(&mut self, id: u32, kind: u8) -> Vec<u8> {
-        let mut joined = Vec::new();
-        for server in 0..self.servers {
-            match self.written.get(&(id, kind, server)) {
-                Some(message) => joined.extend_from_slice(message),
-                None => {
-                    let (x, y) = (self.rng.element(), self.rng.element());
-                    joined.extend(round_message(kind, id, server, x, y));
-                }
-            }
-        }
-        joined
     }
 }

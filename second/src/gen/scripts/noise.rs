@@ -2,9 +2,8 @@
 
 use super::builder::Builder;
 use super::{Answer, Call, Server};
-use crate::field::{self, P};
+use crate::field::P;
 use crate::gen::any::{any_id, any_room};
-use crate::gen::closings::swap;
 use crate::gen::{pair, sheets, Rng};
 use crate::judging::{ROUND_LENGTH, ROUND_ONE, ROUND_TWO};
 use crate::making::header;
@@ -90,8 +89,11 @@ impl Builder {
             if joined.len() < ROUND_LENGTH {
                 break;
             }
-            let own = ROUND_LENGTH * server as usize;
-            damage_round(&mut self.rng, own, kind, &mut joined, &mut room);
+            if self.rng.chance(10) {
+                room = self.rng.index(ROUND_LENGTH);
+            } else {
+                self.damage_joined(server, kind, &mut joined);
+            }
         }
         if kind == ROUND_ONE {
             Call::RoundOne { id, joined, room }
@@ -127,40 +129,4 @@ fn wrong_r(rng: &mut Rng, gates: u64) -> u64 {
     let wide = 1 << 32;
     let cut = wide + gates + 1;
     rng.pick([0, 1, gates, P, P + 1, wide + 4, cut, far, u64::MAX])
-}
-
-/// Puts a fault into a round's joined messages, or makes the room short. `own` is where the
-/// server's own message stands.
-fn damage_round(rng: &mut Rng, own: usize, kind: u8, joined: &mut Vec<u8>, room: &mut usize) {
-    let places = joined.len() / ROUND_LENGTH;
-    let start = ROUND_LENGTH * rng.index(places);
-    let other = ROUND_LENGTH * rng.index(places);
-    match rng.below(9) {
-        0 => joined[start] = rng.pick([0, 33, ROUND_ONE, ROUND_TWO, 36]),
-        1 => joined[start + 1 + rng.index(4)] ^= rng.pick([1, 16, 128]),
-        2 => joined[start + 5] = rng.pick([0, 1, 2, 7, 8, 255]),
-        3 => {
-            let at = start + rng.pick([6, 10]);
-            joined[at..at + 4].copy_from_slice(&rng.no_element().to_le_bytes());
-        }
-        // The own message altered, still with sound elements.
-        4 if own + ROUND_LENGTH <= joined.len() => {
-            let at = own + rng.pick([6, 10]);
-            joined[at..at + 4].copy_from_slice(&field::bytes(rng.element()));
-        }
-        5 => swap(joined, start, other, ROUND_LENGTH),
-        6 => {
-            let any = rng.index(joined.len());
-            let n = joined.len();
-            let length = rng.pick([0, 13, 14, any, n - 14, n - 1, n + 1, n + 14]);
-            joined.resize(length, 0);
-        }
-        // The other round's messages.
-        7 => {
-            for message in joined.chunks_exact_mut(ROUND_LENGTH) {
-                message[0] = ROUND_ONE + ROUND_TWO - kind;
-            }
-        }
-        _ => *room = rng.index(ROUND_LENGTH),
-    }
 }

@@ -1,6 +1,7 @@
 //! Scripts with calls in any order and with any arguments.
 
 use super::builder::Builder;
+use super::joined::start_of;
 use super::Call;
 use crate::field;
 use crate::gen::any::any_room;
@@ -107,21 +108,20 @@ impl Builder {
     /// ones for the servers that wrote none, one of them sometimes such that the sums are 0.
     fn wild_joined(&mut self, server: u32, id: u32, kind: u8) -> Vec<u8> {
         let mut joined = self.joined(id, kind);
-        if self.rng.chance(40) {
-            let other = (server + 1) % self.servers;
-            let start = ROUND_LENGTH * other as usize;
-            let mut sums = [0, 0];
-            for (place, message) in (0..).zip(joined.chunks_exact(ROUND_LENGTH)) {
-                if place != other {
-                    for (sum, word) in sums.iter_mut().zip(field::words(&message[6..])) {
-                        *sum = field::add(*sum, u64::from(word));
-                    }
-                }
+        let other = (server + 1) % self.servers;
+        let Some(start) = start_of(&joined, other).filter(|_| self.rng.chance(40)) else {
+            return joined;
+        };
+        let mut sums = [0, 0];
+        joined[start + 6..start + ROUND_LENGTH].fill(0);
+        for message in joined.chunks_exact(ROUND_LENGTH) {
+            for (sum, word) in sums.iter_mut().zip(field::words(&message[6..])) {
+                *sum = field::add(*sum, u64::from(word));
             }
-            let [x, y] = sums.map(|sum| field::sub(0, sum));
-            let message = round_message(kind, id, other, x, y);
-            joined[start..start + ROUND_LENGTH].copy_from_slice(&message);
         }
+        let [x, y] = sums.map(|sum| field::sub(0, sum));
+        let message = round_message(kind, id, other, x, y);
+        joined[start..start + ROUND_LENGTH].copy_from_slice(&message);
         joined
     }
 }

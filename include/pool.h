@@ -17,9 +17,15 @@
  *     anyone            pool_join -------> the count of accepted returns and the totals
  *     a keeper          pool_shelve -----> share messages stored by place, and pool_unshelve brings them back
  *
- * The host sends the messages: it puts the S messages of a round of one return one after another in server order and hands
- * the whole run to every server. It also draws the random numbers, and chooses r and s, for each return anew and the same for
- * every server, after the shares have been sent and in a way that no workshop can foretell.
+ * The host sends the messages: what a server writes in a round goes to every server. It also draws the random numbers, and
+ * chooses r and s, for each return anew and the same for every server, after the shares have been sent and in a way that no
+ * workshop can foretell.
+ *
+ * Round messages. A server is handed the S messages of a round of one return one after another as they arrived: in any order,
+ * which may be another at each server; one of each server, the own one, unaltered, among them. They need no sorting, for each
+ * says whose it is: byte 0 is 34 in round one and 35 in round two, bytes 1 to 4 are the id, byte 5 is the server. A server
+ * twice or missing, or a byte 5 of S or more, is refused 12. A host takes one message of each server, told by the connection
+ * that it came on, and hands them in when it has all S. Totals messages are joined in server order (pool_join).
  *
  * Answers. Every function returns 0 when it is done, and else the number of the refusal (POOL_...). The first refusal in
  * the order given at each function counts. A refusal changes nothing: buffers, all three parts of tables and results behind
@@ -78,10 +84,10 @@
  *                 continue;                     // once a return is decided
  *             }
  *             break;
- *         case ALL_ROUND_ONE:
+ *         case ALL_ROUND_ONE:                   // m.bytes: S messages, as they arrived
  *             answer = pool_round_one(T, m.id, m.bytes, m.len, out, sizeof out, &out_len);
  *             break;
- *         case ALL_ROUND_TWO:
+ *         case ALL_ROUND_TWO:                   // likewise
  *             answer = pool_round_two(T, m.id, m.bytes, m.len, &accepted);
  *             out_len = 0;                      // no message: the return is decided and its slot is free again
  *             break;
@@ -136,7 +142,7 @@ extern "C" {
 #define POOL_PAIR 9     /* r or s outside its range */
 #define POOL_DECIDED 10 /* the id was decided or waits */
 #define POOL_STAGE 11   /* table unsound or closed, nothing waits under that id in that stage, eight wait, or a close while one waits */
-#define POOL_JOINED 12  /* joined messages: length, kind, id, order, element, own message or counts wrong */
+#define POOL_JOINED 12  /* joined messages: length, kind, id, server, element, own message or counts wrong; totals out of order */
 #define POOL_FULL 13    /* N returns are decided or wait */
 #define POOL_ROOM 14    /* an output buffer is too short; in opening also a part of the table, or slots_len is not POOL_SLOTS */
 #define POOL_MANY 17    /* the sheet has more than 4,096 legal lists of values */
@@ -304,20 +310,23 @@ uint32_t pool_share(const uint8_t *table, size_t table_len, pool_slot *slots, si
                     uint64_t r, uint64_t s, uint8_t *out, size_t out_len, size_t *written);
 
 /*
- * Takes the S joined round-one messages of the return `id` and writes the server's round-two message, POOL_ROUND_BYTES. Only
- * the slot of this return changes: it awaits round two.
- * Refusals: 11 for a table that is unsound or closed, or where no return of this id awaits round one; 12, for messages of
- * another id too; 14.
+ * Takes the round-one messages of all servers for the return `id` and writes the server's round-two message,
+ * POOL_ROUND_BYTES. Only the slot of this return changes: it awaits round two.
+ *     joined    S x POOL_ROUND_BYTES: one message of each server, one after another in any order, the own one among them as
+ *               pool_share wrote it
+ * Refusals: 11 for a table that is unsound or closed, or where no return of this id awaits round one; 12 for another length, a
+ * message of another round or id, a server twice, missing or not below S, an element not below p, or an own message that was
+ * altered, wherever it stands; 14.
  */
 uint32_t pool_round_one(const uint8_t *table, size_t table_len, pool_slot *slots, size_t slots_len,
                         const uint32_t *elements, size_t elements_len, uint32_t id,
                         const uint8_t *joined, size_t joined_len, uint8_t *out, size_t out_len, size_t *written);
 
 /*
- * Takes the S joined round-two messages of the return `id` and decides it: *accepted is 1 or 0. Its slot and its place in the
- * elements are erased; the slot is free again.
- * Refusals: 11 for a table that is unsound or closed, or where no return of this id awaits round two; 12, for messages of
- * another id too.
+ * Takes the round-two messages of all servers for the return `id` and decides it: *accepted is 1 or 0. Its slot and its place
+ * in the elements are erased; the slot is free again.
+ *     joined    as in pool_round_one, the own message as pool_round_one wrote it
+ * Refusals: 11 for a table that is unsound or closed, or where no return of this id awaits round two; 12 as in pool_round_one.
  */
 uint32_t pool_round_two(uint8_t *table, size_t table_len, pool_slot *slots, size_t slots_len,
                         uint32_t *elements, size_t elements_len, uint32_t id,
@@ -342,7 +351,7 @@ uint32_t pool_close(uint8_t *table, size_t table_len, const pool_slot *slots, si
 /*
  * Joins the S totals messages, in server order, of tables opened with this S, sheet and N: *accepted is the count of
  * accepted returns, and the totals of the published entries are written as elements in entry order, POOL_JOIN_BYTES.
- * Refusals: 2 for S, the sheet's, 2 for N, 4, 12, 14.
+ * Refusals: 2 for S, the sheet's, 2 for N, 4, 12, for messages in another order too, 14.
  */
 uint32_t pool_join(uint32_t servers, const uint8_t *sheet, size_t sheet_len, uint32_t returns,
                    const uint8_t *joined, size_t joined_len, uint8_t *out, size_t out_len,

@@ -1,7 +1,8 @@
 /*
  * A whole pool on one machine: ten watchmakers' workshops, three servers, one sheet. Up to eight returns wait at a server
- * at a time, and they are finished in another order than they came. Prints what happens to each return and the totals,
- * and checks them against the plain sums, which no real pool has.
+ * at a time, and they are finished in another order than they came. The messages of a round are handed in as they arrive, in
+ * another order at each server. Prints what happens to each return and the totals, and checks them against the plain sums,
+ * which no real pool has.
  *
  * Exit status: 0, or 1 where a call is refused that must be done or the totals are not the plain sums.
  */
@@ -10,7 +11,7 @@
 
 #include "host.h"
 
-enum { SERVERS = 3, RETURNS = 16, COLUMNS = 3, PUBLISHED = 6 };
+enum { SERVERS = 3, RETURNS = 16, COLUMNS = 3, PUBLISHED = 6, JOINED = SERVERS * POOL_ROUND_BYTES };
 
 /* Hours stop at 200: a top in 4 bytes, lowest byte first. */
 static const uint8_t sheet[] = {POOL_YES_NO, POOL_CHOICE, 4, POOL_TOP, 200, 0, 0, 0};
@@ -54,6 +55,9 @@ static const struct {
     {ALBERS, ROUND_TWO}, {EBERT, ROUND_TWO},  {BRANDT, ROUND_TWO},
 };
 
+/* Orders in which the messages of a round arrive: another at each server. */
+static const uint8_t arrivals[][SERVERS] = {{2, 0, 1}, {1, 0, 2}, {0, 1, 2}, {2, 1, 0}, {1, 2, 0}};
+
 /* What the sheet comes to: every party asks once. */
 static struct {
     uint32_t columns, entries, published, wires, multiplications, tests, circuit_bytes, share_bytes, greatest_returns;
@@ -74,7 +78,7 @@ static struct server {
 static struct under_way {
     uint8_t shares[SERVERS * POOL_MAX_SHARE_BYTES];
     uint64_t r, s;
-    uint8_t messages[SERVERS * POOL_ROUND_BYTES];
+    uint8_t messages[JOINED];
 } under_way[WORKSHOPS];
 
 static uint32_t id_of(int k) { return (uint32_t)k + 1; }
@@ -142,24 +146,35 @@ static int take_shares(int k)
     return 1;
 }
 
+/* The messages of a round of return k, as they arrived at server i. */
+static void arrived(int k, size_t i, const uint8_t *messages, uint8_t joined[JOINED])
+{
+    const uint8_t *from = arrivals[((size_t)k + i) % (sizeof arrivals / sizeof arrivals[0])];
+    for (size_t n = 0; n < SERVERS; n++)
+        memcpy(joined + n * POOL_ROUND_BYTES, messages + from[n] * POOL_ROUND_BYTES, POOL_ROUND_BYTES);
+}
+
 static void round_one(int k)
 {
     struct under_way *u = &under_way[k];
-    uint8_t joined[sizeof u->messages];
+    uint8_t ones[JOINED], joined[JOINED];
     size_t written;
-    memcpy(joined, u->messages, sizeof joined);
-    for (size_t i = 0; i < SERVERS; i++)
+    memcpy(ones, u->messages, sizeof ones);
+    for (size_t i = 0; i < SERVERS; i++) {
+        arrived(k, i, ones, joined);
         host_must("pool_round_one", pool_round_one(TABLE(&servers[i]), id_of(k), joined, sizeof joined,
                                                    u->messages + i * POOL_ROUND_BYTES, POOL_ROUND_BYTES, &written));
+    }
 }
 
 /* Says whether the return was accepted. Every server decides by itself, and all decide alike. */
 static int round_two(int k)
 {
     uint32_t verdicts = 0, accepted;
-    for (struct server *v = servers; v < servers + SERVERS; v++) {
-        host_must("pool_round_two", pool_round_two(TABLE(v), id_of(k), under_way[k].messages,
-                                                   sizeof under_way[k].messages, &accepted));
+    uint8_t joined[JOINED];
+    for (size_t i = 0; i < SERVERS; i++) {
+        arrived(k, i, under_way[k].messages, joined);
+        host_must("pool_round_two", pool_round_two(TABLE(&servers[i]), id_of(k), joined, sizeof joined, &accepted));
         verdicts += accepted;
     }
     if (verdicts != 0 && verdicts != SERVERS) {
@@ -233,13 +248,12 @@ static void add_plain(const struct workshop *w, uint32_t sums[PUBLISHED])
     sums[5] += w->values[2];
 }
 
-/* Closes every server and joins the totals. Gives the count of accepted returns. */
+/* Closes every server and joins the totals, in server order. Gives the count of accepted returns. */
 static uint32_t close_and_join(uint32_t totals[PUBLISHED])
 {
     uint8_t joined[SERVERS * POOL_MAX_TOTALS_BYTES], out[POOL_JOIN_BYTES(PUBLISHED)];
     uint32_t accepted;
-    size_t written;
-    size_t len = 0;
+    size_t written, len = 0;
     for (struct server *v = servers; v < servers + SERVERS; v++, len += written)
         host_must("pool_close", pool_close(TABLE(v), joined + len, sizeof joined - len, &written));
     host_must("pool_join", pool_join(SERVERS, sheet, sizeof sheet, RETURNS, joined, len, out, sizeof out, &accepted,
@@ -271,7 +285,7 @@ int main(void)
     for (int k = 0; k < WORKSHOPS; k++)
         arrive(k);
 
-    printf("\nThe servers exchange the messages of two rounds for each return. They come in any order:\n\n");
+    printf("\nThe servers exchange the messages of two rounds for each return, and take them as they come, in any order:\n\n");
     for (size_t n = 0; n < sizeof timetable / sizeof timetable[0]; n++) {
         if (!handle(timetable[n].who, timetable[n].what))
             continue;

@@ -28,7 +28,7 @@ static inline const char *host_words(uint32_t refusal)
         "r or s outside its range",
         "the id was decided or waits",
         "table unsound or closed, nothing waits under that id in that stage, eight wait, or a close while one waits",
-        "joined messages: length, kind, id, order, element, own message or counts wrong",
+        "joined messages: length, kind, id, element, own message or counts wrong, a server twice or missing, or totals out of order",
         "N returns are decided or wait",
         "an output buffer is too short; in opening also a part of the table, or slots_len is not POOL_SLOTS",
         [POOL_MANY] = "the sheet has more than 4,096 legal lists of values",

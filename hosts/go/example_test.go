@@ -22,10 +22,11 @@ func Example() {
 	}
 
 	// Both returns are under way at once: the first round of each, then the second, the last one first. A server that is
-	// refused a call tells the others, and they drop the return. Here every call is done.
+	// refused a call tells the others, and they drop the return. Here every call is done. The messages of a round are handed
+	// in as they arrive: server 1 is the faster one here, and its messages stand first.
 	workshop := pool.Client{Sheet: sheet, Servers: servers}
 	returns := [][]uint32{{1, 30}, {0, 12}}
-	var ones, twos [2][servers][]byte
+	var ones [2][][]byte
 	for id, values := range returns {
 		shares, err := workshop.Make(uint32(id), values)
 		if err != nil {
@@ -35,27 +36,33 @@ func Example() {
 		if err != nil {
 			log.Fatal(err)
 		}
-		for own, table := range tables {
-			if ones[id][own], err = table.Share(shares[own], pair); err != nil {
+		for own := servers - 1; own >= 0; own-- {
+			message, err := tables[own].Share(shares[own], pair)
+			if err != nil {
 				log.Fatal(err)
 			}
+			ones[id] = append(ones[id], message)
 		}
 	}
 	for own, table := range tables {
 		fmt.Println("server", own, "has", len(table.Waiting()), "returns waiting")
 	}
 	for id := len(returns) - 1; id >= 0; id-- {
-		for own, table := range tables {
-			if twos[id][own], err = table.RoundOne(uint32(id), ones[id][:]); err != nil {
+		var twos [][]byte
+		for own := servers - 1; own >= 0; own-- {
+			message, err := tables[own].RoundOne(uint32(id), ones[id])
+			if err != nil {
 				log.Fatal(err)
 			}
+			twos = append(twos, message)
 		}
 		for own, table := range tables {
-			accepted, err := table.RoundTwo(uint32(id), twos[id][:])
+			accepted, err := table.RoundTwo(uint32(id), twos)
 			fmt.Println("return", id, "server", own, "accepted", accepted, err)
 		}
 	}
 
+	// Totals messages stand in server order.
 	var messages [servers][]byte
 	for own, table := range tables {
 		if messages[own], err = table.Close(); err != nil {

@@ -63,10 +63,22 @@ func (all servers) start(t *testing.T, sheet *Sheet, shares [][]byte) [][]byte {
 	return all.each(t, func(own int, table *Table) ([]byte, error) { return table.Share(shares[own], pair) })
 }
 
+// arrivals draws the orders in which messages arrive, the same in each run of the tests.
+var arrivals = rand.New(rand.NewSource(1))
+
+// arrived gives the messages of a round in a random order, as they could have arrived at a server.
+func arrived(messages [][]byte) [][]byte {
+	list := make([][]byte, len(messages))
+	for k, from := range arrivals.Perm(len(messages)) {
+		list[k] = messages[from]
+	}
+	return list
+}
+
 // roundOne takes the round-one messages of a return at every server, up to the round-two messages.
 func (all servers) roundOne(t *testing.T, id uint32, ones [][]byte) [][]byte {
 	t.Helper()
-	return all.each(t, func(_ int, table *Table) ([]byte, error) { return table.RoundOne(id, ones) })
+	return all.each(t, func(_ int, table *Table) ([]byte, error) { return table.RoundOne(id, arrived(ones)) })
 }
 
 // roundTwo decides a return at every server and gives the verdict, the same at each.
@@ -74,7 +86,7 @@ func (all servers) roundTwo(t *testing.T, id uint32, twos [][]byte) bool {
 	t.Helper()
 	verdicts := 0
 	for _, table := range all {
-		accepted, err := table.RoundTwo(id, twos)
+		accepted, err := table.RoundTwo(id, arrived(twos))
 		if err != nil {
 			t.Fatal(err)
 		}

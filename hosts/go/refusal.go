@@ -25,7 +25,7 @@ const (
 	Range   Refusal = 9  // r or s outside its range
 	Decided Refusal = 10 // the id was decided or waits
 	Stage   Refusal = 11 // table unsound or closed, nothing waits under that id in that stage, eight wait, or a close while one waits
-	Joined  Refusal = 12 // joined messages at fault
+	Joined  Refusal = 12 // joined messages: length, kind, id, server, element, own message or counts wrong; totals out of order
 	Full    Refusal = 13 // N returns are decided or wait
 	Room    Refusal = 14 // an output buffer is too short; in opening also a part of the table, or slots_len is not POOL_SLOTS
 	Many    Refusal = 17 // the sheet has more than 4,096 legal returns
@@ -44,7 +44,7 @@ var words = [...]string{
 	Range:   "r or s outside its range",
 	Decided: "the id was decided or waits: an id is for one return only",
 	Stage:   "table unsound or closed, nothing waits under that id in that stage, eight wait, or a close while one waits",
-	Joined:  "joined messages: length, kind, id, order, element, own message or counts wrong",
+	Joined:  "joined messages: length, kind, id, element, own message or counts wrong, a server twice or missing, or totals out of order",
 	Full:    "N returns are decided or wait: this table takes no more",
 	Room:    "an output buffer is too short; in opening also a part of the table, or slots_len is not POOL_SLOTS",
 	Many:    "more than 4,096 legal returns: take fewer columns, options or bits, or lower tops",

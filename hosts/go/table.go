@@ -8,8 +8,8 @@ import "bytes"
 //	Share, RoundOne, RoundTwo    or Drop after Share or RoundOne
 //
 // Calls on other returns may come between them, and returns may be finished in any order; the rounds and Drop name an id.
-// Close comes at the end, when none waits. Messages of a round come one from each server, in server order, the own one
-// among them.
+// Close comes at the end, when none waits. The messages of a round are handed in as they arrived, in any order: one of each
+// server, the own one among them as the table gave it. A server twice or missing is refused (Joined).
 //
 // MarshalBinary and UnmarshalBinary carry a table over a restart, all of it in one slice. Store it after each call, together
 // with the message that the call gave and before that message is sent. Use a table from one goroutine at a time. Do not copy a
@@ -58,7 +58,7 @@ func (t *Table) Share(message []byte, pair Pair) ([]byte, error) {
 	return out[:n], nil
 }
 
-// RoundOne takes the round-one messages of all servers for a return and gives the own round-two message.
+// RoundOne takes the round-one messages of all servers for a return, in any order, and gives the own round-two message.
 func (t *Table) RoundOne(id uint32, messages [][]byte) ([]byte, error) {
 	out := make([]byte, roundBytes)
 	n, number := coreRoundOne(t, id, bytes.Join(messages, nil), out)
@@ -68,7 +68,8 @@ func (t *Table) RoundOne(id uint32, messages [][]byte) ([]byte, error) {
 	return out[:n], nil
 }
 
-// RoundTwo takes the round-two messages of all servers for a return and decides it. Its share is erased from the table.
+// RoundTwo takes the round-two messages of all servers for a return, in any order, and decides it. Its share is erased from the
+// table.
 func (t *Table) RoundTwo(id uint32, messages [][]byte) (accepted bool, err error) {
 	verdict, number := coreRoundTwo(t, id, bytes.Join(messages, nil))
 	if number != 0 {

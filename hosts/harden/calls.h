@@ -3,8 +3,8 @@
  *
  * A call fails the run where it touches a byte outside the buffers, changes what it was only lent to read, answers
  * with a refusal that its place in pool.h does not name, changes anything although it is refused, changes a byte past
- * what it says to have written, changes another return in a table than the one that it is on, or leaves anything of a
- * return in the slot and the place of one that it decides.
+ * what it says to have written, changes another return in a table than the one that it is on, leaves anything of a
+ * return in the slot and the place of one that it decides, or takes or refuses the messages of a round wrongly (check_round).
  *
  * Memory outside is watched in one of two ways. GUARDED: a buffer ends right before, or begins right after, a page that
  * can not be touched. HEAP: a buffer is a block of malloc, for valgrind and for the sanitizers' own malloc. The library

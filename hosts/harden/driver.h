@@ -2,7 +2,7 @@
 #ifndef POOL_DRIVER_H
 #define POOL_DRIVER_H
 
-#include "calls.h"
+#include "runs.h"
 
 enum { MOST_RETURNS = 16 };
 
@@ -20,10 +20,6 @@ extern struct pool {
 
 /* Fails the run unless the call was done. */
 void must(uint32_t answer, const char *what);
-
-void copy(struct run *to, const struct run *from);
-void copy_table(struct table *to, const struct table *from);
-void append(struct run *to, const uint8_t *bytes, size_t len);
 
 /* Changes a run, or a part of a table, a little or a lot, or leaves it. */
 void wild(struct run *run);
@@ -81,6 +77,17 @@ int make_with_higher_tops(uint32_t id, size_t room);
 
 /* opening.c: opens the pool's tables. */
 void open_tables(void);
+
+/* orders.c */
+
+/*
+ * A round of a return at server i, whose messages are all there, in server order in `messages`. In every order it has the same
+ * outcome; with a fault it is refused 12.
+ */
+void check_orders(uint32_t i, uint32_t id, int round, const uint8_t *messages);
+
+/* The joined totals messages, given in server order, are refused 12 where one stands in another's place. */
+void check_totals(const struct run *totals);
 
 /* servers.c: plays so many returns, several of them under way; closes the tables and joins the totals. */
 void play_returns(uint32_t count);

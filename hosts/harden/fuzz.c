@@ -7,7 +7,7 @@
 #include <stdlib.h>
 #include <string.h>
 
-#include "calls.h"
+#include "runs.h"
 
 enum { SERVERS = 2, OPERATIONS = 9, ANSWERS = POOL_RUN + 1, RETURNS = 10, IDS = 16, KINDS = 12 };
 
@@ -103,11 +103,24 @@ static void take_share(uint32_t own)
     note(1, kind, answer);
 }
 
+/* Both messages of a round as the input has them arrive: in either order, one twice, with a server byte past S, or one missing. */
+static void arrive(const uint8_t *messages)
+{
+    const uint8_t past[] = {SERVERS, POOL_MAX_SERVERS, 255};
+    uint8_t how = byte();
+    message.len = 0;
+    for (uint32_t k = 0; k < SERVERS; k++)
+        append(&message, messages + ((k ^ how >> k) & 1) * POOL_ROUND_BYTES, POOL_ROUND_BYTES);
+    if (how & 0x0c)
+        message.at[(how >> 4 & 1) * POOL_ROUND_BYTES + SERVER_AT] = past[(how >> 2 & 3) - 1];
+    if (how >> 5 == 7)
+        message.len -= POOL_ROUND_BYTES;
+}
+
 static void take_round(uint32_t own, uint32_t round)
 {
     uint32_t id = byte() % IDS, accepted, kind = kind_of(&tables[own]), answer;
-    message.len = SERVERS * POOL_ROUND_BYTES;
-    memcpy(message.at, rounds[round - 1][id], message.len);
+    arrive(rounds[round - 1][id]);
     alter(&message);
     if (round == 2) {
         answer = call_round_two(&tables[own], 0, id, &message, &accepted);
@@ -211,12 +224,6 @@ static void play(void)
         operate();
 }
 
-static void copy(struct run *to, const struct run *from)
-{
-    to->len = from->len;
-    memcpy(to->at, from->at, from->len);
-}
-
 /* A table of arbitrary bytes, slots and numbers takes every call. */
 static void arbitrary_table(void)
 {
@@ -232,9 +239,7 @@ static void arbitrary_table(void)
     bytes(&t->elements, 4 * POOL_MAX_ELEMENTS);
     t->elements.len -= t->elements.len % 4;
     id = t->slots.len >= SLOT_BYTES ? slot_of(t, 0).id : 0;
-    copy(&u->bytes, &t->bytes);
-    copy(&u->slots, &t->slots);
-    copy(&u->elements, &t->elements);
+    copy_table(u, t);
     note(1, 11, call_share(t, 0, &message, 1000, 5, POOL_ROUND_BYTES, &out));
     note(2, 11, call_round_one(u, 0, id, &message, POOL_ROUND_BYTES, &out));
     note(3, 11, call_round_two(u, 0, id, &message, &accepted));

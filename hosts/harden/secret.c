@@ -72,12 +72,15 @@ static uint32_t shelve(void)
 
 static void say(const char *call) { VALGRIND_PRINTF("secret: %s\n", call); }
 
+/* Where the message of server i goes: round messages may stand in any order, and here it is the reverse one. */
+static size_t place_of(size_t i) { return (SERVERS - 1 - i) * POOL_ROUND_BYTES; }
+
 /* Every server takes its share of a return, whose elements are secret. */
 static uint32_t take_shares(uint32_t id)
 {
     uint32_t refused = 0;
     for (size_t i = 0; i < SERVERS; i++) {
-        uint8_t *message = shares[id] + i * share_len, *out = ones[id] + i * POOL_ROUND_BYTES;
+        uint8_t *message = shares[id] + i * share_len, *out = ones[id] + place_of(i);
         (void)VALGRIND_MAKE_MEM_UNDEFINED(message + 6, share_len - 6);
         refused |= pool_share(TABLE(&tables[i]), message, share_len, 123456789, 987654321, out, POOL_ROUND_BYTES, &written);
         (void)VALGRIND_MAKE_MEM_DEFINED(out, POOL_ROUND_BYTES);
@@ -90,7 +93,7 @@ static uint32_t round_one(uint32_t id)
 {
     uint32_t refused = 0;
     for (size_t i = 0; i < SERVERS; i++) {
-        uint8_t *out = twos[id] + i * POOL_ROUND_BYTES;
+        uint8_t *out = twos[id] + place_of(i);
         refused |= pool_round_one(TABLE(&tables[i]), id, ones[id], sizeof ones[id], out, POOL_ROUND_BYTES, &written);
         (void)VALGRIND_MAKE_MEM_DEFINED(out, POOL_ROUND_BYTES);
         (void)VALGRIND_MAKE_MEM_DEFINED(tables[i].slots, sizeof tables[i].slots);

@@ -24,14 +24,14 @@ static struct run a, b, out, message;
 
 /* Calls gone wild */
 
-/* The share of a return for server i, its messages of a round, or what the other servers could send. */
+/* The share of a return for server i, or its messages of a round in any order: zeros for those that are not yet written. */
 static void message_of(const struct course *c, uint32_t i, int round)
 {
     message.len = 0;
     if (round == 0)
         append(&message, c->shares + i * pool.sizes.share_bytes, pool.sizes.share_bytes);
     else
-        append(&message, round == 1 ? c->ones : c->twos, pool.servers * POOL_ROUND_BYTES);
+        join_shuffled(&message, round == 1 ? c->ones : c->twos, pool.servers);
 }
 
 /*
@@ -56,6 +56,8 @@ static void wild_call(uint32_t i)
     int round = (int)random_below(3);
     message_of(c, i, round);
     copy(&b, &message);
+    if (round > 0 && random_below(3) == 0)
+        spoil(&b, pool.servers, i);
     if (random64() % 2)
         wild(&b);
     switch (random_below(3) ? round : 3 + (int)random_below(2)) {
@@ -165,6 +167,15 @@ static uint8_t least(const struct course *c)
     return stage;
 }
 
+/* Other orders and faults in the messages of a return, where they are all there for the round that it awaits at server i. */
+static void other_orders(uint32_t i)
+{
+    const struct course *c = &courses[random_below(course_count)];
+    uint8_t at = c->at[i];
+    if ((at == AWAITS_ONE || at == AWAITS_TWO) && least(c) >= at)
+        check_orders(i, c->id, at, at == AWAITS_ONE ? c->ones : c->twos);
+}
+
 static void decide(struct course *c, uint32_t i)
 {
     uint32_t accepted = 2;
@@ -202,6 +213,8 @@ static void step(struct course *c, uint32_t i)
         refused_shares(i);
     if (random_below(4) == 0)
         refused_rounds(i);
+    if (random_below(2) == 0)
+        other_orders(i);
 }
 
 /* The first eight returns that are not ended everywhere: no server has more than these. Gives how many there are. */
@@ -269,8 +282,10 @@ void close_and_join(void)
         check_free(&pool.tables[i]);
         wild_call(i);
     }
-    for (int k = 0; k < 4; k++)
+    for (int k = 0; k < 4; k++) {
         wild_join(&joined, room);
+        check_totals(&joined);
+    }
     must(call_join(pool.servers, &pool.sheet, pool.returns, &joined, room, &accepted, &out), "joining");
     if (accepted != pool.accepted || out.len != room)
         fail("the count of accepted returns");

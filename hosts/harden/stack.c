@@ -67,6 +67,9 @@ static void open_tables(void)
     }
 }
 
+/* Where the message of server i goes: round messages may stand in any order, and here it is the reverse one. */
+static size_t place_of(size_t i) { return (SERVERS - 1 - i) * POOL_ROUND_BYTES; }
+
 /* The shares of the return, with the ids from `from` to `to`. The messages of the last one stay. */
 static void take_ids(uint8_t from, uint8_t to)
 {
@@ -74,7 +77,7 @@ static void take_ids(uint8_t from, uint8_t to)
         for (size_t i = 0; i < SERVERS; i++) {
             shares[i * share_bytes + 1] = id;
             refused |= pool_share(TABLE(&tables[i]), shares + i * share_bytes, share_bytes, 123456789, 987654321,
-                                  joined + i * POOL_ROUND_BYTES, POOL_ROUND_BYTES, &written);
+                                  joined + place_of(i), POOL_ROUND_BYTES, &written);
         }
 }
 
@@ -93,7 +96,7 @@ static void round_one(void)
 {
     for (size_t i = 0; i < SERVERS; i++)
         refused |= pool_round_one(TABLE(&tables[i]), POOL_SLOTS, joined, SERVERS * POOL_ROUND_BYTES,
-                                  other + i * POOL_ROUND_BYTES, POOL_ROUND_BYTES, &written);
+                                  other + place_of(i), POOL_ROUND_BYTES, &written);
 }
 
 static void round_two(void)

@@ -2,6 +2,7 @@
 #include <stdbool.h>
 #include <string.h>
 
+#include "runs.h"
 #include "watch.h"
 
 /* Places in the bytes of a table: the layout stands at the head of crates/rules/specs/Table.antt. */
@@ -224,6 +225,7 @@ uint32_t call_round_one(struct table *table, size_t extra, uint32_t id, const st
     struct result_size w = RESULT_SIZE;
     uint32_t answer = pool_round_one(LENT_TABLE(t), id, LENT(j), LENT(o), &w.value);
     answered(answer, MAY(POOL_STAGE) | MAY(POOL_JOINED) | MAY(POOL_ROOM));
+    check_round(table, id, KIND_ONE, joined, answer);
     kept(j);
     take(o, &w, answer, out);
     if (answer == 0) {
@@ -248,6 +250,7 @@ uint32_t call_round_two(struct table *table, size_t extra, uint32_t id, const st
     struct result32 a = RESULT32;
     uint32_t answer = pool_round_two(LENT_TABLE(t), id, LENT(j), &a.value);
     answered(answer, MAY(POOL_STAGE) | MAY(POOL_JOINED));
+    check_round(table, id, KIND_TWO, joined, answer);
     kept(j);
     check32(&a, answer);
     if (answer == 0) {

@@ -14,18 +14,6 @@ void must(uint32_t answer, const char *what)
     }
 }
 
-void copy(struct run *to, const struct run *from)
-{
-    to->len = from->len;
-    memcpy(to->at, from->at, from->len);
-}
-
-void append(struct run *to, const uint8_t *bytes, size_t len)
-{
-    memcpy(to->at + to->len, bytes, len);
-    to->len += len;
-}
-
 static const uint8_t odd_bytes[] = {0,  1,  2,  3,  8,  9,  17, 18, 19,  20, 21,
                                     25, 33, 34, 35, 36, 64, 65, 127, 128, 255};
 
@@ -146,11 +134,4 @@ void wild_table(struct table *table)
         wild(&table->bytes);
         break;
     }
-}
-
-void copy_table(struct table *to, const struct table *from)
-{
-    copy(&to->bytes, &from->bytes);
-    copy(&to->slots, &from->slots);
-    copy(&to->elements, &from->elements);
 }

@@ -13,41 +13,33 @@ type course struct {
 	number uint32
 	id     uint32
 	share  []byte
-	step   step // whose messages it awaits: part, roundOne or roundTwo
-	taken  bool // the own table holds it
-	// What each server sent for the steps, nil where that has not come. An empty message says that its server can not go on.
-	mine, theirs [totals][]byte
+	step   step            // whose messages it awaits: part, roundOne or roundTwo
+	taken  bool            // the own table holds it
+	came   [totals]arrival // of each step
 }
 
-// say sends the peer the own message of a step.
+// say sends the peer the own message of a step, once for each step.
 func (s *server) say(c *course, step step, body []byte) {
-	if body == nil {
-		body = []byte{}
-	}
-	c.mine[step] = body
+	c.came[step].add(s.own, body)
 	s.peer.send(c.number, step, body)
 }
 
-// advance takes a return on as long as the messages of both servers are there. An error means that the servers are apart and
-// must not go on.
+// advance takes a return on as long as the messages of both servers are there. The table gets them in the order in which they
+// came. An error means that the servers are apart and must not go on.
 func (s *server) advance(c *course) error {
 	for {
-		mine, theirs := c.mine[c.step], c.theirs[c.step]
-		if mine == nil || theirs == nil {
+		came := &c.came[c.step]
+		if !came.whole() {
 			return nil
 		}
-		if len(mine) == 0 || len(theirs) == 0 {
+		if came.stops() {
 			return s.abandon(c)
 		}
-		messages := [][]byte{mine, theirs}
-		if s.own == 1 {
-			messages = [][]byte{theirs, mine}
-		}
 		if c.step == roundTwo {
-			return s.decide(c, messages)
+			return s.decide(c, came.messages)
 		}
 		c.step++
-		if err := s.take(c, messages); err != nil {
+		if err := s.take(c, came.messages); err != nil {
 			return err
 		}
 	}

@@ -66,7 +66,7 @@ func (s *server) arrive(share []byte) error {
 	}
 	var first *course
 	for _, c := range s.courses {
-		if c.id == idOf(share) && c.mine[part] == nil && (first == nil || c.number < first.number) {
+		if c.id == idOf(share) && !c.came[part].has(s.own) && (first == nil || c.number < first.number) {
 			first = c
 		}
 	}
@@ -90,11 +90,11 @@ func (s *server) hear(m message) error {
 		time.AfterFunc(s.wait, func() { s.late <- c.number })
 		return nil
 	}
-	c := s.courses[m.number]
-	if c == nil || m.step >= totals || c.theirs[m.step] != nil {
+	c, other := s.courses[m.number], 1-s.own
+	if c == nil || m.step >= totals || c.came[m.step].has(other) {
 		return fmt.Errorf("a message out of turn for return %d", m.number)
 	}
-	c.theirs[m.step] = m.body
+	c.came[m.step].add(other, m.body)
 	return s.advance(c)
 }
 
@@ -123,7 +123,7 @@ func (s *server) end(c *course, how string) {
 	log.Printf("return %d: %s, %d others under way", c.id, how, len(s.courses))
 }
 
-// close closes the table and joins both servers' totals.
+// close closes the table and joins both servers' totals, which stand in server order.
 func (s *server) close(returns uint32) (pool.Totals, error) {
 	mine, err := s.table.Close()
 	if err != nil {

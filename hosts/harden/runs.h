@@ -1,0 +1,30 @@
+/*
+ * runs.h: runs that the driver and the fuzzer hand in: copies, and the joined messages of a round, in any order and with
+ * faults.
+ */
+#ifndef POOL_RUNS_H
+#define POOL_RUNS_H
+
+#include "calls.h"
+
+/* A round message: its kind in byte 0, the id, the server in byte 5, two elements: d and e, or sigma and tau. */
+enum { KIND_ONE = 34, KIND_TWO = 35, SERVER_AT = 5, D_AT = 6, E_AT = 10 };
+
+void copy(struct run *to, const struct run *from);
+void copy_table(struct table *to, const struct table *from);
+void append(struct run *to, const uint8_t *bytes, size_t len);
+
+/* Joins the messages of a round, which stand in server order in `messages`, in a random order. */
+void join_shuffled(struct run *to, const uint8_t *messages, uint32_t servers);
+
+/* Puts a fault into the joined messages of a round, so that server `own` must refuse them with 12. */
+void spoil(struct run *joined, uint32_t servers, uint32_t own);
+
+/*
+ * Checks the answer of a round call, on a table as it was before the call. Where it is not refused 11, it is refused 12 unless
+ * the run has one message of each server, sound and of this kind and id. In round one it is refused 12 only there, or where the
+ * own message has not the d and e of the slot.
+ */
+void check_round(const struct table *was, uint32_t id, uint8_t kind, const struct run *joined, uint32_t answer);
+
+#endif

@@ -41,25 +41,25 @@ rest-left : {T last : Lent} {cs : List CCall} → Linked T cs last → All Leave
 rest-left none = all[]
 rest-left {cs = c ∷ cs} (next t k l) = all∷ (steps c k .rest) (rest-left l)
 
-module _ (servers own : ℕ) (sheet : List ℕ) (returns : ℕ) (log : Log) (s : Serves servers own sheet returns log) where
-  opened-is : log .opened ≡ openedTable document01 servers own sheet returns (log .buffer)
+module _ (servers own : ℕ) (sheet : List ℕ) (returns least : ℕ) (log : Log) (s : Serves servers own sheet returns least log) where
+  opened-is : log .opened ≡ openedTable document01 servers own sheet returns least (log .buffer)
   unfolding unlessRefused
   opened-is = s .opens .table-is ∙ rw (← s .opens .answer-is) refl
 
   by-ledger : tableAnswers document01 (log .opened) (map callOf (log .calls))
-      ≡ ledgerAnswers document01 (openedWith servers own sheet returns) empty (map callOf (log .calls))
+      ≡ ledgerAnswers document01 (openedWith servers own sheet returns least) empty (map callOf (log .calls))
   by-ledger =
       let opens = sym (s .opens .answer-is) in
       let B : Lent = log .buffer in
-      let known = opening document01 servers own sheet returns (length (B .bytes)) (length (B .slots)) (length (B .elements)) opens in
+      let known = opening document01 servers own sheet returns least (length (B .bytes)) (length (B .slots)) (length (B .elements)) opens in
       let many = sheet-limits sheet (known .no-fault) .published-count in
       ap (λ (x : Lent). tableAnswers document01 x (map callOf (log .calls))) opened-is
-      ∙ answers-same document01 document01-facts (openedWith servers own sheet returns) sheet
-      (open-facts document01 document01-facts servers own sheet returns (log .buffer) opens) many
-      (map callOf (log .calls)) _ empty (opened-beside document01 document01-facts servers own sheet returns (log .buffer) opens)
+      ∙ answers-same document01 document01-facts (openedWith servers own sheet returns least) sheet
+      (open-facts document01 document01-facts servers own sheet returns least (log .buffer) opens) many
+      (map callOf (log .calls)) _ empty (opened-beside document01 document01-facts servers own sheet returns least (log .buffer) opens)
       (s .call-bytes)
 
-  pub calls-tell : Tells servers own sheet returns log
+  pub calls-tell : Tells servers own sheet returns least log
   calls-tell = record {
     by-ledger = answers-by-table (s .linked) ∙ by-ledger;
     by-table = answers-by-table (s .linked);

@@ -98,7 +98,7 @@ all-asked T (c ∷ cs) = ap₂ (λ (x : Call) (y : List Call). x ∷ y) (made-as
 
 module _ (𝓟 : Pool document01) where
   abbrev table : ℕ → Lent
-  table i = openedTable document01 (𝓟 .servers) i (𝓟 .sheet) (𝓟 .returns) (𝓟 .buffers i)
+  table i = openedTable document01 (𝓟 .servers) i (𝓟 .sheet) (𝓟 .returns) (𝓟 .least) (𝓟 .buffers i)
 
   abbrev log : ℕ → Log
   log i = record {
@@ -110,7 +110,7 @@ module _ (𝓟 : Pool document01) where
     last = end (table i) (𝓟 .calls i);
   }
 
-  served : (i : ℕ) → i < 𝓟 .servers → Serves (𝓟 .servers) i (𝓟 .sheet) (𝓟 .returns) (log i)
+  served : (i : ℕ) → i < 𝓟 .servers → Serves (𝓟 .servers) i (𝓟 .sheet) (𝓟 .returns) (𝓟 .least) (log i)
   unfolding unlessRefused ifDone
   served i h = record {
     opens = record { answer-is = sym (𝓟 .opens i h); table-is = rw (𝓟 .opens i h) refl; written-is = rw (𝓟 .opens i h) refl };
@@ -124,6 +124,7 @@ module _ (𝓟 : Pool document01) where
     servers = 𝓟 .servers;
     sheet = 𝓟 .sheet;
     returns = 𝓟 .returns;
+    least = 𝓟 .least;
     log = log;
     some-server = 𝓟 .some-server;
     sheet-bytes = 𝓟 .sheet-bytes;
@@ -136,6 +137,7 @@ module _ (𝓟 : Pool document01) where
     servers-are = refl;
     sheet-is = refl;
     returns-are = refl;
+    least-is = refl;
     buffers-are = λ i. refl;
     calls-are = λ i. all-asked (table i) (𝓟 .calls i);
   }

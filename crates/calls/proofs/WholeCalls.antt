@@ -3,7 +3,7 @@
 -- Assumes the promises of the calls.
 use mathlib.Core.Path.{_≡_, refl, sym, ap, _∙_, subst}
 use mathlib.Core.List.{List, map, flatten}
-use Prim.Native.Nat.{ℕ, zero, suc, _+_, _*_, _≤_, _<_}
+use Prim.Native.Nat.{ℕ, _*_, _<_}
 use native.Mathlib.Omega.{arith}
 use lib.ListN.{length, take}
 use Rattle.algebra.specs.Lists.{In, countFrom}
@@ -35,8 +35,8 @@ join-long servers sheet joined =
     ∙ ap (λ (k : ℕ). 4 * k) (length-tabulate _ (publishedIn (columnsOf sheet)))
 
 module _ (𝓢 : Servers) where
-  told : (i : ℕ) → i < 𝓢 .servers → Tells (𝓢 .servers) i (𝓢 .sheet) (𝓢 .returns) (𝓢 .log i)
-  told i h = calls-tell (𝓢 .servers) i (𝓢 .sheet) (𝓢 .returns) (𝓢 .log i) (𝓢 .serves i h)
+  told : (i : ℕ) → i < 𝓢 .servers → Tells (𝓢 .servers) i (𝓢 .sheet) (𝓢 .returns) (𝓢 .least) (𝓢 .log i)
+  told i h = calls-tell (𝓢 .servers) i (𝓢 .sheet) (𝓢 .returns) (𝓢 .least) (𝓢 .log i) (𝓢 .serves i h)
 
   closes : (i : ℕ) → i < 𝓢 .servers → (m : List ℕ) → In m (over closingsIn (𝓢 .log i .calls))
       → (ledgerAt document01 (poolOf 𝓢) i .progress ≡ isClosed)
@@ -104,6 +104,7 @@ module _ (𝓢 : Servers) where
               ∙ ap (λ (x : List ℕ). joinRefusal document01 S (𝓢 .sheet) (𝓢 .returns) x (length out)) joined-are
               ∙ closed .joins (length out);
           count = λ z. number-done f _ accepted accepted' (j .accepted-is) (none z) ∙ ap joinCount joined-are ∙ closed .count;
+          enough = λ z. rw (number-done f _ accepted accepted' (j .accepted-is) (none z), joined-are) (closed .enough);
           totals = λ z. bytes z ∙ ap (bytesOfAll 4) (closed .totals);
           whole = λ k z. bytes z ∙ ap (bytesOfAll 4) (closed .whole k);
         }

@@ -101,20 +101,21 @@ pub record Log : Type 0 where
   pub last : Lent
 
 -- pool_open returned 0, and the calls follow it; what was lent are bytes
-pub record Serves (servers own : ℕ) (sheet : List ℕ) (returns : ℕ) (log : Log) : Type 0 where
-  pub opens : Opens servers own sheet returns (log .buffer) (log .written) 0 (log .opened) (log .written')
+pub record Serves (servers own : ℕ) (sheet : List ℕ) (returns least : ℕ) (log : Log) : Type 0 where
+  pub opens : Opens servers own sheet returns least (log .buffer) (log .written) 0 (log .opened) (log .written')
   pub linked : Linked (log .opened) (log .calls) (log .last)
   pub buffer-bytes : Bytes (log .buffer .bytes)
   pub call-bytes : All BytesIn (map callOf (log .calls))
 
-abbrev pub openedWith : ℕ → ℕ → List ℕ → ℕ → Opened
-openedWith servers own sheet returns = record { servers = servers; own = own; columns = columnsOf sheet; returns = returns }
+abbrev pub openedWith : ℕ → ℕ → List ℕ → ℕ → ℕ → Opened
+openedWith servers own sheet returns least =
+    record { servers = servers; own = own; columns = columnsOf sheet; returns = returns; least = least }
 
 -- CLAIM: what the calls handed back is what the ledger tells of what they asked, and what folding the table tells
-pub record Tells (servers own : ℕ) (sheet : List ℕ) (returns : ℕ) (log : Log) : Type 0 where
+pub record Tells (servers own : ℕ) (sheet : List ℕ) (returns least : ℕ) (log : Log) : Type 0 where
   pub by-ledger : map answerOf (log .calls)
-      ≡ ledgerAnswers document01 (openedWith servers own sheet returns) empty (map callOf (log .calls))
+      ≡ ledgerAnswers document01 (openedWith servers own sheet returns least) empty (map callOf (log .calls))
   pub by-table : map answerOf (log .calls) ≡ tableAnswers document01 (log .opened) (map callOf (log .calls))
-  pub opened-is : log .opened ≡ openedTable document01 servers own sheet returns (log .buffer)
+  pub opened-is : log .opened ≡ openedTable document01 servers own sheet returns least (log .buffer)
   pub last-is : log .last ≡ runTable document01 (log .opened) (map callOf (log .calls))
   pub rest : All LeavesRest (log .calls)

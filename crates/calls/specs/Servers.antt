@@ -4,7 +4,7 @@
 use mathlib.Core.Path.{_≡_, sym}
 use mathlib.Core.Bool.{cond}
 use mathlib.Core.List.{List, [], _∷_, _++_, map}
-use Prim.Native.Nat.{ℕ, _*_, _%_, _<_}
+use Prim.Native.Nat.{ℕ, _*_, _%_, _≤_, _<_}
 use lib.Dec.{eqb, leb}
 use lib.ListN.{length, take}
 use Rattle.algebra.specs.Lists.{In, Distinct, Rearranged, sumOver}
@@ -19,15 +19,17 @@ use Rattle.pool_totals.specs.Calls.{Joins}
 use Rattle.calls.specs.Calls.{CCall, pool-share, pool-round-one, pool-round-two, pool-drop, pool-close, callOf, answerOf}
 use Rattle.calls.specs.Calls.{Log, Serves, Tells}
 
--- "Servers are opened alike when S, sheet and N are the same and their numbers are 0 to S - 1, one each."
+-- "Servers are opened alike when S, sheet and N are the same and their numbers are 0 to S - 1, one each." "Servers opened alike have the
+-- same Q too."
 pub record Servers : Type 0 where
   pub servers : ℕ
   pub sheet : List ℕ
   pub returns : ℕ
+  pub least : ℕ
   pub log : ℕ → Log
   pub some-server : 0 < servers
   pub sheet-bytes : Bytes sheet
-  pub serves : (i : ℕ) → i < servers → Serves servers i sheet returns (log i)
+  pub serves : (i : ℕ) → i < servers → Serves servers i sheet returns least (log i)
 
 -- the joined messages of the round calls that returned 0
 abbrev pub roundsIn : CCall → List (List ℕ)
@@ -56,6 +58,7 @@ module _ (𝓢 : Servers) where
     servers = 𝓢 .servers;
     sheet = 𝓢 .sheet;
     returns = 𝓢 .returns;
+    least = 𝓢 .least;
     buffers = λ i. 𝓢 .log i .buffer;
     calls = λ i. map callOf (𝓢 .log i .calls);
     sheet-bytes = 𝓢 .sheet-bytes;
@@ -83,6 +86,8 @@ module _ (𝓢 : Servers) where
     -- it is refused 14 at most; else their number stands behind `accepted`
     pub number : a ≡ check (leb (4 * publishedIn (columns document01 poolOf)) (length out)) 14
     pub count : a ≡ 0 → accepted' ≡ length ids
+    -- which is Q at least
+    pub enough : a ≡ 0 → 𝓢 .least ≤ accepted'
     -- and the bytes written are, for each published entry, the sum modulo p of the added-up entry over these ids
     pub totals : a ≡ 0 → take written' out'
         ≡ bytesOfAll 4 (map (λ e. sumOver (λ id. addedEntry document01 poolOf id e) ids % document01 .modulus)
@@ -94,7 +99,7 @@ module _ (𝓢 : Servers) where
   -- CLAIM, DEMAND 3: what every list of C calls at S servers comes to
   pub record WholeCalls : Type 0 where
     -- what the calls handed back is what the ledger tells, and the table in the end what its fold tells
-    pub tells : (i : ℕ) → i < 𝓢 .servers → Tells (𝓢 .servers) i (𝓢 .sheet) (𝓢 .returns) (𝓢 .log i)
+    pub tells : (i : ℕ) → i < 𝓢 .servers → Tells (𝓢 .servers) i (𝓢 .sheet) (𝓢 .returns) (𝓢 .least) (𝓢 .log i)
     -- demand 3 of the pool, and its conditions by what the C calls were handed and wrote: the rounds that returned 0 are those
     -- that the rules do not refuse
     pub whole : WholeRun document01 poolOf
@@ -121,5 +126,6 @@ pub record AskedBy (𝓟 : Pool document01) : Type 0 where
   pub servers-are : 𝓢 .servers ≡ 𝓟 .servers
   pub sheet-is : 𝓢 .sheet ≡ 𝓟 .sheet
   pub returns-are : 𝓢 .returns ≡ 𝓟 .returns
+  pub least-is : 𝓢 .least ≡ 𝓟 .least
   pub buffers-are : (i : ℕ) → 𝓢 .log i .buffer ≡ 𝓟 .buffers i
   pub calls-are : (i : ℕ) → map callOf (𝓢 .log i .calls) ≡ 𝓟 .calls i

@@ -1,7 +1,8 @@
--- A close: refused where the table is unsound or closed, a return waits, or the buffer is too short; else the closing message is
--- written and the stage stored. The totals of a table are whole elements, so the bytes of what they say are those that stand
--- there. Assumes that the members of the table are bytes, where it is said.
+-- A close: refused where the table is unsound or closed, a return waits, too few are accepted, or the buffer is too short; else
+-- the closing message is written and the stage stored. The totals of a table are whole elements, so the bytes of what they say are
+-- those that stand there. Assumes that the members of the table are bytes, where it is said.
 use mathlib.Core.Path.{_≡_, refl, sym, ap, _∙_}
+use mathlib.Core.Bool.{true, false}
 use mathlib.Core.List.{List, [], _∷_}
 use Prim.Native.Nat.{ℕ, _+_, _*_, _≤_, _<_}
 use native.Mathlib.Omega.{arith}
@@ -22,7 +23,7 @@ use Rattle.rules.specs.Settings.{document01}
 use Rattle.rules.specs.Columns.{check}
 use Rattle.rules.specs.Server.{whileOpen, closeRefusal, totalsLength, totalsMessage}
 use Rattle.rules.specs.WaitingList.{waitingCount}
-use Rattle.rules.specs.Table.{Lent, openedIn, stageIn, tableState, totalsPlace, closeRefused, closeTable, closeBytes}
+use Rattle.rules.specs.Table.{Lent, acceptedIn, leastIn, openedIn, stageIn, tableState, totalsPlace, closeRefused, closeTable, closeBytes}
 use Rattle.layout.specs.Places.{totalsAt}
 use Rattle.layout.specs.Numbers.{tableOf}
 use Rattle.layout.specs.Writing.{closingBytes, Closable}
@@ -81,7 +82,14 @@ module _ (T : Lent) (out : List ℕ) (written : ℕ) where
     published-is = rw (s .says) (length-same T)
 
     abbrev checks : ℕ → ℕ
-    checks n = orElse (check (eqb n 0) 11) (check (leb (totalsLength document01 (openedIn document01 (T .bytes))) (length out)) 14)
+    checks n =
+        orElse (check (eqb n 0) 11)
+        (orElse (check (leb (leastIn document01 (T .bytes)) (acceptedIn document01 (T .bytes))) 15)
+        (check (leb (totalsLength document01 (openedIn document01 (T .bytes))) (length out)) 14))
+
+    counts-are : (k .least ≡ leastIn document01 (T .bytes)) × (k .accepted ≡ acceptedIn document01 (T .bytes))
+    unfolding tableOf
+    counts-are = rw (s .says) (refl, refl)
 
     refusal-is : closeRefused document01 T (length out) ≡ whileOpen (stageIn document01 T) (λ ws. checks (length ws))
     unfolding closeRefused closeRefusal tableState orElse
@@ -102,10 +110,20 @@ module _ (T : Lent) (out : List ℕ) (written : ℕ) where
       unfolding orElse
       close-waits z = refused 11 (open-is ∙ rw (ne-eqb n 0 z)) (λ z. omega arith)
 
-      module _ (none : n ≡ 0) where
+      pub close-few : n ≡ 0 → k .accepted < k .least → Closes T out written 15 (T .bytes) out written
+      unfolding orElse
+      close-few none few =
+          let less : leb (leastIn document01 (T .bytes)) (acceptedIn document01 (T .bytes)) ≡ false =
+          lt-leb (leastIn document01 (T .bytes)) (acceptedIn document01 (T .bytes)) (omega (arith, counts-are .0, counts-are .1)) in
+          refused 15 (open-is ∙ rw (eq-eqb n 0 none, less)) (λ z. omega arith)
+
+      module _ (none : n ≡ 0) (enough : k .least ≤ k .accepted) where
         room-is : closeRefused document01 T (length out) ≡ check (leb (6 + 4 * k .published) (length out)) 14
         unfolding orElse
-        room-is = open-is ∙ rw (eq-eqb n 0 none, published-is)
+        room-is =
+            let reached : leb (leastIn document01 (T .bytes)) (acceptedIn document01 (T .bytes)) ≡ true =
+            le-leb (leastIn document01 (T .bytes)) (acceptedIn document01 (T .bytes)) (omega (arith, counts-are .0, counts-are .1)) in
+            open-is ∙ rw (eq-eqb n 0 none, reached, published-is)
 
         pub close-narrow : length out < 6 + 4 * k .published → Closes T out written 14 (T .bytes) out written
         close-narrow l = refused 14 (room-is ∙ rw (lt-leb (6 + 4 * k .published) (length out) l)) (λ z. omega arith)

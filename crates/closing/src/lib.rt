@@ -32,7 +32,8 @@ pub fn drop(table: &mut [u8], list: [Slot; 8], numbers: &mut [u32], id: u32) -> 
     }
 }
 
-// Closes a table in which nothing waits: its accepted count and totals go into the closing message, and it takes nothing more.
+// Closes a table in which nothing waits and at least Q returns are accepted: its accepted count and totals go into the closing message,
+// and it takes nothing more.
 pub fn close(
     table: &mut [u8],
     list: [Slot; 8],
@@ -51,6 +52,9 @@ pub fn close(
             }
             if waiting::count(list) != 0 {
                 return 11;
+            }
+            if k.accepted < k.least {
+                return 15;
             }
             let size = 6 + 4 * k.published;
             if out.len() < size {

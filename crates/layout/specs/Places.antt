@@ -2,16 +2,17 @@
 -- the run of numbers. They are rules' places at document 01's setting (proofs/Positions).
 -- Assumes nothing.
 use Prim.Native.Nat.{ℕ, _+_, _*_, _≤_}
+use Rattle.rules.specs.Table.{headerLength}
 use Rattle.limits.specs.Sheets.{sizeOf}
 
 abbrev pub totalsAt : ℕ → ℕ
-totalsAt n = 12 + n
+totalsAt n = headerLength + n
 
 abbrev pub idsAt : ℕ → ℕ → ℕ
-idsAt n published = 12 + n + 4 * published
+idsAt n published = headerLength + n + 4 * published
 
 abbrev pub lengthAt : ℕ → ℕ → ℕ → ℕ
-lengthAt n published returns = 12 + n + 4 * published + 4 * returns
+lengthAt n published returns = headerLength + n + 4 * published + 4 * returns
 
 -- rules' placeSize: the elements of a share, and two numbers more
 abbrev pub placeSizeOf : ℕ → ℕ → ℕ

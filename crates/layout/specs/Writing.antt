@@ -4,15 +4,16 @@ use mathlib.Core.List.{List, [], _∷_, _++_}
 use Prim.Native.Nat.{ℕ, _+_, _*_, _≤_, _<_}
 use lib.ListN.{length}
 use Rattle.words.specs.Bytes.{bytesOf, part, splice}
+use Rattle.rules.specs.Settings.{document01}
 use Rattle.totals_message.specs.Totals.{totalsHeader}
 use Rattle.layout.specs.Places.{totalsAt, idsAt, lengthAt}
 use Rattle.layout.specs.Numbers.{Limited}
 use Rattle.layout.specs.declared.Table.{Table}
 
 -- the header of a fresh table
-unfoldable pub startBytes : ℕ → ℕ → ℕ → ℕ → List ℕ
-startBytes servers own returns n =
-    (2 ∷ 0 ∷ servers ∷ own ∷ []) ++ bytesOf 2 returns ++ bytesOf 2 0 ++ bytesOf 2 0 ++ bytesOf 2 n
+unfoldable pub startBytes : ℕ → ℕ → ℕ → ℕ → ℕ → List ℕ
+startBytes servers own returns least n =
+    (document01 .tableByte ∷ 0 ∷ servers ∷ own ∷ []) ++ bytesOf 2 returns ++ bytesOf 2 0 ++ bytesOf 2 0 ++ bytesOf 2 least ++ bytesOf 2 n
 
 -- a table with the counts and the id of one return more that is decided
 unfoldable pub noted : Table → ℕ → ℕ → List ℕ → List ℕ

@@ -4,7 +4,10 @@ pub mod places;
 pub mod writing;
 
 // The first byte of a table.
-pub const TABLE: u8 = 2;
+pub const TABLE: u8 = 3;
+
+// The bytes before the sheet.
+pub const HEADER: usize = 14;
 
 // The stages of a table.
 pub const OPEN: u8 = 0;
@@ -19,6 +22,7 @@ pub struct Table {
     pub returns: u32,
     pub decided: u32,
     pub accepted: u32,
+    pub least: u32,
     // the bytes of the sheet
     pub sheet: usize,
     pub columns: usize,

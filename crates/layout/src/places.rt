@@ -3,18 +3,20 @@ ghost use mathlib.Core.Path.{_≡_};
 ghost use Prim.Native.Nat.{_+_, _≤_};
 ghost use lib.ListN.{length};
 ghost use Rattle.words.specs.Bytes.{part};
+ghost use Rattle.rules.specs.Table.{headerLength};
 ghost use Rattle.layout.specs.Places.{totalsAt, idsAt, lengthAt, placeSizeOf, Small};
 ghost use Rattle.limits.specs.Sheets.{sizeOf};
 ghost use Rattle.layout.specs.Numbers.{Limited};
+use crate::HEADER;
 use crate::Table;
 
 // The sheet of a table, n bytes long, as that part of the table.
 pub fn sheet_part<'a>(t: &'a [u8], n: usize) -> &'a [u8]
-    requires { ⌜ 12 + n ≤ length (now t) ⌝ }
-    ensures { λ r. ⌜ now r ≡ part 12 n (now (t .entry)) ⌝ }
+    requires { ⌜ headerLength + n ≤ length (now t) ⌝ }
+    ensures { λ r. ⌜ now r ≡ part headerLength n (now (t .entry)) ⌝ }
 {
-    let end = 12 + n;
-    &t[12..end]
+    let end = HEADER + n;
+    &t[HEADER..end]
 }
 
 // The bytes of a table: its header, its sheet, the totals and room for N ids.
@@ -22,7 +24,7 @@ pub fn table_length(n: usize, published: usize, returns: u32) -> usize
     requires { ⌜ Small n published returns ⌝ }
     ensures { λ r. ⌜ r ≡ lengthAt n published returns ⌝ }
 {
-    12 + n + 4 * published + 4 * (returns as usize)
+    HEADER + n + 4 * published + 4 * (returns as usize)
 }
 
 impl Table {
@@ -31,7 +33,7 @@ impl Table {
         requires { ⌜ Limited self ⌝ }
         ensures { λ r. ⌜ r ≡ totalsAt (self .sheet) ⌝ }
     {
-        12 + self.sheet
+        HEADER + self.sheet
     }
 
     // Then the ids decided.

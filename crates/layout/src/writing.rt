@@ -3,6 +3,7 @@ ghost use mathlib.Core.Path.{_≡_};
 ghost use Prim.Native.Nat.{_+_, _≤_};
 ghost use lib.ListN.{length, replicate};
 ghost use Rattle.words.specs.Bytes.{splice};
+ghost use Rattle.rules.specs.Table.{headerLength};
 ghost use Rattle.layout.specs.Writing.{startBytes, noted, Decidable, closingBytes, Closable};
 use crate::OPEN;
 use crate::TABLE;
@@ -21,9 +22,9 @@ pub fn clear(t: &mut [u8], at: usize, n: usize)
 }
 
 // Writes the header of a fresh table with a sheet of n bytes.
-pub fn write_start(t: &mut [u8], servers: u8, own: u8, returns: u32, n: u32)
-    requires { ⌜ 12 ≤ length (now t) ⌝ }
-    ensures { λ _. ⌜ now (t .exit) ≡ splice (now (t .entry)) 0 (startBytes servers own returns n) ⌝ }
+pub fn write_start(t: &mut [u8], servers: u8, own: u8, returns: u32, least: u32, n: u32)
+    requires { ⌜ headerLength ≤ length (now t) ⌝ }
+    ensures { λ _. ⌜ now (t .exit) ≡ splice (now (t .entry)) 0 (startBytes servers own returns least n) ⌝ }
 {
     t[0] = TABLE;
     t[1] = OPEN;
@@ -32,7 +33,8 @@ pub fn write_start(t: &mut [u8], servers: u8, own: u8, returns: u32, n: u32)
     words::write_u16(t, 4, returns);
     words::write_u16(t, 6, 0);
     words::write_u16(t, 8, 0);
-    words::write_u16(t, 10, n);
+    words::write_u16(t, 10, least);
+    words::write_u16(t, 12, n);
 }
 
 // Notes a return among those decided: the counts, and its id.

@@ -1,8 +1,8 @@
-// The limits of document 01 that several calls test: S, N, the elements of a share, the pair r, s. Each contract is an
-// equality with rules, or with specs/, which is rules' by the numbers of code.
+// The limits of document 01 that several calls test: S, N, the elements of a share, the pair r, s; and document 02's least count
+// Q. Each contract is an equality with rules, or with specs/, which is rules' by the numbers of code.
 ghost use mathlib.Core.Path.{_≡_};
 ghost use Prim.Native.Nat.{_≤_};
-ghost use Rattle.rules.specs.Columns.{serversFault};
+ghost use Rattle.rules.specs.Columns.{serversFault, leastFits};
 ghost use Rattle.limits.specs.Sheets.{sizeOf, pairSound};
 
 // S, and the returns that a table decides.
@@ -23,6 +23,16 @@ pub fn servers_refusal(servers: u32) -> u32
         return 2;
     }
     0
+}
+
+// Whether Q is from 1 to N.
+pub fn least_sound(returns: u32, least: u32) -> bool
+    ensures { λ r. ⌜ r ≡ leastFits returns least ⌝ }
+{
+    if least < 1 {
+        return false;
+    }
+    least <= returns
 }
 
 // The elements of a share.

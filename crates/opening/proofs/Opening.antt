@@ -2,7 +2,7 @@
 -- does. What the answer tells is what the writing asks for, and a refusal leaves what is lent.
 -- Assumes nothing.
 use mathlib.Core.Path.{_≡_, refl, sym, _∙_}
-use mathlib.Core.Bool.{true, false, _&&_}
+use mathlib.Core.Bool.{Bool, true, false, _&&_}
 use mathlib.Core.List.{List}
 use Prim.Native.Nat.{ℕ, zero, suc, _+_, _*_, _≤_, _<_}
 use native.Mathlib.Omega.{arith}
@@ -15,7 +15,7 @@ use Rattle.records.specs.Outcome.{orElse}
 use Rattle.records.specs.Answers.{onlyIf, ifDone}
 use Rattle.records.proofs.Outcome.{or-none, or-first, or-zero}
 use Rattle.rules.specs.Settings.{document01}
-use Rattle.rules.specs.Columns.{within, check, sheetFault, columnsOf, returnsFault, totalsFault}
+use Rattle.rules.specs.Columns.{within, check, sheetFault, columnsOf, returnsFit, returnsFault, leastFits, leastFault, totalsFault}
 use Rattle.rules.specs.Judging.{shareSize}
 use Rattle.rules.specs.Server.{openFault}
 use Rattle.rules.specs.WaitingList.{runSize}
@@ -80,9 +80,9 @@ module _ (s : List ℕ) (returns : ℕ) where
       within-both 1 1024 returns (check-passed (within 1 1024 returns) 1 (z .0)) .1
 
 -- ---- the refusals in their order
-module _ (servers own : ℕ) (s : List ℕ) (returns bytes records numbers : ℕ) where
+module _ (servers own : ℕ) (s : List ℕ) (returns least bytes records numbers : ℕ) where
   abbrev refusal : ℕ
-  refusal = openRefusal document01 servers own s returns bytes records numbers
+  refusal = openRefusal document01 servers own s returns least bytes records numbers
 
   abbrev pub openAnswer : Room
   openAnswer = roomBy refusal (sizeFor s returns)
@@ -105,22 +105,39 @@ module _ (servers own : ℕ) (s : List ℕ) (returns bytes records numbers : ℕ
 
   module _ (some : 2 ≤ servers) (few : servers ≤ 8) (one : own < servers) where
     placed : refusal
-        ≡ orElse (orElse (sheetFault s) (returnsOrTotals s returns)) (check (openRoom document01 s returns bytes records numbers) 14)
+        ≡ orElse
+        (orElse (sheetFault s)
+        (orElse (returnsFault returns) (orElse (leastFault returns least) (totalsFault document01 returns (columnsOf s)))))
+        (check (openRoom document01 s returns bytes records numbers) 14)
     unfolding openRefusal openFault orElse
     placed = rw (within-is 2 8 servers some few, lt-ltb own servers one)
 
     pub sheet-refused : (n : ℕ) → sheetFault s ≡ n → (n ≡ 0 → ⊥) → room.Refused n ≡ openAnswer
-    sheet-refused n e z = refused-by n (rw (placed, e, or-first n (returnsOrTotals s returns) z) (or-first n _ z)) z
+    sheet-refused n e z = refused-by n (rw (placed, e, or-first n _ z) (or-first n _ z)) z
 
-    -- of a sheet that is read; x is what the check of N says
-    module _ (read : sheetFault s ≡ 0) (x : ℕ) (e : x ≡ returnsOrTotals s returns) where
+    -- of a sheet that is read: Q out of its range is refused 2, as an N out of its limits is
+    pub least-refused : sheetFault s ≡ 0 → leastFits returns least ≡ false → room.Refused 2 ≡ openAnswer
+    unfolding orElse
+    least-refused read f = refused-by 2 (rw (placed, read, f) (go (returnsFit returns))) (λ z. omega arith)
+      where
+        go : (b : Bool)
+            → orElse (orElse (check b 2) 2) (check (openRoom document01 s returns bytes records numbers) 14) ≡ 2
+        go true = refl
+        go false = refl
+
+    -- where Q is within it; x is what the check of N says
+    module _ (read : sheetFault s ≡ 0) (within-range : leastFits returns least ≡ true) (x : ℕ) (e : x ≡ returnsOrTotals s returns) where
+      checked : refusal ≡ orElse x (check (openRoom document01 s returns bytes records numbers) 14)
+      unfolding orElse
+      checked = rw (placed, read, within-range, e) refl
+
       pub returns-refused : (x ≡ 0 → ⊥) → room.Refused x ≡ openAnswer
-      returns-refused z = refused-by x (rw (placed, read, or-none, ← e) (or-first x _ z)) z
+      returns-refused z = refused-by x (checked ∙ or-first x _ z) z
 
       module _ (fits : x ≡ 0) where
         room-decides : refusal ≡ check (roomFor (sizeFor s returns) bytes records numbers) 14
         unfolding roomFor openRoom
-        room-decides = rw (placed, read, or-none, ← e, fits) (or-none _)
+        room-decides = checked ∙ rw fits (or-none _)
 
         pub room-short : roomFor (sizeFor s returns) bytes records numbers ≡ false → room.Refused 14 ≡ openAnswer
         room-short f = refused-by 14 (room-decides ∙ rw f) (λ z. omega arith)
@@ -147,12 +164,12 @@ room-refused (suc r) n m e =
     (q, λ z. omega arith)
 
 -- ---- the call, where the check has answered x
-module _ (servers own : ℕ) (s : List ℕ) (returns : ℕ) (T : List ℕ) (records : ℕ) (E : List ℕ) (written : ℕ) (x : Room)
-    (says : x ≡ openAnswer servers own s returns (length T) records (length E)) where
+module _ (servers own : ℕ) (s : List ℕ) (returns least : ℕ) (T : List ℕ) (records : ℕ) (E : List ℕ) (written : ℕ) (x : Room)
+    (says : x ≡ openAnswer servers own s returns least (length T) records (length E)) where
   abbrev refused : ℕ
-  refused = refusalOf servers own s returns T records E
+  refused = refusalOf servers own s returns least T records E
 
-  pub open-refused : (m : ℕ) → x ≡ room.Refused m → Opens servers own s returns T records E written m T E written
+  pub open-refused : (m : ℕ) → x ≡ room.Refused m → Opens servers own s returns least T records E written m T E written
   unfolding onlyIf ifDone
   open-refused m e =
       let r = room-refused refused _ m (sym says ∙ e) in
@@ -168,10 +185,10 @@ module _ (servers own : ℕ) (s : List ℕ) (returns : ℕ) (T : List ℕ) (reco
     none-refused : (refused ≡ 0) × (m ≡ sizeFor s returns)
     none-refused = room-for refused _ m (sym says ∙ e)
 
-    known-open : Opening document01 servers own s returns (length T) records (length E)
-    known-open = opening document01 servers own s returns (length T) records (length E) (none-refused .0)
+    known-open : Opening document01 servers own s returns least (length T) records (length E)
+    known-open = opening document01 servers own s returns least (length T) records (length E) (none-refused .0)
 
-    pub open-done : Opens servers own s returns T records E written 0 (splice T 0 (freshBytes servers own s returns (m .bytes)))
+    pub open-done : Opens servers own s returns least T records E written 0 (splice T 0 (freshBytes servers own s returns least (m .bytes)))
         (splice E 0 (replicate (m .numbers) 0)) (m .bytes)
     unfolding onlyIf ifDone
     open-done =
@@ -179,7 +196,7 @@ module _ (servers own : ℕ) (s : List ℕ) (returns : ℕ) (T : List ℕ) (reco
         rw (d .1)
         (record {
           answer-is = sym (d .0);
-          table-is = rw (d .0, open-bytes servers own s returns);
+          table-is = rw (d .0, open-bytes servers own s returns least);
           numbers-are = rw (d .0);
           written-is = rw (d .0);
         })

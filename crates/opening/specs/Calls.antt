@@ -13,12 +13,12 @@ use Rattle.rules.specs.WaitingList.{runSize}
 use Rattle.rules.specs.Table.{openRefusal, openLength, openBytes}
 
 -- opening a table in the bytes T, so many records and the numbers E
-module _ (servers own : ℕ) (sheet : List ℕ) (returns : ℕ) (T : List ℕ) (records : ℕ) (E : List ℕ) where
+module _ (servers own : ℕ) (sheet : List ℕ) (returns least : ℕ) (T : List ℕ) (records : ℕ) (E : List ℕ) where
   abbrev pub refusalOf : ℕ
-  refusalOf = openRefusal document01 servers own sheet returns (length T) records (length E)
+  refusalOf = openRefusal document01 servers own sheet returns least (length T) records (length E)
 
   pub record Opens (written r : ℕ) (T' E' : List ℕ) (written' : ℕ) : Type 0 where
     pub answer-is : r ≡ refusalOf
-    pub table-is : T' ≡ onlyIf refusalOf (splice T 0 (openBytes document01 servers own sheet returns)) T
+    pub table-is : T' ≡ onlyIf refusalOf (splice T 0 (openBytes document01 servers own sheet returns least)) T
     pub numbers-are : E' ≡ onlyIf refusalOf (splice E 0 (replicate (runSize (columnsOf sheet)) 0)) E
     pub written-is : written' ≡ ifDone refusalOf (openLength document01 sheet returns) written

@@ -8,7 +8,7 @@ use lib.ListN.{length, replicate}
 use Rattle.rules.specs.Settings.{document01}
 use Rattle.rules.specs.Columns.{columnsOf}
 use Rattle.rules.specs.WaitingList.{runSize}
-use Rattle.rules.specs.Table.{openLength}
+use Rattle.rules.specs.Table.{headerLength, openLength}
 use Rattle.layout.specs.Writing.{startBytes}
 use Rattle.opening.specs.declared.Size.{Size}
 use Rattle.opening.specs.declared.Room.{Room}
@@ -27,12 +27,12 @@ unfoldable pub roomFor : Size → ℕ → ℕ → ℕ → Bool
 roomFor size room records numbers = leb (size .bytes) room && (eqb records 8 && leb (size .numbers) numbers)
 
 -- the header, the sheet, and zeros up to the table's length
-unfoldable pub freshBytes : ℕ → ℕ → List ℕ → ℕ → ℕ → List ℕ
-freshBytes servers own sheet returns size =
-    startBytes servers own returns (length sheet) ++ sheet ++ replicate (size - (12 + length sheet)) 0
+unfoldable pub freshBytes : ℕ → ℕ → List ℕ → ℕ → ℕ → ℕ → List ℕ
+freshBytes servers own sheet returns least size =
+    startBytes servers own returns least (length sheet) ++ sheet ++ replicate (size - (headerLength + length sheet)) 0
 
 -- a table of so many bytes holds header and sheet, and lies within its buffer
 pub record Roomy (sheet : List ℕ) (size : ℕ) (T : List ℕ) : Type 0 where
   pub sheet-most : length sheet ≤ 426
-  pub sheet-fits : 12 + length sheet ≤ size
+  pub sheet-fits : headerLength + length sheet ≤ size
   pub within : size ≤ length T

@@ -6,9 +6,11 @@ ghost use Rattle.rules.specs.Settings.{document01};
 ghost use Rattle.rules.specs.Table.{openRefusal};
 ghost use Rattle.opening.specs.Calls.{Opens};
 ghost use Rattle.opening.specs.Fresh.{sizeFor, roomBy, roomFor, freshBytes, Roomy};
+use layout::HEADER;
 use layout::places::table_length;
 use layout::writing::clear;
 use layout::writing::write_start;
+use limits::least_sound;
 use limits::share_size;
 use sheet::Reading;
 use sheet::returns::returns_refusal;
@@ -39,17 +41,19 @@ fn has_room(size: Size, room: usize, records: usize, numbers: usize) -> bool
     size.numbers <= numbers
 }
 
-// The room that opening takes, where so many bytes, records and numbers are lent.
+// The room that opening takes, where so many bytes, records and numbers are lent. Q is tested before N: both are refused 2, and
+// 4 comes behind both.
 fn open_checked(
     servers: u32,
     own: u32,
     sheet: &[u8],
     returns: u32,
+    least: u32,
     room: usize,
     records: usize,
     numbers: usize,
 ) -> Room
-    ensures { λ r. ⌜ r ≡ roomBy (openRefusal document01 servers own (now (sheet .entry)) returns room records numbers)
+    ensures { λ r. ⌜ r ≡ roomBy (openRefusal document01 servers own (now (sheet .entry)) returns least room records numbers)
         (sizeFor (now (sheet .entry)) returns) ⌝ }
 {
     if servers < limits::MIN_SERVERS {
@@ -64,6 +68,9 @@ fn open_checked(
     match sheet::read(sheet) {
         Reading::Refused(fault) => Room::Refused(fault),
         Reading::Counts(counts) => {
+            if !least_sound(returns, least) {
+                return Room::Refused(2);
+            }
             let fault = returns_refusal(sheet, returns);
             if fault != 0 {
                 return Room::Refused(fault);
@@ -82,13 +89,22 @@ fn open_checked(
 }
 
 // Writes a fresh table of so many bytes.
-fn write_fresh(table: &mut [u8], servers: u8, own: u8, sheet: &[u8], returns: u32, size: usize)
+fn write_fresh(
+    table: &mut [u8],
+    servers: u8,
+    own: u8,
+    sheet: &[u8],
+    returns: u32,
+    least: u32,
+    size: usize,
+)
     requires { ⌜ Roomy (now sheet) size (now table) ⌝ }
-    ensures { λ _. ⌜ now (table .exit) ≡ splice (now (table .entry)) 0 (freshBytes servers own (now (sheet .entry)) returns size) ⌝ }
+    ensures { λ _. ⌜ now (table .exit)
+        ≡ splice (now (table .entry)) 0 (freshBytes servers own (now (sheet .entry)) returns least size) ⌝ }
 {
-    let end = 12 + sheet.len();
-    write_start(table, servers, own, returns, sheet.len() as u32);
-    words::copy(table, 12, sheet);
+    let end = HEADER + sheet.len();
+    write_start(table, servers, own, returns, least, sheet.len() as u32);
+    words::copy(table, HEADER, sheet);
     clear(table, end, size - end);
 }
 
@@ -98,12 +114,13 @@ pub fn open(
     own: u32,
     sheet: &[u8],
     returns: u32,
+    least: u32,
     table: &mut [u8],
     records: usize,
     numbers: &mut [u32],
     written: &mut usize,
 ) -> u32
-    ensures { λ r. ⌜ Opens servers own (now (sheet .entry)) returns (now (table .entry)) records (now (numbers .entry))
+    ensures { λ r. ⌜ Opens servers own (now (sheet .entry)) returns least (now (table .entry)) records (now (numbers .entry))
         (now (written .entry)) r (now (table .exit)) (now (numbers .exit)) (now (written .exit)) ⌝ }
 {
     match open_checked(
@@ -111,13 +128,22 @@ pub fn open(
         own,
         sheet,
         returns,
+        least,
         table.len(),
         records,
         numbers.len(),
     ) {
         Room::Refused(fault) => fault,
         Room::For(size) => {
-            write_fresh(table, servers as u8, own as u8, sheet, returns, size.bytes);
+            write_fresh(
+                table,
+                servers as u8,
+                own as u8,
+                sheet,
+                returns,
+                least,
+                size.bytes,
+            );
             erase(numbers, 0, size.numbers);
             *written = size.bytes;
             0

@@ -168,21 +168,21 @@ closes ys {t} {es} {out} {w} {a} {t'} {out'} {w'} h =
     whole false = refl
 
 -- ---- opening: the call clears bytes and numbers, and the records are cleared where it is not refused
-module _ {servers own : ℕ} {sheet : List ℕ} {returns : ℕ} {t : List ℕ} {es : List ℕ} {w a : ℕ} {t' es' : List ℕ} {w' : ℕ} where
-  pub opens-eight : (ys : List Slot) → Opens servers own sheet returns t (length ys) es w a t' es' w' → a ≡ 0 → length ys ≡ 8
+module _ {servers own : ℕ} {sheet : List ℕ} {returns least : ℕ} {t : List ℕ} {es : List ℕ} {w a : ℕ} {t' es' : List ℕ} {w' : ℕ} where
+  pub opens-eight : (ys : List Slot) → Opens servers own sheet returns least t (length ys) es w a t' es' w' → a ≡ 0 → length ys ≡ 8
   unfolding openRoom
   opens-eight ys h z =
-      let known = opening document01 servers own sheet returns (length t) (length ys) (length es) (sym (h .answer-is) ∙ z) in
+      let known = opening document01 servers own sheet returns least (length t) (length ys) (length es) (sym (h .answer-is) ∙ z) in
       let long : Bool = leb (openLength document01 sheet returns) (length t) in
       let eight : Bool = eqb (length ys) 8 in
       let run : Bool = leb (runSize (columnsOf sheet)) (length es) in
       eqb-true (length ys) 8 (and-left eight run (and-right long (eight && run) (known .enough)))
 
-  pub opens : (ys : List Slot) {ys' : List Slot} → Opens servers own sheet returns t (length ys) es w a t' es' w' → ys' ≡ cleared ys a
-      → promise.Opens servers own sheet returns (lent t ys es) w a (lent t' ys' es') w'
+  pub opens : (ys : List Slot) {ys' : List Slot} → Opens servers own sheet returns least t (length ys) es w a t' es' w' → ys' ≡ cleared ys a
+      → promise.Opens servers own sheet returns least (lent t ys es) w a (lent t' ys' es') w'
   unfolding onlyIf ifDone unlessRefused cleared
   opens ys {ys'} h e =
-      let f : ℕ = refusalOf servers own sheet returns t (length ys) es in
+      let f : ℕ = refusalOf servers own sheet returns least t (length ys) es in
       record {
         answer-is = h .answer-is;
         table-is =
@@ -191,8 +191,8 @@ module _ {servers own : ℕ} {sheet : List ℕ} {returns : ℕ} {t : List ℕ} {
       }
     where
       whole : (b : Bool)
-          → lent (cond b (splice t 0 (openBytes document01 servers own sheet returns)) t) (cond b (replicate 8 freeSlot) ys)
+          → lent (cond b (splice t 0 (openBytes document01 servers own sheet returns least)) t) (cond b (replicate 8 freeSlot) ys)
           (cond b (splice es 0 (replicate (runSize (columnsOf sheet)) 0)) es)
-          ≡ cond b (openedTable document01 servers own sheet returns (lent t ys es)) (lent t ys es)
+          ≡ cond b (openedTable document01 servers own sheet returns least (lent t ys es)) (lent t ys es)
       whole true = refl
       whole false = refl

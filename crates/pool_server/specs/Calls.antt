@@ -22,10 +22,11 @@ abbrev pub Leaves : ℕ → Lent → Lent → Lent → Type 0
 Leaves refusal new T T' = T' ≡ unlessRefused refusal new T
 
 -- pool_open: the table is what is lent
-pub record Opens (servers own : ℕ) (sheet : List ℕ) (returns : ℕ) (T : Lent) (written a : ℕ) (T' : Lent) (written' : ℕ) : Type 0 where
-  pub answer-is : a ≡ opensIn document01 servers own sheet returns T
-  pub table-is : Leaves (opensIn document01 servers own sheet returns T) (openedTable document01 servers own sheet returns T) T T'
-  pub written-is : written' ≡ ifDone (opensIn document01 servers own sheet returns T) (openLength document01 sheet returns) written
+pub record Opens (servers own : ℕ) (sheet : List ℕ) (returns least : ℕ) (T : Lent) (written a : ℕ) (T' : Lent) (written' : ℕ) : Type 0 where
+  pub answer-is : a ≡ opensIn document01 servers own sheet returns least T
+  pub table-is :
+      Leaves (opensIn document01 servers own sheet returns least T) (openedTable document01 servers own sheet returns least T) T T'
+  pub written-is : written' ≡ ifDone (opensIn document01 servers own sheet returns least T) (openLength document01 sheet returns) written
 
 -- pool_share
 abbrev pub TakesShare : Lent → List ℕ → ℕ → ℕ → List ℕ → ℕ → ℕ → Lent → List ℕ → ℕ → Type 0

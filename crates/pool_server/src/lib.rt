@@ -13,12 +13,13 @@ pub extern "C" fn pool_open(
     own: u32,
     sheet: &[u8],
     returns: u32,
+    least: u32,
     table: &mut [u8],
     slots: &mut [Slot],
     elements: &mut [u32],
     written: &mut usize,
 ) -> u32
-    ensures { λ a. ⌜ Opens servers own (now (sheet .entry)) returns
+    ensures { λ a. ⌜ Opens servers own (now (sheet .entry)) returns least
         (lent (now (table .entry)) (now (slots .entry)) (now (elements .entry))) (now (written .entry))
         a (lent (now (table .exit)) (now (slots .exit)) (now (elements .exit))) (now (written .exit)) ⌝ }
 {
@@ -28,6 +29,7 @@ pub extern "C" fn pool_open(
         own,
         sheet,
         returns,
+        least,
         table,
         records,
         elements,

@@ -55,7 +55,8 @@ fn own_kept(m: &[u8], own: u8, mine: &[u8]) -> bool
     words::equal(m, mine)
 }
 
-// Whether the 14 bytes from 14 times the place on are a message that is missing there, the own one unaltered.
+// Whether the 14 bytes from 14 times the place on are a sound message of a server that no place before names, and the own message
+// where they name the own server.
 fn place_sound(
     joined: &[u8],
     servers: u8,
@@ -79,7 +80,7 @@ fn place_sound(
     own_kept(&joined[start..end], own, mine)
 }
 
-// Whether each place is.
+// Whether each place holds one.
 fn all_sound(joined: &[u8], servers: u8, kind: u8, id: u32, own: u8, mine: &[u8]) -> bool
     requires { ⌜ Whole servers (now joined) ⌝ }
     ensures { λ r. ⌜ r ≡ allSound servers kind id own (now (mine .entry)) (now (joined .entry)) ⌝ }

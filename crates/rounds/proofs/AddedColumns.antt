@@ -18,7 +18,7 @@ use Rattle.rules.specs.Columns.{Column, yesNo, entriesOf, publishedOf, entriesI
 use Rattle.rules.specs.Server.{publishedShares}
 use Rattle.rules.specs.Judging.{shareSize}
 use Rattle.rules.specs.WaitingList.{placeOf, waitingAt}
-use Rattle.rules.specs.Table.{Lent, sheetIn, columnsIn, columnsAt, openedIn, totalsIn, totalsPlace, addedTotals, addedBytes}
+use Rattle.rules.specs.Table.{headerLength, Lent, sheetIn, columnsIn, columnsAt, openedIn, totalsIn, totalsPlace, addedTotals, addedBytes}
 use Rattle.rules.proofs.Circuits.Limits.{limits, published-few-of}
 use Rattle.rules.proofs.Histories.ClosingBytes.{getD-map}
 use Rattle.columns.specs.Kinds.{bytesOfKind}
@@ -78,22 +78,22 @@ module _ (T : List ℕ) (k : Table) (xs : List ℕ) (v : Adds T k xs) (t : List 
   run-fits = omega (arith, v .long, a .few)
 
   -- the sheet, as the code cuts it out
-  sheet-cut : part 12 (k .sheet) t ≡ sheetIn document01 T
+  sheet-cut : part headerLength (k .sheet) t ≡ sheetIn document01 T
   sheet-cut =
       let run = bytesOfAll 4 (tabulate (totalWith T xs) (c .published)) in
-      ap (λ (l : List ℕ). part 12 (k .sheet) l) (a .filled)
-      ∙ part-before T start run (omega (arith, run-fits, length-run (totalWith T xs) (c .published))) 12 (k .sheet) (omega arith)
-      ∙ ap (λ n. part 12 n T) (says T k (v .headed .says) .sheet-is)
+      ap (λ (l : List ℕ). part headerLength (k .sheet) l) (a .filled)
+      ∙ part-before T start run (omega (arith, run-fits, length-run (totalWith T xs) (c .published))) headerLength (k .sheet) (omega arith)
+      ∙ ap (λ n. part headerLength n T) (says T k (v .headed .says) .sheet-is)
 
   module _ (h : c .at < k .sheet) where
     stands-here : Stands (sheetIn document01 T) c
     stands-here =
         stands-by-place (sheetIn document01 T) c (sheet-reads T k xs v) (a .walks) (omega (arith, sheet-long T k xs v))
 
-    pub added-stands : Stands (part 12 (k .sheet) t) c
+    pub added-stands : Stands (part headerLength (k .sheet) t) c
     added-stands = rw sheet-cut stands-here
 
-    module _ (step : Step) (e : step ≡ stepAt (part 12 (k .sheet) t) (c .index)) where
+    module _ (step : Step) (e : step ≡ stepAt (part headerLength (k .sheet) t) (c .index)) where
       abbrev column : Column
       column = getD (columnsIn document01 T) (c .index) yesNo
 
@@ -190,7 +190,7 @@ module _ (T : List ℕ) (k : Table) (xs : List ℕ) (v : Adds T k xs) (t : List 
       let p : c .published ≡ publishedIn (columnsIn document01 T)
       = ap (λ (u : Cursor). u .published) (walk-done S c r (a .walks) (omega (arith, end))) in
       a .filled
-      ∙ ap₂ (λ n j. splice T (12 + n) (bytesOfAll 4 (tabulate (totalWith T xs) j))) (says T k (v .headed .says) .sheet-is) p
+      ∙ ap₂ (λ n j. splice T (headerLength + n) (bytesOfAll 4 (tabulate (totalWith T xs) j))) (says T k (v .headed .says) .sheet-is) p
 
 -- ---- of the return that waits under an id it is rules' table
 pub added-is : (T : Lent) (id j : ℕ) → j ≡ placeOf id (T .slots)

@@ -15,7 +15,7 @@ use Rattle.field.specs.Residues.{prime}
 use Rattle.field.proofs.Below.{member-below}
 use Rattle.rules.specs.Settings.{document01}
 use Rattle.rules.specs.Columns.{readSheet, entriesIn, publishedIn}
-use Rattle.rules.specs.Table.{sheetSize, sheetIn, columnsIn, totalsIn, totalsPlace}
+use Rattle.rules.specs.Table.{headerLength, sheetSize, sheetIn, columnsIn, totalsIn, totalsPlace}
 use Rattle.rules.proofs.Circuits.Refusals.{sheet-read}
 use Rattle.steps.proofs.Parts.{part-of-part}
 use Rattle.layout.specs.Places.{totalsAt}
@@ -48,7 +48,7 @@ module _ (t : List ℕ) (k : Table) (xs : List ℕ) (v : Adds t k xs) where
   total-word j h =
       let n = says t k (v .headed .says) in
       rw (n .sheet-is)
-      (word-of t (12 + sheetSize document01 t) (publishedIn (columnsIn document01 t)) j
+      (word-of t (headerLength + sheetSize document01 t) (publishedIn (columnsIn document01 t)) j
       (omega (arith, n .sheet-is, n .published-is, v .long)) (omega (arith, n .published-is)))
 
   -- its totals are elements, and its sheet is read
@@ -61,4 +61,4 @@ module _ (t : List ℕ) (k : Table) (xs : List ℕ) (v : Adds t k xs) where
   pub sheet-long : length (sheetIn document01 t) ≡ k .sheet
   sheet-long =
       let n = says t k (v .headed .says) in
-      length-part 12 (sheetSize document01 t) t (omega (arith, n .sheet-is, v .long)) ∙ sym (n .sheet-is)
+      length-part headerLength (sheetSize document01 t) t (omega (arith, n .sheet-is, v .long)) ∙ sym (n .sheet-is)

@@ -4,6 +4,9 @@ pub mod Agreement
 pub mod Verdicts
 pub mod FewReturns
 pub mod SameIds
+pub mod Refusing
+pub mod WithinLimits
+pub mod Enough
 pub mod JoinedTotals
 pub mod WholeTotals
 pub mod SoundShare
@@ -11,8 +14,6 @@ pub mod Holding
 pub mod Handled
 pub mod OneReturn
 pub mod Mixed
-pub mod Refusing
-pub mod WithinLimits
 pub mod WholeRuns
 pub mod Delivered
 pub mod EncodedTotals

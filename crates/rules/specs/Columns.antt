@@ -164,5 +164,12 @@ ownFault servers own = check (ltb own servers) 2
 abbrev pub returnsFault : ℕ → ℕ
 returnsFault n = check (returnsFit n) 2
 
+-- "a least count Q, 1 to N .. A Q outside its range is refused 2"
+abbrev pub leastFits : ℕ → ℕ → Bool
+leastFits returns least = within 1 returns least
+
+abbrev pub leastFault : ℕ → ℕ → ℕ
+leastFault returns least = check (leastFits returns least) 2
+
 abbrev pub totalsFault : Setting → ℕ → List Column → ℕ
 totalsFault σ n cs = check (totalsFit σ n cs) 4

@@ -65,9 +65,9 @@ wholeFalse = 2 ∷ 2 ∷ 3 ∷ 6 ∷ 0 ∷ 2147483645 ∷ 5 ∷ 7 ∷ 35 ∷ []
 abbrev pub cheat : ℕ → ℕ → ℕ
 cheat i e = shareOf (modulo P) 2 (λ k. getD wholeFalse k 0) (λ j k. getD random (4 + k) 0) i e
 
--- the table that server i of two opens for a sheet and N
+-- the table that server i of two opens for a sheet and N, with Q = 1
 abbrev pub opened : ℕ → List ℕ → ℕ → Lent
-opened i sheet returns = openedTable σ 2 i sheet returns (record { bytes = []; slots = []; elements = [] })
+opened i sheet returns = openedTable σ 2 i sheet returns 1 (record { bytes = []; slots = []; elements = [] })
 
 -- what a fresh table of server 0, opened for a sheet 17, says to a sound share with the challenges r and s
 abbrev toShare : ℕ → ℕ → ℕ
@@ -75,9 +75,9 @@ toShare r s =
     shareRefused σ (opened 0 (17 ∷ []) 10)
     (shareMessage σ 77 0 (madeShare σ yesSheet 2 (1 ∷ []) random 0)) r s 14
 
--- opening for two servers, with room enough
+-- opening for two servers, with Q = 1 and room enough
 abbrev pub toOpen : List ℕ → ℕ → ℕ
-toOpen sheet returns = openRefusal σ 2 0 sheet returns 100000 8 10000
+toOpen sheet returns = openRefusal σ 2 0 sheet returns 1 100000 8 10000
 
 unfoldable pub marked : List Row
 marked =
@@ -165,10 +165,10 @@ unmarked =
     ∷ row "s = 0 is allowed" (eqb (toShare 2 0) 0)
     ∷ row "s = p refused 9" (eqb (toShare 2 P) 9)
     ∷ row "r = 2^32 + 4 refused 9" (eqb (toShare 4294967300 9) 9)
-    ∷ row "1 or 9 servers: 2" (eqb (openRefusal σ 1 0 (17 ∷ []) 10 1000 8 1000) 2 && eqb (openRefusal σ 9 0 (17 ∷ []) 10 1000 8 1000) 2)
-    ∷ row "258 servers: 2" (eqb (openRefusal σ 258 0 (17 ∷ []) 10 1000 8 1000) 2)
-    ∷ row "own number S: 2" (eqb (openRefusal σ 2 2 (17 ∷ []) 10 1000 8 1000) 2)
-    ∷ row "S before the sheet" (eqb (openRefusal σ 9 0 (99 ∷ []) 10 1000 8 1000) 2)
+    ∷ row "1 or 9 servers: 2" (eqb (openRefusal σ 1 0 (17 ∷ []) 10 1 1000 8 1000) 2 && eqb (openRefusal σ 9 0 (17 ∷ []) 10 1 1000 8 1000) 2)
+    ∷ row "258 servers: 2" (eqb (openRefusal σ 258 0 (17 ∷ []) 10 1 1000 8 1000) 2)
+    ∷ row "own number S: 2" (eqb (openRefusal σ 2 2 (17 ∷ []) 10 1 1000 8 1000) 2)
+    ∷ row "S before the sheet" (eqb (openRefusal σ 9 0 (99 ∷ []) 10 1 1000 8 1000) 2)
     ∷ row "N = 0 and 1025: 2" (eqb (toOpen (17 ∷ []) 0) 2 && eqb (toOpen (17 ∷ []) 1025) 2)
     ∷ row "N = 1 and 1024 open" (eqb (toOpen (17 ∷ []) 1) 0 && eqb (toOpen (17 ∷ []) 1024) 0)
     ∷ row "joining: 4 before 12" (eqb (joinRefusal σ 2 (19 ∷ 24 ∷ []) 129 [] 100) 4)

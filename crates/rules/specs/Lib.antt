@@ -2,8 +2,8 @@
 -- messages, one server, its waiting list and its table, joining, recount; the ledger of whole runs, joined messages in any
 -- order, calls on several returns mixed, and what is promised of whole runs and of returns that making wrote; the examples.
 -- (Making names the size of a share from Judging; Keyed has lists whose members have an id.) Of document 02: columns with a top
--- stand among the others, and returns that wait in the rules of a server; behind the values every legal return of a small
--- sheet; behind recount room told from the sheet, and messages stored by place.
+-- stand among the others, and returns that wait and the least count in the rules of a server; behind the values every legal
+-- return of a small sheet; behind recount room told from the sheet, and messages stored by place.
 pub mod Settings
 pub mod Columns
 pub mod Circuit
@@ -36,3 +36,4 @@ pub mod SoundExamples
 pub mod TableExamples
 pub mod WaitingExamples
 pub mod OrderExamples
+pub mod LeastExamples

@@ -1,5 +1,5 @@
--- Document 01, "Judging" and "Who can cause which refusal", and document 02, eight returns waiting: the rules of one server, as
--- functions of what it knows. A table says what a server knows (Table), and so does the ledger (Ledger).
+-- Document 01, "Judging" and "Who can cause which refusal", and document 02, eight returns waiting and small pools stay shut: the
+-- rules of one server, as functions of what it knows. A table says what a server knows (Table), and so does the ledger (Ledger).
 -- Assumes nothing.
 use mathlib.Core.Bool.{Bool, false, not, _||_}
 use mathlib.Core.List.{List, [], _∷_, _++_, map}
@@ -12,18 +12,19 @@ use Rattle.words.specs.Bytes.{bytesOf, bytesOfAll}
 use Rattle.records.specs.Outcome.{orElse}
 use Rattle.rules.specs.Settings.{Setting}
 use Rattle.rules.specs.Columns.{Column, check, publishedIn, publishedFrom, columnsOf, sheetFault}
-use Rattle.rules.specs.Columns.{serversFault, ownFault, returnsFault, totalsFault}
+use Rattle.rules.specs.Columns.{serversFault, ownFault, returnsFault, leastFault, totalsFault}
 use Rattle.rules.specs.Judging.{firstOnly, aOf, bOf, cOf, hAt, dOf, eOf, sigmaFrom, tauOf, allowedPair}
 use Rattle.rules.specs.Messages.{idIn, headerFault, elementsFault, roundMessage, roundLength, roundFault}
 use Rattle.rules.specs.Messages.{firstSum, secondSum}
 use Rattle.rules.specs.Keyed.{find}
 
--- "A server's table opens with S, its own number, a sheet and N."
+-- "A server's table opens with S, its own number, a sheet and N." "A table now opens with a least count Q."
 pub record Opened : Type 0 where
   pub servers : ℕ
   pub own : ℕ
   pub columns : List Column
   pub returns : ℕ
+  pub least : ℕ
 
 -- A return that waits: its id, its pair, in the first wait d_i and e_i, in the second the sums d and e; r × h_i(r), tau_i
 -- and the elements of the share
@@ -74,14 +75,15 @@ unfoldable pub isMember : ℕ → List ℕ → Bool
 isMember x [] = false
 isMember x (y ∷ ys) = eqb y x || isMember x ys
 
--- Opening: "S and own number, sheet, N, 4, 14". The 14, which asks for room for the table's three parts, is in
--- `Table.openRefusal`
-unfoldable pub openFault : Setting → ℕ → ℕ → List ℕ → ℕ → ℕ
-openFault σ servers own sheet returns =
+-- Opening: "S and own number, sheet, N, 4, 14"; Q is "checked after N". The 14, which asks for room for the table's three parts, is
+-- in `Table.openRefusal`
+unfoldable pub openFault : Setting → ℕ → ℕ → List ℕ → ℕ → ℕ → ℕ
+openFault σ servers own sheet returns least =
     orElse (serversFault servers)
     (orElse (ownFault servers own)
     (orElse (sheetFault sheet)
-    (orElse (returnsFault returns) (totalsFault σ returns (columnsOf sheet)))))
+    (orElse (returnsFault returns)
+    (orElse (leastFault returns least) (totalsFault σ returns (columnsOf sheet))))))
 
 module _ (σ : Setting) (o : Opened) where
   -- what server `own` works out from a share that it takes
@@ -183,8 +185,10 @@ twoRefusal σ k id joined =
 unfoldable pub dropRefusal : ServerState → ℕ → ℕ
 dropRefusal k id = whileOpen (k .stage) (λ ws. whileWaiting (find heldId id ws))
 
--- "Close: 11, 14." ".. or a close while any waits is refused 11."
+-- "Close: 11, 14." ".. or a close while any waits is refused 11." "Closing with fewer than Q accepted gives no totals .. too few
+-- accepted is refused 15, between 11 and 14."
 unfoldable pub closeRefusal : Setting → ServerState → ℕ → ℕ
 closeRefusal σ k room =
     whileOpen (k .stage)
-    (λ ws. orElse (check (eqb (length ws) 0) 11) (check (leb (totalsLength σ (k .opened)) room) 14))
+    (λ ws. orElse (check (eqb (length ws) 0) 11)
+    (orElse (check (leb (k .opened .least) (k .accepted)) 15) (check (leb (totalsLength σ (k .opened)) room) 14)))

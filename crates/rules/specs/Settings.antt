@@ -17,7 +17,7 @@ pub record Setting : Type 0 where
 
 -- "p = 2147483647. An element is a whole number from 0 to p - 1. Elements travel as 4 bytes."
 abbrev pub document01 : Setting
-document01 = record { modulus = 2147483647; width = 4; circuitLimit = 17920; totalsByte = 36; tableByte = 2 }
+document01 = record { modulus = 2147483647; width = 4; circuitLimit = 17920; totalsByte = 36; tableByte = 3 }
 
 -- What the theorems assume of a setting
 pub record Facts (σ : Setting) : Type 0 where

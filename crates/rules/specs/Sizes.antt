@@ -85,12 +85,13 @@ pub record ToldFromSheet (σ : Setting) (sheet : List ℕ) : Type 0 where
   -- each share message has so many bytes
   pub share-bytes-are : (id server : ℕ) (xs : List ℕ) → length xs ≡ shareSize (columnsOf sheet)
       → length (shareMessage σ id server xs) ≡ sizesOf σ sheet .shareBytes
-  -- N opens exactly from 1 to the greatest, which is at most 1,024, where S, the own number and the room are in order
+  -- N opens exactly from 1 to the greatest, which is at most 1,024, with Q from 1 to N, where S, the own number and the room are in
+  -- order
   pub greatest-most : sizesOf σ sheet .greatestReturns ≤ mostReturns
-  pub greatest-opens : (servers own returns room records numbers : ℕ) → serversFault servers ≡ 0 → ownFault servers own ≡ 0
+  pub greatest-opens : (servers own returns least room records numbers : ℕ) → serversFault servers ≡ 0 → ownFault servers own ≡ 0
       → openRoom σ sheet returns room records numbers ≡ true
-      → (openRefusal σ servers own sheet returns room records numbers ≡ 0)
-      ↔ ((1 ≤ returns) × (returns ≤ sizesOf σ sheet .greatestReturns))
+      → (openRefusal σ servers own sheet returns least room records numbers ≡ 0)
+      ↔ ((1 ≤ least) × (least ≤ returns) × (returns ≤ sizesOf σ sheet .greatestReturns))
 
 abbrev pub RoomTold : Setting → Type 0
 RoomTold σ = (sheet : List ℕ) → sheetFault sheet ≡ 0 → ToldFromSheet σ sheet

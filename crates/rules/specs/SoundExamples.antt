@@ -1,5 +1,6 @@
--- Document 01, "Who can cause which refusal", and document 02, eight returns waiting: the tables within the limits and those past
--- them, by rows that compute, each limit on both sides. TableExamples and WaitingExamples have the calls on tables.
+-- Document 01, "Who can cause which refusal", and document 02, eight returns waiting and small pools stay shut: the tables within
+-- the limits and those past them, by rows that compute, each limit on both sides. TableExamples and WaitingExamples have the
+-- calls on tables.
 -- Assumes nothing.
 use mathlib.Core.Bool.{Bool, _&&_, _||_, not}
 use mathlib.Core.List.{List, [], _∷_, _++_}
@@ -13,7 +14,7 @@ use Rattle.slots.specs.Slots.{freeSlot}
 use Rattle.rules.specs.Table.{Lent, tableSound, dropTable}
 use Rattle.rules.specs.Examples.{Row, row, P, σ, opened}
 
--- the table that server i of two opens for sheet 17 and N = 2: 25 bytes, eight records, 11 numbers for each
+-- the table that server i of two opens for sheet 17 and N = 2, with Q = 1: 27 bytes, eight records, 11 numbers for each
 abbrev pub fresh : ℕ → Lent
 fresh i = opened i (17 ∷ []) 2
 
@@ -71,10 +72,10 @@ twice = withSlots (fresh 0) (waitsAt 1 ∷ waitsAt 2 ∷ replicate 6 freeSlot)
 unfoldable pub limits : List Row
 limits =
     row "a fresh table" (sound (fresh 0))
-    ∷ row "25 bytes, and more; not 24, nor 11, nor none"
-    (eqb (length (fresh 0 .bytes)) 25
-    && (sound (withBytes (fresh 0) (fresh 0 .bytes ++ (7 ∷ []))) && not (sound (sized 24) || (sound (sized 11) || sound (sized 0)))))
-    ∷ row "the table byte is 2, not 1 or 3" (not (sound (changed 0 1) || sound (changed 0 3)))
+    ∷ row "27 bytes, and more; not 26, nor 13, nor none"
+    (eqb (length (fresh 0 .bytes)) 27
+    && (sound (withBytes (fresh 0) (fresh 0 .bytes ++ (7 ∷ []))) && not (sound (sized 26) || (sound (sized 13) || sound (sized 0)))))
+    ∷ row "the table byte is 3, not 2 or 4" (not (sound (changed 0 2) || sound (changed 0 4)))
     ∷ row "closed" (sound (changed 1 1))
     ∷ row "no third stage" (not (sound (changed 1 2)))
     ∷ row "8 servers" (sound (changed 2 8))
@@ -85,15 +86,17 @@ limits =
     ∷ row "N = 1,024" (sound (opened 0 (17 ∷ []) 1024))
     ∷ row "not N = 0" (not (sound (opened 0 (17 ∷ []) 0)))
     ∷ row "not N = 1,025" (not (sound (opened 0 (17 ∷ []) 1025)))
-    ∷ row "no sheet with a fault" (not (sound (changed 12 20)))
+    ∷ row "Q = 1, and Q = N" (sound (changed 10 1) && sound (changed 10 2))
+    ∷ row "not Q = 0, nor N + 1, nor 256 more" (not (sound (changed 10 0) || (sound (changed 10 3) || sound (changed 11 1))))
+    ∷ row "no sheet with a fault" (not (sound (changed 14 20)))
     ∷ row "no empty sheet" (not (sound (opened 0 [] 2)))
     ∷ row "b = 24: N = 128" (sound (opened 0 (19 ∷ 24 ∷ []) 128))
     ∷ row "b = 24: not N = 129" (not (sound (opened 0 (19 ∷ 24 ∷ []) 129)))
     ∷ row "N decided, all accepted" (sound (counted 2 2 (fresh 0)))
     ∷ row "not over N decided" (not (sound (counted 3 0 (fresh 0))))
     ∷ row "not more accepted than decided" (not (sound (counted 1 2 (fresh 0))))
-    ∷ row "a total p - 1" (sound (withBytes (fresh 0) (splice (fresh 0 .bytes) 13 (bytesOf 4 (P - 1)))))
-    ∷ row "no total p" (not (sound (withBytes (fresh 0) (splice (fresh 0 .bytes) 13 (bytesOf 4 P)))))
+    ∷ row "a total p - 1" (sound (withBytes (fresh 0) (splice (fresh 0 .bytes) 15 (bytesOf 4 (P - 1)))))
+    ∷ row "no total p" (not (sound (withBytes (fresh 0) (splice (fresh 0 .bytes) 15 (bytesOf 4 P)))))
     ∷ row "eight records, not seven or nine"
     (eqb (length (fresh 0 .slots)) 8
     && not (sound (withSlots (fresh 0) (replicate 7 freeSlot)) || sound (withSlots (fresh 0) (replicate 9 freeSlot))))
@@ -111,7 +114,8 @@ limits =
     ∷ row "r, s, d or e p - 1" (every (λ k. sound (fieldAt k (P - 1))) (countFrom 0 4))
     ∷ row "none of r, s, d and e p" (every (λ k. not (sound (fieldAt k P))) (countFrom 0 4))
     ∷ row "an element, r h(r) and tau p - 1" (sound (numberAt 0 (P - 1)) && (sound (numberAt 9 (P - 1)) && sound (numberAt 10 (P - 1))))
-    ∷ row "no element, r h(r) or tau p" (not (sound (numberAt 0 P) || (sound (numberAt 8 P) || (sound (numberAt 9 P) || sound (numberAt 10 P)))))
+    ∷ row "no element, r h(r) or tau p"
+    (not (sound (numberAt 0 P) || (sound (numberAt 8 P) || (sound (numberAt 9 P) || sound (numberAt 10 P)))))
     ∷ row "an id may wait twice" (sound twice)
     ∷ row "then the first record counts"
     (eqb (getD (dropTable σ twice 0 .slots) 0 freeSlot .stage) 0 && eqb (getD (dropTable σ twice 0 .slots) 1 freeSlot .stage) 2)

@@ -2,15 +2,16 @@
 -- a table within the limits is, and for each call the refusal, the table after it and the bytes written.
 --
 --   place          bytes   holds
---   0              1       the table byte of the setting: 2 in document 01's
+--   0              1       the table byte of the setting: 3 in document 01's
 --   1              1       stage: 0 open, 1 closed
 --   2              1       S
 --   3              1       the server's own number
 --   4              2       N
 --   6              2       returns decided
 --   8              2       returns accepted
---   10             2       n, the length of the sheet
---   12             n       the sheet
+--   10             2       Q
+--   12             2       n, the length of the sheet
+--   14             n       the sheet
 --   then           w P     the totals of the P published entries, w bytes each
 --   then           4 N     the ids decided, in the order in which they were
 --
@@ -22,7 +23,8 @@
 -- id and, where it is accepted, what its share adds to the totals.
 -- A longer slice of bytes or of numbers holds a table too; what lies past the table is never read and never written. No fault
 -- in a table that is lent: other bytes in the room for further ids; which ids were decided; d, e, r × h(r) and tau that the
--- share does not give; totals that no accepted returns give; returns that wait in a closed table, which every call refuses 11.
+-- share does not give; totals that no accepted returns give; in a closed table, which every call refuses 11, returns that wait or
+-- fewer than Q accepted.
 -- Assumes nothing.
 use mathlib.Core.Bool.{Bool, true, false, cond, _&&_}
 use mathlib.Core.List.{List, [], _∷_, _++_}
@@ -36,7 +38,7 @@ use Rattle.records.specs.Outcome.{orElse}
 use Rattle.slots.specs.declared.Slot.{Slot}
 use Rattle.slots.specs.Slots.{freeSlot}
 use Rattle.rules.specs.Settings.{Setting}
-use Rattle.rules.specs.Columns.{Column, check, serversFit, returnsFit, publishedIn, sheetFault, columnsOf, totalsFit}
+use Rattle.rules.specs.Columns.{Column, check, serversFit, returnsFit, leastFits, publishedIn, sheetFault, columnsOf, totalsFit}
 use Rattle.rules.specs.Messages.{idIn, shareElements, bothZero}
 use Rattle.rules.specs.Server.{Opened, Waiting, Stage, takes, closed, ServerState, mostWaiting, openFault, waitingOf}
 use Rattle.rules.specs.Server.{messageOne, messageTwo, summed, publishedShares, totalsMessage}
@@ -57,16 +59,20 @@ stageOpen = 0
 abbrev pub stageClosed : ℕ
 stageClosed = 1
 
+-- the bytes before the sheet
+abbrev pub headerLength : ℕ
+headerLength = 14
+
 -- places that depend on the length n of the sheet, its columns and N
 module _ (σ : Setting) (n : ℕ) (cs : List Column) (returns : ℕ) where
   unfoldable pub totalsPlace : ℕ
-  totalsPlace = 12 + n
+  totalsPlace = headerLength + n
 
   unfoldable pub idsPlace : ℕ
-  idsPlace = 12 + n + σ .width * publishedIn cs
+  idsPlace = headerLength + n + σ .width * publishedIn cs
 
   unfoldable pub tableLength : ℕ
-  tableLength = 12 + n + σ .width * publishedIn cs + 4 * returns
+  tableLength = headerLength + n + σ .width * publishedIn cs + 4 * returns
 
 -- What the bytes of a table say
 module _ (σ : Setting) (T : List ℕ) where
@@ -88,11 +94,14 @@ module _ (σ : Setting) (T : List ℕ) where
   abbrev pub acceptedIn : ℕ
   acceptedIn = valueOf (part 8 2 T)
 
+  abbrev pub leastIn : ℕ
+  leastIn = valueOf (part 10 2 T)
+
   abbrev pub sheetSize : ℕ
-  sheetSize = valueOf (part 10 2 T)
+  sheetSize = valueOf (part 12 2 T)
 
   abbrev pub sheetIn : List ℕ
-  sheetIn = part 12 sheetSize T
+  sheetIn = part headerLength sheetSize T
 
   abbrev pub columnsIn : List Column
   columnsIn = columnsOf sheetIn
@@ -108,18 +117,19 @@ module _ (σ : Setting) (T : List ℕ) where
   unusedIn = part (idsPlace σ sheetSize columnsIn returnsIn + 4 * decidedIn) (4 * (returnsIn - decidedIn)) T
 
   abbrev pub openedIn : Opened
-  openedIn = record { servers = serversIn; own = ownIn; columns = columnsIn; returns = returnsIn }
+  openedIn = record { servers = serversIn; own = ownIn; columns = columnsIn; returns = returnsIn; least = leastIn }
 
   -- "11: a table whose length, stage, counts, sheet, numbers or elements break the limits above"
   unfoldable pub headerSound : Bool
   headerSound =
-      leb 12 (length T)
+      leb headerLength (length T)
       && (eqb (getD T 0 0) (σ .tableByte)
       && (leb stageByte stageClosed
       && (serversFit serversIn
       && (ltb ownIn serversIn
       && (returnsFit returnsIn
-      && (leb (12 + sheetSize) (length T) && eqb (sheetFault sheetIn) 0))))))
+      && (leastFits returnsIn leastIn
+      && (leb (headerLength + sheetSize) (length T) && eqb (sheetFault sheetIn) 0)))))))
 
   -- by the number of returns that wait
   unfoldable pub countsSound : ℕ → Bool
@@ -167,25 +177,26 @@ unfoldable pub openRoom : Setting → List ℕ → ℕ → ℕ → ℕ → ℕ �
 openRoom σ sheet returns room records numbers =
     leb (openLength σ sheet returns) room && (eqb records mostWaiting && leb (runSize (columnsOf sheet)) numbers)
 
-unfoldable pub openRefusal : Setting → ℕ → ℕ → List ℕ → ℕ → ℕ → ℕ → ℕ → ℕ
-openRefusal σ servers own sheet returns room records numbers =
-    orElse (openFault σ servers own sheet returns) (check (openRoom σ sheet returns room records numbers) 14)
+unfoldable pub openRefusal : Setting → ℕ → ℕ → List ℕ → ℕ → ℕ → ℕ → ℕ → ℕ → ℕ
+openRefusal σ servers own sheet returns least room records numbers =
+    orElse (openFault σ servers own sheet returns least) (check (openRoom σ sheet returns room records numbers) 14)
 
 -- the bytes, which are written from the buffer's start
-unfoldable pub openBytes : Setting → ℕ → ℕ → List ℕ → ℕ → List ℕ
-openBytes σ servers own sheet returns =
+unfoldable pub openBytes : Setting → ℕ → ℕ → List ℕ → ℕ → ℕ → List ℕ
+openBytes σ servers own sheet returns least =
     (σ .tableByte ∷ stageOpen ∷ servers ∷ own ∷ [])
     ++ bytesOf 2 returns
     ++ bytesOf 2 0
     ++ bytesOf 2 0
+    ++ bytesOf 2 least
     ++ bytesOf 2 (length sheet)
     ++ sheet
-    ++ replicate (openLength σ sheet returns - (12 + length sheet)) 0
+    ++ replicate (openLength σ sheet returns - (headerLength + length sheet)) 0
 
 -- the table that opening leaves in what it is lent
-abbrev pub openedTable : Setting → ℕ → ℕ → List ℕ → ℕ → Lent → Lent
-openedTable σ servers own sheet returns B = record {
-  bytes = splice (B .bytes) 0 (openBytes σ servers own sheet returns);
+abbrev pub openedTable : Setting → ℕ → ℕ → List ℕ → ℕ → ℕ → Lent → Lent
+openedTable σ servers own sheet returns least B = record {
+  bytes = splice (B .bytes) 0 (openBytes σ servers own sheet returns least);
   slots = freeList;
   elements = splice (B .elements) 0 (replicate (runSize (columnsOf sheet)) 0);
 }

@@ -1,6 +1,7 @@
 -- Document 01, "Judging", "Whole runs" and "Who can cause which refusal": calls on a server's table by rows that compute: on the
 -- tables of two servers, the orders of refusals, and what is kept of a return. SoundExamples has the tables within the limits,
--- WaitingExamples the rows about several returns that wait, OrderExamples those about joined messages in any order.
+-- WaitingExamples the rows about several returns that wait, OrderExamples those about joined messages in any order, LeastExamples
+-- those about the least count.
 -- Assumes nothing.
 use mathlib.Core.Bool.{Bool, _&&_, _||_, not}
 use mathlib.Core.List.{List, [], _∷_, _++_}
@@ -11,7 +12,8 @@ use Rattle.algebra.specs.Lists.{every, tabulate}
 use Rattle.words.specs.Bytes.{bytesOf, bytesOfAll, splice}
 use Rattle.slots.specs.declared.Slot.{Slot}
 use Rattle.rules.specs.Making.{shareMessage, makeRefusal}
-use Rattle.rules.specs.Table.{Lent, unusedIn, openRefusal, shareRefused, shareTable, shareBytes, oneRefused, oneTable}
+use Rattle.rules.specs.Table.{Lent, acceptedIn, totalsIn, unusedIn, openRefusal, shareRefused, shareTable, shareBytes}
+use Rattle.rules.specs.Table.{oneRefused, oneTable}
 use Rattle.rules.specs.Table.{oneBytes, twoRefused, twoVerdict, twoTable, dropRefused, dropTable, closeRefused, closeTable}
 use Rattle.rules.specs.Table.{closeBytes}
 use Rattle.rules.specs.Joining.{joinRefusal, joinCount, joinTotals}
@@ -81,7 +83,7 @@ onTables =
     ∷ row "the total is 1" (same (joinTotals σ 2 (17 ∷ []) joinedTotals) (1 ∷ []))
     ∷ row "an accepted id used again: 10" (eqb (shareRefused σ (first 0) shareOf77 4 9 14) 10)
     ∷ row "a dropped id used again: 10" (eqb (shareRefused σ (afterDrop 0) shareOf77 4 9 14) 10)
-    ∷ row "a dropped return is not added" (same (closeBytes σ (afterDrop 0)) (36 ∷ 0 ∷ 0 ∷ 0 ∷ 0 ∷ 0 ∷ 0 ∷ 0 ∷ 0 ∷ 0 ∷ []))
+    ∷ row "a dropped return is not added" (same (totalsIn σ (afterDrop 0 .bytes)) (0 ∷ []) && eqb (acceptedIn σ (afterDrop 0 .bytes)) 0)
     ∷ row "own round message altered: 12" (eqb (oneRefused σ (waiting 0) 77 (set messages 6 255) 14) 12)
     ∷ row "another's sound message is not compared" (eqb (oneRefused σ (waiting 0) 77 (set messages 20 7) 14) 0)
     ∷ row "messages of another id: 12" (eqb (oneRefused σ (waiting 0) 77 (ones fresh honest 78 4) 14) 12)
@@ -101,7 +103,7 @@ onTables =
     ∷ row "closed: a close is 11" (eqb (closeRefused σ (closeTable σ (first 0)) 100) 11)
     ∷ row "a share for another server: 7" (eqb (shareRefused σ (fresh 1) shareOf77 4 9 14) 7)
     ∷ row "an element that is p: 8" (eqb (shareRefused σ (fresh 0) (take 6 shareOf77 ++ bytesOfAll 4 (P ∷ replicate 8 0)) 4 9 14) 8)
-    ∷ row "a table cut by a byte: 11" (eqb (closeRefused σ (sized 24) 100) 11)
+    ∷ row "a table cut by a byte: 11" (eqb (closeRefused σ (sized 26) 100) 11)
     ∷ row "totals counts unequal: 12" (eqb (joinRefusal σ 2 (17 ∷ []) 2 (set joinedTotals 2 0) 4) 12)
     ∷ row "totals counts over N: 12" (eqb (joinRefusal σ 2 (17 ∷ []) 2 (set (set joinedTotals 2 3) 12 3) 4) 12)
     ∷ row "totals in another server order: 12" (eqb (joinRefusal σ 2 (17 ∷ []) 2 (closeBytes σ (second 1) ++ closeBytes σ (second 0)) 4) 12)
@@ -152,26 +154,28 @@ otherOrders =
     ∷ row "making: 6, no random element" (eqb (makeRefusal σ (17 ∷ []) 2 yesBytes [] 83) 6)
     ∷ row "making: 14, room for 83 bytes" (eqb (makeRefusal σ (17 ∷ []) 2 yesBytes (bytesOfAll 4 random) 83) 14)
     ∷ row "made" (eqb (makeRefusal σ (17 ∷ []) 2 yesBytes (bytesOfAll 4 random) 84) 0)
-    -- "Opening: S and own number, sheet, N, 4, 14."
-    ∷ row "opening: S" (eqb (openRefusal σ 9 9 wrongSheet 1025 529 7 647) 2)
-    ∷ row "opening: own number" (eqb (openRefusal σ 2 2 wrongSheet 1025 529 7 647) 2)
-    ∷ row "opening: the sheet" (eqb (openRefusal σ 2 1 wrongSheet 1025 529 7 647) 1)
-    ∷ row "opening: N" (eqb (openRefusal σ 2 1 sheet24 1025 529 7 647) 2)
-    ∷ row "opening: 4" (eqb (openRefusal σ 2 1 sheet24 129 529 7 647) 4)
-    ∷ row "opening: 14, room for 529 bytes" (eqb (openRefusal σ 2 1 sheet24 128 529 8 648) 14)
+    -- "Opening: S and own number, sheet, N, 4, 14", Q after N
+    ∷ row "opening: S" (eqb (openRefusal σ 9 9 wrongSheet 1025 0 531 7 647) 2)
+    ∷ row "opening: own number" (eqb (openRefusal σ 2 2 wrongSheet 1025 0 531 7 647) 2)
+    ∷ row "opening: the sheet" (eqb (openRefusal σ 2 1 wrongSheet 1025 0 531 7 647) 1)
+    ∷ row "opening: N" (eqb (openRefusal σ 2 1 sheet24 1025 0 531 7 647) 2)
+    ∷ row "opening: Q" (eqb (openRefusal σ 2 1 sheet24 129 0 531 7 647) 2)
+    ∷ row "opening: 4" (eqb (openRefusal σ 2 1 sheet24 129 1 531 7 647) 4)
+    ∷ row "opening: 14, room for 531 bytes" (eqb (openRefusal σ 2 1 sheet24 128 1 531 8 648) 14)
     ∷ row "opening: 14, seven records, or nine"
-    (eqb (openRefusal σ 2 1 sheet24 128 530 7 648) 14 && eqb (openRefusal σ 2 1 sheet24 128 530 9 648) 14)
-    ∷ row "opening: 14, 647 numbers" (eqb (openRefusal σ 2 1 sheet24 128 530 8 647) 14)
-    ∷ row "opened" (eqb (openRefusal σ 2 1 sheet24 128 530 8 648) 0)
-    -- "Round one: 11, 12, 14." "Round two, which writes no message: 11, 12." "Close: 11, 14."
+    (eqb (openRefusal σ 2 1 sheet24 128 1 532 7 648) 14 && eqb (openRefusal σ 2 1 sheet24 128 1 532 9 648) 14)
+    ∷ row "opening: 14, 647 numbers" (eqb (openRefusal σ 2 1 sheet24 128 1 532 8 647) 14)
+    ∷ row "opened" (eqb (openRefusal σ 2 1 sheet24 128 1 532 8 648) 0)
+    -- "Round one: 11, 12, 14." "Round two, which writes no message: 11, 12." "Close: 11, 14", 15 between
     ∷ row "round one: 11, nothing waits" (eqb (oneRefused σ (fresh 0) 77 broken 13) 11)
     ∷ row "round one: 12" (eqb (oneRefused σ (waiting 0) 77 broken 13) 12)
     ∷ row "round one: 14, room for 13 bytes" (eqb (oneRefused σ (waiting 0) 77 messages 13) 14)
     ∷ row "round two: 11, awaits round one" (eqb (twoRefused σ (waiting 0) 77 broken) 11)
     ∷ row "round two: 12" (eqb (twoRefused σ (summedUp fresh honest 77 4 0) 77 broken) 12)
     ∷ row "close: 11, a return waits" (eqb (closeRefused σ (waiting 0) 9) 11)
-    ∷ row "close: 14, room for 9 bytes" (eqb (closeRefused σ (fresh 0) 9) 14)
-    ∷ row "close: taken" (eqb (closeRefused σ (fresh 0) 10) 0)
+    ∷ row "close: 15, none accepted" (eqb (closeRefused σ (fresh 0) 9) 15)
+    ∷ row "close: 14, room for 9 bytes" (eqb (closeRefused σ (first 0) 9) 14)
+    ∷ row "close: taken" (eqb (closeRefused σ (first 0) 10) 0)
     -- "Joining: S, sheet, N, 4, 12, 14."
     ∷ row "joining: S" (eqb (joinRefusal σ 9 wrongSheet 1025 broken 3) 2)
     ∷ row "joining: the sheet" (eqb (joinRefusal σ 2 wrongSheet 1025 broken 3) 1)

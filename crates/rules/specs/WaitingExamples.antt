@@ -120,5 +120,6 @@ eight =
     ∷ row "a close while the eighth waits: 11" (eqb (closeRefused σ (manyWait 9 8 0) 100) 11)
     ∷ row "a close while one of eight records waits: 11"
     (eqb (closeRefused σ (dropTable σ (dropTable σ (manyWait 9 3 0) 1) 2) 100) 11)
-    ∷ row "with none waiting it closes" (eqb (closeRefused σ (dropTable σ (dropTable σ (manyWait 9 2 0) 1) 2) 10) 0)
+    ∷ row "with none waiting and one accepted it closes" (eqb (closeRefused σ (decidedBoth 0) 10) 0)
+    ∷ row "with none waiting and none accepted: 15" (eqb (closeRefused σ (dropTable σ (dropTable σ (manyWait 9 2 0) 1) 2) 10) 15)
     ∷ []

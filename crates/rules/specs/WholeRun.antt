@@ -17,13 +17,13 @@ use Rattle.rules.specs.Run.{Valid}
 use Rattle.rules.specs.Values.{legalValues}
 use Rattle.rules.specs.Judging.{shareSize, addedUp, letsIn, allowedPair}
 use Rattle.rules.specs.Making.{madeShare, randomCount, shareMessage}
-use Rattle.rules.specs.Messages.{roundLength, oneByOne, placeIn, serverAt}
-use Rattle.rules.specs.Server.{Opened, Waiting, Wait, mostWaiting, waitingOf, messageOne, messageTwo, summed}
+use Rattle.rules.specs.Messages.{kindIn, roundLength, oneByOne, placeIn, serverAt}
+use Rattle.rules.specs.Server.{Opened, Waiting, Wait, mostWaiting, waitingOf, messageOne, messageTwo, summed, totalsLength}
 use Rattle.slots.specs.Slots.{freeSlot}
 use Rattle.rules.specs.WaitingList.{isFree, placeSize, numbersAt, waitsIn}
 use Rattle.rules.specs.Table.{Lent, openRefusal, openedTable, decidedIn, unusedIn}
-use Rattle.rules.specs.Joining.{joinRefusal, joinCount, joinTotals}
-use Rattle.rules.specs.Ledger.{Call, share, roundOne, roundTwo, drop, close, Answer, wrote, judged}
+use Rattle.rules.specs.Joining.{acceptedCount, joinRefusal, joinCount, joinTotals}
+use Rattle.rules.specs.Ledger.{Call, share, roundOne, roundTwo, drop, close, Answer, refused, wrote, judged}
 use Rattle.rules.specs.Ledger.{Note, Pending, noteIn, isOpen, isClosed, waiting, Decided, Ledger, empty}
 use Rattle.rules.specs.Ledger.{isAccepted, isDropped, notesWith, idsOf, notesOf, refusalOf, ledgerStep, runLedger, ledgerAnswers}
 use Rattle.rules.specs.Ledger.{ledgerWait}
@@ -44,34 +44,35 @@ BytesIn (drop id) = Unit {0}
 BytesIn (close room) = Unit {0}
 
 -- the refusal of opening, by the buffers that it is lent
-abbrev pub opensIn : Setting → ℕ → ℕ → List ℕ → ℕ → Lent → ℕ
-opensIn σ servers own sheet returns B =
-    openRefusal σ servers own sheet returns (length (B .bytes)) (length (B .slots)) (length (B .elements))
+abbrev pub opensIn : Setting → ℕ → ℕ → List ℕ → ℕ → ℕ → Lent → ℕ
+opensIn σ servers own sheet returns least B =
+    openRefusal σ servers own sheet returns least (length (B .bytes)) (length (B .slots)) (length (B .elements))
 
--- "Servers are opened alike when S, sheet and N are the same and their numbers are 0 to S - 1, one each." Server i's table
--- is opened in the three buffers i, without refusal, and has the list `calls i`. There is a server; opening then says that
--- there are 2 to 8
+-- "Servers are opened alike when S, sheet and N are the same and their numbers are 0 to S - 1, one each." "Servers opened alike
+-- have the same Q too." Server i's table is opened in the three buffers i, without refusal, and has the list `calls i`. There is a
+-- server; opening then says that there are 2 to 8
 pub record Pool (σ : Setting) : Type 0 where
   pub servers : ℕ
   pub sheet : List ℕ
   pub returns : ℕ
+  pub least : ℕ
   pub buffers : ℕ → Lent
   pub calls : ℕ → List Call
   pub sheet-bytes : Bytes sheet
   pub buffer-bytes : (i : ℕ) → i < servers → Bytes (buffers i .bytes)
   pub call-bytes : (i : ℕ) → i < servers → All BytesIn (calls i)
   pub some-server : 0 < servers
-  pub opens : (i : ℕ) → i < servers → opensIn σ servers i sheet returns (buffers i) ≡ 0
+  pub opens : (i : ℕ) → i < servers → opensIn σ servers i sheet returns least (buffers i) ≡ 0
 
 module _ (σ : Setting) (𝓟 : Pool σ) where
   abbrev pub columns : List Column
   columns = columnsOf (𝓟 .sheet)
 
   abbrev pub openedAt : ℕ → Opened
-  openedAt i = record { servers = 𝓟 .servers; own = i; columns = columns; returns = 𝓟 .returns }
+  openedAt i = record { servers = 𝓟 .servers; own = i; columns = columns; returns = 𝓟 .returns; least = 𝓟 .least }
 
   abbrev pub tableAt : ℕ → Lent
-  tableAt i = openedTable σ (𝓟 .servers) i (𝓟 .sheet) (𝓟 .returns) (𝓟 .buffers i)
+  tableAt i = openedTable σ (𝓟 .servers) i (𝓟 .sheet) (𝓟 .returns) (𝓟 .least) (𝓟 .buffers i)
 
   -- what server i's list comes to
   abbrev pub ledgerAt : ℕ → Ledger
@@ -169,6 +170,8 @@ module _ (σ : Setting) (𝓟 : Pool σ) where
         → joinRefusal σ (𝓟 .servers) (𝓟 .sheet) (𝓟 .returns) closings room
         ≡ check (leb (σ .width * publishedIn (columns σ 𝓟)) room) 14
     pub count : joinCount closings ≡ length ids
+    -- which is Q at least
+    pub enough : 𝓟 .least ≤ joinCount closings
     pub totals : joinTotals σ (𝓟 .servers) (𝓟 .sheet) closings
         ≡ map (λ e. sumOver (λ id. addedEntry id e) ids % σ .modulus) (publishedFrom 0 (columns σ 𝓟))
     -- where every accepted return keeps its form these are the sums themselves
@@ -280,3 +283,20 @@ pub record WholeRun (σ : Setting) (𝓟 : Pool σ) : Type 0 where
       → unusedIn σ (runTable σ (tableAt σ 𝓟 i) (𝓟 .calls i) .bytes)
       ≡ replicate (4 * (𝓟 .returns - decidedIn σ (runTable σ (tableAt σ 𝓟 i) (𝓟 .calls i) .bytes))) 0
   pub erased : (i : ℕ) → i < 𝓟 .servers → (j : ℕ) → j < mostWaiting → Erased (columns σ 𝓟) (runTable σ (tableAt σ 𝓟 i) (𝓟 .calls i)) j
+  -- 12. "Closing with fewer than Q accepted gives no totals": a closed server has accepted at least Q, and each totals message that a
+  -- server writes has a count of at least Q. Where none waits and at least Q are accepted, a close with room enough is done; with
+  -- fewer it is refused 15, and nothing changes; with fewer and N decided no call changes anything any more. No condition is needed
+  pub closed-enough : (i : ℕ) → i < 𝓟 .servers → ledgerAt σ 𝓟 i .progress ≡ isClosed → 𝓟 .least ≤ length (acceptedAt σ 𝓟 i)
+  pub totals-enough : (i : ℕ) → i < 𝓟 .servers → (m : List ℕ) → In (wrote m) (answersAt σ 𝓟 i) → kindIn m ≡ σ .totalsByte
+      → 𝓟 .least ≤ acceptedCount m
+  pub closes : (i : ℕ) → i < 𝓟 .servers → ledgerAt σ 𝓟 i .progress ≡ isOpen [] → 𝓟 .least ≤ length (acceptedAt σ 𝓟 i)
+      → (room : ℕ) → totalsLength σ (openedAt σ 𝓟 i) ≤ room
+      → ledgerAnswers σ (openedAt σ 𝓟 i) (ledgerAt σ 𝓟 i) (close room ∷ [])
+      ≡ wrote (closingMessage σ (openedAt σ 𝓟 i) (ledgerAt σ 𝓟 i)) ∷ []
+  pub too-few : (i : ℕ) → i < 𝓟 .servers → ledgerAt σ 𝓟 i .progress ≡ isOpen [] → length (acceptedAt σ 𝓟 i) < 𝓟 .least
+      → (room : ℕ)
+      → (ledgerAnswers σ (openedAt σ 𝓟 i) (ledgerAt σ 𝓟 i) (close room ∷ []) ≡ refused 15 ∷ [])
+      × (runLedger σ (openedAt σ 𝓟 i) (ledgerAt σ 𝓟 i) (close room ∷ []) ≡ ledgerAt σ 𝓟 i)
+  pub stays-shut : (i : ℕ) → i < 𝓟 .servers → ledgerAt σ 𝓟 i .progress ≡ isOpen [] → length (acceptedAt σ 𝓟 i) < 𝓟 .least
+      → length (ledgerAt σ 𝓟 i .decided) ≡ 𝓟 .returns
+      → (cs : List Call) → runLedger σ (openedAt σ 𝓟 i) (ledgerAt σ 𝓟 i) cs ≡ ledgerAt σ 𝓟 i

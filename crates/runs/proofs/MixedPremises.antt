@@ -16,7 +16,7 @@ use Rattle.rules.specs.Columns.{columnsOf}
 use Rattle.rules.specs.Judging.{letsIn}
 use Rattle.rules.specs.Keyed.{find, those}
 use Rattle.rules.specs.Server.{mostWaiting, messageOne}
-use Rattle.rules.specs.Ledger.{Call, roundOne, roundTwo, accepted, rejected, Decided, waiting, empty, runLedger, ledgerAnswers}
+use Rattle.rules.specs.Ledger.{Call, accepted, rejected, Decided, waiting, empty, runLedger, ledgerAnswers}
 use Rattle.rules.specs.Runs.{tableAnswers}
 use Rattle.rules.specs.Mixing.{on, decidedId, callsOn, answersOn, answersTo}
 use Rattle.rules.specs.WholeRun.{Pool, openedAt, tableAt, ledgerAt, returnOf, OnePair, Ready}
@@ -90,12 +90,12 @@ alone-decided = document01-whole-run pool .mixing 0 (lit< tt) 5 .verdict ∙ dec
 abbrev begun : ℕ → List Call
 begun i = take 8 (calls i)
 
-is-begun : isPool document01 2 sheet 9 (λ i. lent 53 88) begun ≡ true
+is-begun : isPool document01 2 sheet 9 7 (λ i. lent 55 88) begun ≡ true
 unfolding everything isPool opensAt bytesCall calls ones twos
 is-begun = refl
 
 abbrev begunPool : Pool document01
-begunPool = poolOf document01 2 sheet 9 (λ i. lent 53 88) begun is-begun
+begunPool = poolOf document01 2 sheet 9 7 (λ i. lent 55 88) begun is-begun
 
 eight-wait : length (waiting (ledgerAt document01 begunPool 0 .progress)) ≡ mostWaiting
 unfolding everything calls ones twos
@@ -109,12 +109,12 @@ abbrev early : ℕ → List Call
 early zero = take 20 (calls 0)
 early (suc i) = take 13 (calls 1)
 
-is-early : isPool document01 2 sheet 9 (λ i. lent 53 88) early ≡ true
+is-early : isPool document01 2 sheet 9 7 (λ i. lent 55 88) early ≡ true
 unfolding everything isPool opensAt bytesCall calls ones twos
 is-early = refl
 
 abbrev earlyPool : Pool document01
-earlyPool = poolOf document01 2 sheet 9 (λ i. lent 53 88) early is-early
+earlyPool = poolOf document01 2 sheet 9 7 (λ i. lent 55 88) early is-early
 
 ready-9 : Ready document01 earlyPool 9 (sharesOf 9) 4 9 14
 unfolding everything isReady isEnded calls ones twos

@@ -56,12 +56,12 @@ calls (suc i) =
     ++ (one 4 ∷ one 1 ∷ one 2 ∷ one 3 ∷ two 1 ∷ takes 9 1 ∷ one 5 ∷ one 6 ∷ one 7 ∷ one 8 ∷ one 9 ∷ [])
     ++ (two 9 ∷ two 8 ∷ drop 4 ∷ two 7 ∷ two 6 ∷ two 5 ∷ two 3 ∷ close 10 ∷ two 2 ∷ close 10 ∷ [])
 
-pub is-pool : isPool document01 2 sheet 9 (λ i. lent 53 88) calls ≡ true
+pub is-pool : isPool document01 2 sheet 9 7 (λ i. lent 55 88) calls ≡ true
 unfolding everything isPool opensAt bytesCall calls ones twos
 is-pool = refl
 
 abbrev pub pool : Pool document01
-pool = poolOf document01 2 sheet 9 (λ i. lent 53 88) calls is-pool
+pool = poolOf document01 2 sheet 9 7 (λ i. lent 55 88) calls is-pool
 
 -- the answers of server 0 in short: by the ledger, and by the table, which is left with nothing that waits
 abbrev answered : List ℕ

@@ -149,12 +149,12 @@ one-yes = totals-77 .yes-total [] [] refl
 abbrev early : ℕ → List Call
 early i = take 10 (calls i)
 
-is-early : isPool document01 2 sheet 3 (λ i. lent 29 88) early ≡ true
+is-early : isPool document01 2 sheet 3 1 (λ i. lent 31 88) early ≡ true
 unfolding everything isPool opensAt bytesCall calls ones twos
 is-early = refl
 
 abbrev earlyPool : Pool document01
-earlyPool = poolOf document01 2 sheet 3 (λ i. lent 29 88) early is-early
+earlyPool = poolOf document01 2 sheet 3 1 (λ i. lent 31 88) early is-early
 
 ready-honest : Ready document01 earlyPool 78 honest 4 9 14
 unfolding everything isReady isEnded calls ones twos

@@ -92,7 +92,7 @@ abbrev shareOf : ℕ → List ℕ
 shareOf i = part (106 * i) 106 made
 
 abbrev opened : ℕ → Lent
-opened i = openedTable σ 3 i sheet 5 (lent 57 216)
+opened i = openedTable σ 3 i sheet 5 1 (lent 59 216)
 
 abbrev shared : ℕ → Lent
 shared i = shareTable σ (opened i) (shareOf i) 1000003 77

@@ -53,11 +53,11 @@ bytes-call (drop id) e = tt
 bytes-call (close room) e = tt
 
 -- ---- a pool
-module _ (σ : Setting) (servers : ℕ) (sheet : List ℕ) (returns : ℕ) (buffers : ℕ → Lent) (calls : ℕ → List Call) where
+module _ (σ : Setting) (servers : ℕ) (sheet : List ℕ) (returns least : ℕ) (buffers : ℕ → Lent) (calls : ℕ → List Call) where
   unfoldable pub opensAt : ℕ → Bool
   opensAt i =
       allBelow 256 (buffers i .bytes)
-      && (every bytesCall (calls i) && eqb (opensIn σ servers i sheet returns (buffers i)) 0)
+      && (every bytesCall (calls i) && eqb (opensIn σ servers i sheet returns least (buffers i)) 0)
 
   unfoldable pub isPool : Bool
   isPool = (ltb 0 servers && allBelow 256 sheet) && every opensAt (countFrom 0 servers)
@@ -83,7 +83,7 @@ module _ (σ : Setting) (servers : ℕ) (sheet : List ℕ) (returns : ℕ) (buff
     unfolding opensAt
     calls-are i l = and-left (every bytesCall (calls i)) _ (and-right (allBelow 256 (buffers i .bytes)) _ (at-server i l))
 
-    pub opens-is : (i : ℕ) → i < servers → eqb (opensIn σ servers i sheet returns (buffers i)) 0 ≡ true
+    pub opens-is : (i : ℕ) → i < servers → eqb (opensIn σ servers i sheet returns least (buffers i)) 0 ≡ true
     unfolding opensAt
     opens-is i l = and-right (every bytesCall (calls i)) _ (and-right (allBelow 256 (buffers i .bytes)) _ (at-server i l))
 
@@ -92,6 +92,7 @@ module _ (σ : Setting) (servers : ℕ) (sheet : List ℕ) (returns : ℕ) (buff
       servers = servers;
       sheet = sheet;
       returns = returns;
+      least = least;
       buffers = buffers;
       calls = calls;
       sheet-bytes = all-of-below 256 sheet sheet-is;

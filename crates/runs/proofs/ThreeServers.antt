@@ -1,4 +1,4 @@
--- A whole run of three servers with the sheet 17, 18 3, 19 2: two honest returns are accepted; an altered one is rejected at
+-- A whole run of three servers with the sheet 17, 18 3, 19 2 and Q = 2: two honest returns are accepted; an altered one is rejected at
 -- two servers and dropped at the third before its verdict; an id is dropped at one server alone. antt computes it. It meets
 -- the conditions, so what demand 3 says of it holds. Assumes nothing.
 use mathlib.Core.Path.{_≡_, refl, subst}
@@ -68,16 +68,18 @@ calls (suc zero) =
 calls (suc (suc i)) =
     (give 9 second 7 5 2 ∷ drop 9 ∷ [])
     ++ through 1 first 2
+    -- refused: one is accepted, and Q = 2
+    ++ (close 26 ∷ [])
     ++ through 2 altered 2
     ++ through 3 second 2
     ++ (close 25 ∷ close 26 ∷ [])
 
-pub is-pool : isPool document01 3 sheet 4 (λ i. lent 53 216) calls ≡ true
+pub is-pool : isPool document01 3 sheet 4 2 (λ i. lent 55 216) calls ≡ true
 unfolding everything isPool opensAt bytesCall calls ones twos
 is-pool = refl
 
 abbrev pub pool : Pool document01
-pool = poolOf document01 3 sheet 4 (λ i. lent 53 216) calls is-pool
+pool = poolOf document01 3 sheet 4 2 (λ i. lent 55 216) calls is-pool
 
 answers-0 : map short (answersAt document01 pool 0) ≡ 100 ∷ 100 ∷ 200 ∷ 100 ∷ 100 ∷ 300 ∷ 100 ∷ 100 ∷ 200 ∷ 100 ∷ []
 unfolding everything short calls ones twos
@@ -88,7 +90,7 @@ unfolding everything short calls ones twos
 answers-1 = refl
 
 answers-2 : map short (answersAt document01 pool 2)
-    ≡ 100 ∷ 400 ∷ 100 ∷ 100 ∷ 200 ∷ 100 ∷ 100 ∷ 300 ∷ 100 ∷ 100 ∷ 200 ∷ 14 ∷ 100 ∷ []
+    ≡ 100 ∷ 400 ∷ 100 ∷ 100 ∷ 200 ∷ 15 ∷ 100 ∷ 100 ∷ 300 ∷ 100 ∷ 100 ∷ 200 ∷ 14 ∷ 100 ∷ []
 unfolding everything short calls ones twos
 answers-2 = refl
 

@@ -24,8 +24,9 @@ use Rattle.rules.proofs.Runs.WholeTotals.{closed-together}
 
 -- ---- the messages of a return, for servers opened alike
 module _ (servers : ℕ) (sheet : List ℕ) (returns : ℕ) where
+  -- (no message depends on Q)
   abbrev pub openedAs : ℕ → Opened
-  openedAs i = record { servers = servers; own = i; columns = columnsOf sheet; returns = returns }
+  openedAs i = record { servers = servers; own = i; columns = columnsOf sheet; returns = returns; least = 1 }
 
   abbrev pub taken : ℕ → (ℕ → List ℕ) → ℕ → ℕ → ℕ → Waiting
   taken id shares r s i = waitingOf document01 (openedAs i) id (shares i) r s
@@ -113,12 +114,12 @@ calls i =
     ∷ close 10
     ∷ []
 
-pub is-pool : isPool document01 2 sheet 3 (λ i. lent 29 88) calls ≡ true
+pub is-pool : isPool document01 2 sheet 3 1 (λ i. lent 31 88) calls ≡ true
 unfolding everything isPool opensAt bytesCall calls ones twos
 is-pool = refl
 
 abbrev pub pool : Pool document01
-pool = poolOf document01 2 sheet 3 (λ i. lent 29 88) calls is-pool
+pool = poolOf document01 2 sheet 3 1 (λ i. lent 31 88) calls is-pool
 
 answers : map short (answersAt document01 pool 1)
     ≡ (100 ∷ 11 ∷ 12 ∷ 12 ∷ 12 ∷ 12 ∷ 14 ∷ 100 ∷ 12 ∷ 200 ∷ [])

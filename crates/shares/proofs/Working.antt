@@ -17,7 +17,7 @@ use Rattle.rules.specs.Settings.{document01}
 use Rattle.rules.specs.Columns.{readSheet, columnsOf}
 use Rattle.rules.specs.Judging.{shareSize}
 use Rattle.rules.specs.WaitingList.{freePlace}
-use Rattle.rules.specs.Table.{Lent, sheetIn, columnsIn}
+use Rattle.rules.specs.Table.{headerLength, Lent, sheetIn, columnsIn}
 use Rattle.snip.specs.declared.judging.Shape.{Shape}
 use Rattle.snip.specs.Judged.{Share, shapeOf, judgedOf}
 use Rattle.steps.proofs.Parts.{span}
@@ -34,7 +34,7 @@ use Rattle.shares.specs.Taking.{Judgeable, Takable}
 -- ---- the sheet
 -- the sheet as the code cuts it out
 abbrev pub sheetCut : List ℕ → Table → List ℕ
-sheetCut t k = part 12 (k .sheet) t
+sheetCut t k = part headerLength (k .sheet) t
 
 -- the shape of the sheet, as the table says
 abbrev pub shapeAt : Table → Shape

@@ -17,7 +17,7 @@ use Rattle.rules.specs.Settings.{document01}
 use Rattle.rules.specs.Columns.{check, sheetFault, totalsFit}
 use Rattle.rules.specs.Judging.{shareSize}
 use Rattle.rules.specs.WaitingList.{waitingCount, runSize, recordsSound, waitingSound}
-use Rattle.rules.specs.Table.{Lent, sheetSize, sheetIn, columnsIn, columnsAt, totalsIn, tableLength}
+use Rattle.rules.specs.Table.{headerLength, Lent, sheetSize, sheetIn, columnsIn, columnsAt, totalsIn, tableLength}
 use Rattle.rules.specs.Table.{totalsPlace, headerSound, countsSound, tableSound, tableFault}
 use Rattle.rules.proofs.Circuits.Refusals.{sheet-limits}
 use Rattle.layout.specs.Numbers.{tableOf}
@@ -51,7 +51,7 @@ headed-at T e =
     let none : sheetFault (sheetIn document01 T) ≡ 0
     = eqb-true (sheetFault (sheetIn document01 T)) 0 (and-right (startSound T) (eqb (sheetFault (sheetIn document01 T)) 0) both) in
     let l = sheet-limits (sheetIn document01 T) none in
-    let n : length (sheetIn document01 T) ≡ sheetSize document01 T = length-part 12 (sheetSize document01 T) T (f .sheet-long) in
+    let n : length (sheetIn document01 T) ≡ sheetSize document01 T = length-part headerLength (sheetSize document01 T) T (f .sheet-long) in
     record {
       says = refl;
       limited =

@@ -12,7 +12,7 @@ use Rattle.records.specs.Outcome.{ok, orElse}
 use Rattle.records.proofs.Outcome.{or-none}
 use Rattle.rules.specs.Settings.{document01}
 use Rattle.rules.specs.Columns.{check, readSheet, columnsOf, returnsFault, totalsFault, totalsFit}
-use Rattle.rules.specs.Table.{sheetIn, columnsIn}
+use Rattle.rules.specs.Table.{headerLength, sheetIn, columnsIn}
 use Rattle.rules.proofs.Circuits.Limits.{within-is}
 use Rattle.rules.proofs.Circuits.Refusals.{sheet-read}
 use Rattle.layout.specs.Places.{totalsAt, idsAt}
@@ -21,7 +21,7 @@ use Rattle.layout.specs.declared.Table.{Table}
 use Rattle.table.specs.Reading.{lengthOf, Headed, countsSoundAt, totalsSoundAt}
 
 -- ---- the sheet x of a table, as the code cuts it out: it is read
-module _ (T : List ℕ) (k : Table) (h : Headed T k) (x : List ℕ) (ex : x ≡ part 12 (k .sheet) T) where
+module _ (T : List ℕ) (k : Table) (h : Headed T k) (x : List ℕ) (ex : x ≡ part headerLength (k .sheet) T) where
   sheet-cut : x ≡ sheetIn document01 T
   unfolding tableOf
   sheet-cut = rw (h .says) at ex

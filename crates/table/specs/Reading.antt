@@ -8,9 +8,9 @@ use lib.Dec.{eqb, ltb, leb}
 use lib.ListN.{length, getD}
 use Rattle.words.specs.Bytes.{valueOf, part, elementsOf, allBelow}
 use Rattle.rules.specs.Settings.{document01}
-use Rattle.rules.specs.Columns.{check, within, sheetFault, totalsFit}
+use Rattle.rules.specs.Columns.{check, within, leastFits, sheetFault, totalsFit}
 use Rattle.rules.specs.WaitingList.{waitingCount}
-use Rattle.rules.specs.Table.{Lent, sheetIn, columnsIn, headerSound, tableSound, tableFault}
+use Rattle.rules.specs.Table.{Lent, headerLength, sheetIn, columnsIn, headerSound, tableSound, tableFault}
 use Rattle.layout.specs.Places.{totalsAt, lengthAt, placeSizeOf}
 use Rattle.layout.specs.Numbers.{tableOf, Limited}
 use Rattle.layout.specs.declared.Table.{Table}
@@ -29,23 +29,25 @@ headIn T = cond (headerSound document01 T) (answer.Table (tableOf T)) (answer.Re
 -- ---- the parts of the judgement: the header before the sheet is read
 unfoldable pub startSound : List ℕ → Bool
 startSound T =
-    leb 12 (length T)
-    && (eqb (getD T 0 0) 2
+    leb headerLength (length T)
+    && (eqb (getD T 0 0) (document01 .tableByte)
     && (leb (getD T 1 0) 1
     && (within 2 8 (getD T 2 0)
     && (ltb (getD T 3 0) (getD T 2 0)
-    && (within 1 1024 (valueOf (part 4 2 T)) && leb (12 + valueOf (part 10 2 T)) (length T))))))
+    && (within 1 1024 (valueOf (part 4 2 T))
+    && (leastFits (valueOf (part 4 2 T)) (valueOf (part 10 2 T)) && leb (headerLength + valueOf (part 12 2 T)) (length T)))))))
 
 pub record Started (T : List ℕ) : Type 0 where
-  pub header-long : 12 ≤ length T
-  pub byte-is : getD T 0 0 ≡ 2
+  pub header-long : headerLength ≤ length T
+  pub byte-is : getD T 0 0 ≡ document01 .tableByte
   pub stage-most : getD T 1 0 ≤ 1
   pub servers-some : 2 ≤ getD T 2 0
   pub servers-few : getD T 2 0 ≤ 8
   pub own-one : getD T 3 0 < getD T 2 0
   pub returns-some : 1 ≤ valueOf (part 4 2 T)
   pub returns-most : valueOf (part 4 2 T) ≤ 1024
-  pub sheet-long : 12 + valueOf (part 10 2 T) ≤ length T
+  pub least-fits : leastFits (valueOf (part 4 2 T)) (valueOf (part 10 2 T)) ≡ true
+  pub sheet-long : headerLength + valueOf (part 12 2 T) ≤ length T
 
 -- ---- counts and totals, by the numbers of the header
 -- the bytes of the table
@@ -66,7 +68,7 @@ pub record Headed (T : List ℕ) (k : Table) : Type 0 where
   pub says : k ≡ tableOf T
   pub limited : Limited k
   pub header : headerSound document01 T ≡ true
-  pub sheet-long : 12 + k .sheet ≤ length T
+  pub sheet-long : headerLength + k .sheet ≤ length T
   pub no-fault : sheetFault (sheetIn document01 T) ≡ 0
 
 -- the bytes lie within their slice

@@ -6,6 +6,7 @@ ghost use Rattle.rules.specs.Server.{isMember};
 ghost use Rattle.waiting.specs.Changes.{lent};
 ghost use Rattle.table.specs.Reading.{startSound, headIn, foundIn, countsSoundAt, totalsSoundAt, Headed, Whole};
 use layout::CLOSED;
+use layout::HEADER;
 use layout::TABLE;
 use layout::Table;
 use layout::places::sheet_part;
@@ -48,7 +49,7 @@ pub fn has_id(ids: &[u8], id: u32) -> bool
 fn start_sound(t: &[u8]) -> bool
     ensures { λ r. ⌜ r ≡ startSound (now (t .entry)) ⌝ }
 {
-    if t.len() < 12 {
+    if t.len() < HEADER {
         return false;
     }
     if t[0] != TABLE {
@@ -73,7 +74,10 @@ fn start_sound(t: &[u8]) -> bool
     if limits::MAX_RETURNS < returns {
         return false;
     }
-    12 + (words::read_u16(t, 10) as usize) <= t.len()
+    if !limits::least_sound(returns, words::read_u16(t, 10)) {
+        return false;
+    }
+    HEADER + (words::read_u16(t, 12) as usize) <= t.len()
 }
 
 // What a table says whose header and sheet are sound.
@@ -83,7 +87,7 @@ fn head(t: &[u8]) -> Found
     if !start_sound(t) {
         return Found::Refused(UNSOUND);
     }
-    let n = words::read_u16(t, 10) as usize;
+    let n = words::read_u16(t, 12) as usize;
     match sheet::read(sheet_part(t, n)) {
         Reading::Refused(_) => Found::Refused(UNSOUND),
         Reading::Counts(counts) => Found::Table(Table {
@@ -93,6 +97,7 @@ fn head(t: &[u8]) -> Found
             returns: words::read_u16(t, 4),
             decided: words::read_u16(t, 6),
             accepted: words::read_u16(t, 8),
+            least: words::read_u16(t, 10),
             sheet: n,
             columns: counts.columns,
             entries: counts.entries,

@@ -10,7 +10,7 @@ use slots::Slot;
 
 // A server: the three parts of its table, and the answer and the message of its last call.
 struct Server {
-    table: [u8; 57],
+    table: [u8; 59],
     list: [Slot; 8],
     numbers: [u32; 88],
     number: u32,
@@ -43,12 +43,22 @@ fn after(list: [Slot; 8], change: Change) -> [Slot; 8] {
     kept
 }
 
-// A table of server `own`, for 10 returns.
+// A table of server `own`, for 10 returns and a least count of 1.
 fn open(own: u32) -> Server {
-    let mut table = [0u8; 57];
+    let mut table = [0u8; 59];
     let mut numbers = [0u32; 88];
     let mut written: usize = 0;
-    let number = opening::open(2, own, &[17], 10, &mut table, 8, &mut numbers, &mut written);
+    let number = opening::open(
+        2,
+        own,
+        &[17],
+        10,
+        1,
+        &mut table,
+        8,
+        &mut numbers,
+        &mut written,
+    );
     Server {
         table: table,
         list: none(),
@@ -251,6 +261,7 @@ pub fn opens(returns: u32) {
         0,
         &[19, 24],
         returns,
+        1,
         &mut table,
         8,
         &mut numbers,

@@ -16,20 +16,20 @@ given u = u .before .before .before .before .before .before
 few : (u : tie.After-size) → let a = given u .args in (a .servers ≤ 8) × (a .own < a .servers)
 few u =
     let a = given u .args in
-    servers-fit (a .servers) (a .own) (a .sheet .now) (a .returns) (a .table .now) (a .records) (a .numbers .now) (a .written .now) _
-    (u .before .before .open-checked .ensures) _ (u .size .given .1)
+    servers-fit (a .servers) (a .own) (a .sheet .now) (a .returns) (a .least) (a .table .now) (a .records) (a .numbers .now)
+    (a .written .now) _ (u .before .before .open-checked .ensures) _ (u .size .given .1)
 
 roomy : (u : tie.After-size) → let a = given u .args in Roomy (a .sheet .now) (u .size .given .0 .0 .bytes) (a .table .now)
 roomy u =
     let a = given u .args in
-    open-roomy (a .servers) (a .own) (a .sheet .now) (a .returns) (a .table .now) (a .records) (a .numbers .now) (a .written .now) _
-    (u .before .before .open-checked .ensures) _ (u .size .given .1)
+    open-roomy (a .servers) (a .own) (a .sheet .now) (a .returns) (a .least) (a .table .now) (a .records) (a .numbers .now)
+    (a .written .now) _ (u .before .before .open-checked .ensures) _ (u .size .given .1)
 
 long : (u : tie.After-size) → 0 + u .size .given .0 .0 .numbers ≤ length (given u .args .numbers .now)
 long u =
     let a = given u .args in
-    numbers-fit (a .servers) (a .own) (a .sheet .now) (a .returns) (a .table .now) (a .records) (a .numbers .now) (a .written .now) _
-    (u .before .before .open-checked .ensures) _ (u .size .given .1)
+    numbers-fit (a .servers) (a .own) (a .sheet .now) (a .returns) (a .least) (a .table .now) (a .records) (a .numbers .now)
+    (a .written .now) _ (u .before .before .open-checked .ensures) _ (u .size .given .1)
 
 -- ---- the steps
 open-checked-requires : tie.Need-open-checked-requires
@@ -57,8 +57,8 @@ returns : tie.Need-returns
 returns c =
     let u = c .before in
     let a = u .before .before .before .before .before .before .args in
-    open-refused (a .servers) (a .own) (a .sheet .now) (a .returns) (a .table .now) (a .records) (a .numbers .now) (a .written .now) _
-    (u .before .before .open-checked .ensures) _ (u .fault .given .1)
+    open-refused (a .servers) (a .own) (a .sheet .now) (a .returns) (a .least) (a .table .now) (a .records) (a .numbers .now)
+    (a .written .now) _ (u .before .before .open-checked .ensures) _ (u .fault .given .1)
 
 same-length : tie.Need-same-length
 same-length c = search needs
@@ -73,8 +73,8 @@ returns-2 c =
     let u = w .before .before .before in
     let a = given u .args in
     rw (e .erase .ensures, w .write-fresh .ensures)
-    (open-done (a .servers) (a .own) (a .sheet .now) (a .returns) (a .table .now) (a .records) (a .numbers .now) (a .written .now) _
-    (u .before .before .open-checked .ensures) _ (u .size .given .1))
+    (open-done (a .servers) (a .own) (a .sheet .now) (a .returns) (a .least) (a .table .now) (a .records) (a .numbers .now)
+    (a .written .now) _ (u .before .before .open-checked .ensures) _ (u .size .given .1))
 
 pub open-spec : {M : Type 1} → statement M
 open-spec =

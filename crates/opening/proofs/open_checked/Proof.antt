@@ -1,16 +1,18 @@
 -- `opening::open_checked` meets its contract: each test in its turn gives the refusal that is told there, and where none does
 -- the counts of the sheet give the room that the table takes. Assumes nothing.
 use mathlib.Core.Path.{_≡_, sym, ap, _∙_}
+use mathlib.Core.Bool.{true}
 use Prim.Native.Nat.{ℕ, _+_, _*_, _≤_}
 use native.Mathlib.Omega.{arith}
 use borrow.Author.Needs.{needs}
 use borrow.Author.Tests.{not-true, not-false}
+use Rattle.rules.specs.Columns.{leastFits}
 use Rattle.rules.proofs.Circuits.Refusals.{sheet-read}
 use Rattle.sheet.proofs.Answers.{reading-refused}
 use Rattle.opening.specs.Fresh.{sizeFor, roomFor}
 use Rattle.opening.specs.declared.Size.{Size}
 use Rattle.opening.proofs.Opening.{Counted, counted, size-is, returns-most, servers-few, servers-many, own-outside}
-use Rattle.opening.proofs.Opening.{sheet-refused, returns-refused, room-short, room-enough}
+use Rattle.opening.proofs.Opening.{sheet-refused, least-refused, returns-refused, room-short, room-enough}
 use Rattle.opening.proofs.open_checked.Statement.{statement}
 use Rattle.opening.proofs.open_checked.Tie as tie
 
@@ -25,14 +27,21 @@ tested u = u .before .before .before
 seen : (u : tie.After-counts) → Counted (given (tested u) .args .sheet .now) (u .counts .given .0 .0)
 seen u = counted _ _ (sym (u .before .before .read .ensures) ∙ u .counts .given .1)
 
--- the check of N passed
-abbrev read-at : tie.Else4 → tie.After-counts
-read-at w = w .before .before .before
+-- the check of Q passed
+abbrev ranged-at : tie.Else4 → tie.After-counts
+ranged-at q = q .before .before .before
 
-returns-few : (w : tie.Else4) → given (tested (read-at w)) .args .returns ≤ 1024
+ranged : (q : tie.Else4) → let a = given (tested (ranged-at q)) .args in leastFits (a .returns) (a .least) ≡ true
+ranged q = sym (q .before .least-sound .ensures) ∙ not-false _ (q .if4 .left)
+
+-- the check of N passed
+abbrev read-at : tie.Else5 → tie.After-counts
+read-at w = ranged-at (w .before .before)
+
+returns-few : (w : tie.Else5) → given (tested (read-at w)) .args .returns ≤ 1024
 returns-few w =
     let a = given (tested (read-at w)) .args in
-    returns-most (a .sheet .now) (a .returns) _ (w .before .returns-refusal .ensures) (w .if4 .left)
+    returns-most (a .sheet .now) (a .returns) _ (w .before .returns-refusal .ensures) (w .if5 .left)
 
 -- the room that is worked out
 abbrev sized-at : tie.After-table-length → tie.After-counts
@@ -55,19 +64,19 @@ has-room h = rw (sized (h .before)) at (h .has-room .ensures)
 returns : tie.Need-returns
 returns c =
     let a = c .before .before .args in
-    servers-few (a .servers) (a .own) (a .sheet .now) (a .returns) (a .room) (a .records) (a .numbers)
+    servers-few (a .servers) (a .own) (a .sheet .now) (a .returns) (a .least) (a .room) (a .records) (a .numbers)
     (omega (arith, c .if1 .taken))
 
 returns-2 : tie.Need-returns-2
 returns-2 c =
     let a = c .before .before .before .args in
-    servers-many (a .servers) (a .own) (a .sheet .now) (a .returns) (a .room) (a .records) (a .numbers)
+    servers-many (a .servers) (a .own) (a .sheet .now) (a .returns) (a .least) (a .room) (a .records) (a .numbers)
     (omega (arith, c .before .if1 .left)) (omega (arith, c .if2 .taken))
 
 returns-3 : tie.Need-returns-3
 returns-3 c =
     let a = c .before .before .before .before .args in
-    own-outside (a .servers) (a .own) (a .sheet .now) (a .returns) (a .room) (a .records) (a .numbers)
+    own-outside (a .servers) (a .own) (a .sheet .now) (a .returns) (a .least) (a .room) (a .records) (a .numbers)
     (omega (arith, c .before .before .if1 .left)) (omega (arith, c .before .if2 .left)) (omega (arith, c .if3 .taken))
 
 read-requires : tie.Need-read-requires
@@ -79,18 +88,31 @@ enum-known-fault c = search needs
 enum-known-counts : tie.Need-enum-known-counts
 enum-known-counts c = search needs
 
-returns-refusal-requires : tie.Need-returns-refusal-requires
-returns-refusal-requires c κs =
-    let u = c .before in sheet-read (given (tested u) .args .sheet .now) (seen u .no-fault)
+least-sound-requires : tie.Need-least-sound-requires
+least-sound-requires c κs = search needs
 
 returns-4 : tie.Need-returns-4
 returns-4 c =
     let u = c .before .before .before in
     let g = tested u in
     let a = given g .args in
-    returns-refused (a .servers) (a .own) (a .sheet .now) (a .returns) (a .room) (a .records) (a .numbers)
+    least-refused (a .servers) (a .own) (a .sheet .now) (a .returns) (a .least) (a .room) (a .records) (a .numbers)
     (omega (arith, g .before .before .if1 .left)) (omega (arith, g .before .if2 .left)) (omega (arith, g .if3 .left))
-    (seen u .no-fault) _ (c .before .returns-refusal .ensures) (λ z. omega (arith, c .if4 .taken))
+    (seen u .no-fault) (sym (c .before .least-sound .ensures) ∙ not-true _ (c .if4 .taken))
+
+returns-refusal-requires : tie.Need-returns-refusal-requires
+returns-refusal-requires c κs =
+    let u = ranged-at c in sheet-read (given (tested u) .args .sheet .now) (seen u .no-fault)
+
+returns-5 : tie.Need-returns-5
+returns-5 c =
+    let q = c .before .before in
+    let u = ranged-at q in
+    let g = tested u in
+    let a = given g .args in
+    returns-refused (a .servers) (a .own) (a .sheet .now) (a .returns) (a .least) (a .room) (a .records) (a .numbers)
+    (omega (arith, g .before .before .if1 .left)) (omega (arith, g .before .if2 .left)) (omega (arith, g .if3 .left))
+    (seen u .no-fault) (ranged q) _ (c .before .returns-refusal .ensures) (λ z. omega (arith, c .if5 .taken))
 
 share-size-requires : tie.Need-share-size-requires
 share-size-requires c κs =
@@ -105,43 +127,45 @@ table-length-requires c κs =
     let k = seen (read-at (c .before)) in
     record { sheet-most = k .sheet-most; published-most = k .published-most; returns-most = returns-few (c .before) }
 
-mul-t19 : tie.Need-mul-t19
-mul-t19 c =
+mul-t21 : tie.Need-mul-t21
+mul-t21 c =
     let k = seen (sized-at c) in omega (arith, k .entries-most, k .gates-most, c .before .share-size .ensures)
 
 has-room-requires : tie.Need-has-room-requires
 has-room-requires c κs = search needs
 
-returns-5 : tie.Need-returns-5
-returns-5 c =
+returns-6 : tie.Need-returns-6
+returns-6 c =
     let h = c .before in
     let w = h .before .before .before in
     let u = read-at w in
     let g = tested u in
     let a = given g .args in
-    room-short (a .servers) (a .own) (a .sheet .now) (a .returns) (a .room) (a .records) (a .numbers)
+    room-short (a .servers) (a .own) (a .sheet .now) (a .returns) (a .least) (a .room) (a .records) (a .numbers)
     (omega (arith, g .before .before .if1 .left)) (omega (arith, g .before .if2 .left)) (omega (arith, g .if3 .left))
-    (seen u .no-fault) _ (w .before .returns-refusal .ensures) (w .if4 .left) (sym (has-room h) ∙ not-true _ (c .if5 .taken))
-
-returns-6 : tie.Need-returns-6
-returns-6 c =
-    let g = c .before .before .before .before in
-    let a = given g .args in
-    let r = reading-refused (a .sheet .now) _ (sym (c .before .before .before .read .ensures) ∙ c .before .fault .given .1) in
-    sheet-refused (a .servers) (a .own) (a .sheet .now) (a .returns) (a .room) (a .records) (a .numbers)
-    (omega (arith, g .before .before .if1 .left)) (omega (arith, g .before .if2 .left)) (omega (arith, g .if3 .left)) _ (r .0) (r .1)
+    (seen u .no-fault) (ranged (w .before .before)) _ (w .before .returns-refusal .ensures) (w .if5 .left)
+    (sym (has-room h) ∙ not-true _ (c .if6 .taken))
 
 returns-7 : tie.Need-returns-7
 returns-7 c =
+    let g = c .before .before .before .before in
+    let a = given g .args in
+    let r = reading-refused (a .sheet .now) _ (sym (c .before .before .before .read .ensures) ∙ c .before .fault .given .1) in
+    sheet-refused (a .servers) (a .own) (a .sheet .now) (a .returns) (a .least) (a .room) (a .records) (a .numbers)
+    (omega (arith, g .before .before .if1 .left)) (omega (arith, g .before .if2 .left)) (omega (arith, g .if3 .left)) _ (r .0) (r .1)
+
+returns-8 : tie.Need-returns-8
+returns-8 c =
     let h = c .before in
     let w = h .before .before .before in
     let u = read-at w in
     let g = tested u in
     let a = given g .args in
     rw (sized (h .before))
-    (room-enough (a .servers) (a .own) (a .sheet .now) (a .returns) (a .room) (a .records) (a .numbers)
+    (room-enough (a .servers) (a .own) (a .sheet .now) (a .returns) (a .least) (a .room) (a .records) (a .numbers)
     (omega (arith, g .before .before .if1 .left)) (omega (arith, g .before .if2 .left)) (omega (arith, g .if3 .left))
-    (seen u .no-fault) _ (w .before .returns-refusal .ensures) (w .if4 .left) (sym (has-room h) ∙ not-false _ (c .if5 .left)))
+    (seen u .no-fault) (ranged (w .before .before)) _ (w .before .returns-refusal .ensures) (w .if5 .left)
+    (sym (has-room h) ∙ not-false _ (c .if6 .left)))
 
 pub open-checked-spec : {M : Type 1} → statement M
 open-checked-spec =
@@ -153,13 +177,15 @@ open-checked-spec =
     read-requires
     enum-known-fault
     enum-known-counts
-    returns-refusal-requires
+    least-sound-requires
     returns-4
+    returns-refusal-requires
+    returns-5
     share-size-requires
     add-place
     table-length-requires
-    mul-t19
+    mul-t21
     has-room-requires
-    returns-5
     returns-6
-    returns-7)
+    returns-7
+    returns-8)

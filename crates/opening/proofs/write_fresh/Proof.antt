@@ -32,7 +32,7 @@ returns c =
     let a = w .before .before .before .before in
     let g = a .args in
     cc (
-      fresh-written (g .servers) (g .own) (g .sheet .now) (g .returns) (g .size) (g .table .now) (a .pre),
+      fresh-written (g .servers) (g .own) (g .sheet .now) (g .returns) (g .least) (g .size) (g .table .now) (a .pre),
       c .before .before .clear .ensures,
       c .before .before .before .before .before .before .copy .ensures,
       w .write-start .ensures,

@@ -6,6 +6,7 @@ use Rattle.rules.specs.SoundExamples.{limits}
 use Rattle.rules.specs.TableExamples.{onTables, inOrder, otherOrders, erasures}
 use Rattle.rules.specs.WaitingExamples.{manyWait, mixed, eight}
 use Rattle.rules.specs.OrderExamples.{threeServers, sameSlots, reversed}
+use Rattle.rules.specs.LeastExamples.{smallPools}
 use Rattle.rules.proofs.Computed.Computing.{everything}
 
 pub limits-hold : every (λ row. row .holds) limits ≡ true
@@ -43,3 +44,7 @@ three-servers-hold = refl
 pub reversed-hold : every (λ row. row .holds) reversed ≡ true
 unfolding everything reversed sameSlots
 reversed-hold = refl
+
+pub small-pools-hold : every (λ row. row .holds) smallPools ≡ true
+unfolding everything smallPools
+small-pools-hold = refl

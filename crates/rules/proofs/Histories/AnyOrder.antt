@@ -1,31 +1,27 @@
 -- Joined messages in any order. Whether a run is without a fault is told by the list of its messages, and neither soundness nor
--- the servers named nor a sum depends on the order of a list; as many messages as servers, none named twice, name each. What was
--- in server order names each server once. Assumes nothing.
-use mathlib.Core.Path.{_≡_, refl, sym, ap, ap₂, _∙_, subst}
-use mathlib.Core.Logic.{inl, inr}
-use mathlib.Core.Bool.{Bool, true, false, cond, not, _&&_, _||_}
-use mathlib.Core.List.{List, [], _∷_, map, map-map, map-id, flatten}
-use mathlib.Core.Option.{Option, some, none}
-use Prim.Native.Nat.{ℕ, suc, _+_, _*_, _%_, _≤_, _<_}
+-- the servers named nor a sum depends on the order of a list; as many messages as servers, none named twice, name each.
+-- Assumes nothing.
+use mathlib.Core.Path.{_≡_, refl, sym, ap, _∙_, subst}
+use mathlib.Core.Bool.{Bool, true, false, not, _&&_, _||_}
+use mathlib.Core.List.{List, [], map, map-map, map-id, flatten}
+use mathlib.Core.Option.{none}
+use Prim.Native.Nat.{ℕ, suc, _*_, _%_, _≤_, _<_}
 use native.Mathlib.Nat.{eq-of-mul-eq-mul-left, mul-le-mul-left}
 use native.Mathlib.Omega.{arith}
-use borrow.Author.Tests.{eqb-true, eq-eqb, ne-eqb}
-use lib.Dec.{eqb, leb}
+use borrow.Author.Tests.{eqb-true, eq-eqb}
+use lib.Dec.{eqb}
 use lib.ListN.{length, length-map}
 use Rattle.algebra.specs.Lists.{All, In, Distinct, Rearranged, sumOver, every, countFrom}
 use Rattle.algebra.specs.Modulo.{modulo}
 use Rattle.algebra.specs.Sums.{sum}
-use Rattle.algebra.proofs.Members.{and-left, and-right, all-map, all-in, in-all, map-all, of-map, in-count, count-in}
+use Rattle.algebra.proofs.Members.{all-in, in-all, map-all, of-map, in-count, count-in}
 use Rattle.algebra.proofs.Members.{map-same, count-distinct, length-count}
-use Rattle.algebra.proofs.Rearrangement.{rearranged-sym, rearranged-length, rearranged-sum, sum-map}
+use Rattle.algebra.proofs.Rearrangement.{rearranged-sym, rearranged-length, sum-map}
 use Rattle.words.specs.Bytes.{sameBytes}
 use Rattle.words.proofs.Same.{equal-same, same-equal}
 use Rattle.words.proofs.Splice.{length-part}
-use Rattle.records.specs.Outcome.{orElse}
-use Rattle.records.proofs.Outcome.{or-zero}
 use Rattle.rules.specs.Settings.{Setting}
-use Rattle.rules.specs.Columns.{check}
-use Rattle.rules.specs.Messages.{serverIn, firstIn, secondIn, roundLength, placeIn, serverAt, roundSound, ownKept}
+use Rattle.rules.specs.Messages.{serverIn, firstIn, secondIn, roundLength, placeIn, ownKept}
 use Rattle.rules.specs.Messages.{placeSound, roundFault, firstSum, secondSum}
 use Rattle.rules.specs.Keyed.{under}
 use Rattle.rules.specs.AnyOrder.{SomeOrder}

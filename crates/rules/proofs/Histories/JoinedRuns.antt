@@ -1,17 +1,17 @@
 -- Joined round messages as the list of those that stand in them. They are without a fault exactly where there are S, each is
 -- sound, no two name one server, and the one that names the own server is the own message; so each of the S servers is named
 -- once, and sums over the places are sums over the servers. Assumes nothing.
-use mathlib.Core.Path.{_≡_, refl, sym, ap, _∙_, subst}
+use mathlib.Core.Path.{_≡_, sym, ap, _∙_, subst}
 use mathlib.Core.Logic.{_≢_}
 use mathlib.Core.Bool.{Bool, true, not, _&&_}
 use mathlib.Core.List.{List, map, map-map}
-use Prim.Native.Nat.{ℕ, _+_, _*_, _%_, _<_}
+use Prim.Native.Nat.{ℕ, _*_, _%_, _<_}
 use native.Mathlib.Nat.{le-of-eq}
 use native.Mathlib.Omega.{arith}
 use borrow.Author.Tests.{eqb-true, eqb-false, eq-eqb, ne-eqb, ltb-true, not-true}
 use lib.Dec.{eqb, ltb}
 use lib.ListN.{length, length-map}
-use Rattle.algebra.specs.Lists.{All, In, Distinct, Rearranged, sumOver, every, countFrom}
+use Rattle.algebra.specs.Lists.{All, In, Distinct, Rearranged, every, countFrom}
 use Rattle.algebra.specs.Modulo.{modulo}
 use Rattle.algebra.specs.Sums.{sum}
 use Rattle.algebra.proofs.Members.{and-true, and-left, and-right, all-in, in-all, map-all, in-map, of-map, in-count, count-in}

@@ -5,9 +5,9 @@ use mathlib.Core.Path.{_≡_, refl, sym, ap, ap₂, _∙_, subst}
 use mathlib.Core.Bool.{Bool, true, false, cond, not, _&&_}
 use mathlib.Core.List.{List, [], _∷_, _++_, map, map-append}
 use mathlib.Core.Option.{Option, some, none}
-use Prim.Native.Nat.{ℕ, _+_, _<_}
+use Prim.Native.Nat.{ℕ, _+_, _≤_, _<_}
 use native.Mathlib.Omega.{arith}
-use borrow.Author.Tests.{eqb-true, ltb-true, not-true}
+use borrow.Author.Tests.{eqb-true, ltb-true, leb-true, not-true}
 use lib.Dec.{eqb, ltb, leb}
 use lib.ListN.{length, length-map}
 use Rattle.algebra.specs.Lists.{All, all[], all∷, In}
@@ -30,7 +30,8 @@ use Rattle.rules.specs.Server.{shareRefusal, oneRefusal, twoRefusal, dro
 use Rattle.rules.specs.Server.{whileOpen, whileOne, whileTwo, whileWaiting}
 use Rattle.rules.specs.Ledger.{Call, share, roundOne, roundTwo, drop, close, Answer, refused, wrote, judged, done, Note}
 use Rattle.rules.specs.Ledger.{Pending, waitsOne, waitsTwo, noteIn, pendingId, Progress, isOpen, isClosed}
-use Rattle.rules.specs.Ledger.{accepted, rejected, dropped, Decided, Ledger, idsOf, notesOf, closingMessage, noted, noteOf}
+use Rattle.rules.specs.Ledger.{accepted, rejected, dropped, Decided, Ledger, isAccepted, notesWith, idsOf, notesOf}
+use Rattle.rules.specs.Ledger.{closingMessage, noted, noteOf}
 use Rattle.rules.specs.Ledger.{ledgerWait, ledgerStage, ledgerState, refusalOf, decideAs, sumsNoted, ledgerAfter}
 use Rattle.rules.specs.Ledger.{secondAnswer, secondMessage, answerOf, ledgerStep, ledgerSays, runLedger, ledgerAnswers}
 use Rattle.rules.specs.WholeRun.{BytesIn, joinedIn, handedIn}
@@ -102,7 +103,7 @@ module _ (σ : Setting) (o : Opened) where
         (at (isOpen (without pendingId id ws)) (ds ++ (verdictOn (noteIn p) joined ∷ [])))
     drops : (ws : List Pending) (ds : List Decided) (id : ℕ) (p : Pending) → find pendingId id ws ≡ some p
         → Moves (at (isOpen ws) ds) done [] (at (isOpen (without pendingId id ws)) (ds ++ (dropOf (noteIn p) ∷ [])))
-    closes : (ds : List Decided)
+    closes : (ds : List Decided) → o .least ≤ length (notesWith isAccepted ds)
         → Moves (at (isOpen []) ds) (wrote (closingMessage σ o (at (isOpen []) ds))) [] (at isClosed ds)
 
   pub data History : Ledger → List Answer → List (List ℕ) → Ledger → Type 0 where
@@ -186,7 +187,7 @@ module _ (σ : Setting) (o : Opened) where
     drop-move none q e = absurd (omega arith)
     drop-move (some p) q e = drops ws ds id p q
 
-  -- where closing passes none waits
+  -- where closing passes none waits, and at least Q are accepted
   pub none-waits : (ws : List Pending) (n : ℕ) → orElse (check (eqb (length (map (ledgerWait σ o) ws)) 0) 11) n ≡ 0 → ws ≡ []
   none-waits [] n e = refl
   none-waits (w ∷ ws) n e =
@@ -195,10 +196,18 @@ module _ (σ : Setting) (o : Opened) where
       let none : length ts ≡ 0 = eqb-true _ _ (check-passed (eqb (length ts) 0) 10 (passed .0)) in
       absurd (omega (arith, many-told (w ∷ ws)))
 
-  close-move : (ws : List Pending) (ds : List Decided) → ws ≡ []
+  pub enough-accepted : (waits least rest : ℕ) (ds : List Decided)
+      → orElse (check (eqb waits 0) 11) (orElse (check (leb least (length (notesWith isAccepted ds))) 15) rest) ≡ 0
+      → least ≤ length (notesWith isAccepted ds)
+  enough-accepted waits least rest ds e =
+      let q = or-zero (check (eqb waits 0) 11) (orElse (check (leb least (length (notesWith isAccepted ds))) 15) rest) e in
+      let p = or-zero (check (leb least (length (notesWith isAccepted ds))) 15) rest (q .1) in
+      leb-true _ _ (check-passed (leb least (length (notesWith isAccepted ds))) 14 (p .0))
+
+  close-move : (ws : List Pending) (ds : List Decided) → ws ≡ [] → o .least ≤ length (notesWith isAccepted ds)
       → Moves (at (isOpen ws) ds) (wrote (closingMessage σ o (at (isOpen ws) ds))) [] (at isClosed ds)
-  close-move [] ds e = closes ds
-  close-move (w ∷ ws) ds e = absurd (let z : _≡_ {A = ℕ} 0 1 = cc in omega arith)
+  close-move [] ds e q = closes ds q
+  close-move (w ∷ ws) ds e q = absurd (let z : _≡_ {A = ℕ} 0 1 = cc in omega arith)
 
   passed : (p : Progress) (ds : List Decided) (c : Call) → BytesIn c → refusalOf σ o (at p ds) c ≡ 0
       → Moves (at p ds) (answerOf σ o (at p ds) c) (joinedIn σ o c) (ledgerAfter σ o (at p ds) c)
@@ -214,7 +223,8 @@ module _ (σ : Setting) (o : Opened) where
       (ap (λ (v : Option Wait). whileTwo v (twoFault ws ds id joined)) (sym (find-told id ws)) ∙ e)
   passed (isOpen ws) ds (drop id) b e =
       drop-move ws ds id [] (find pendingId id ws) refl (ap whileWaiting (sym (find-told id ws)) ∙ e)
-  passed (isOpen ws) ds (close room) b e = close-move ws ds (none-waits ws _ e)
+  passed (isOpen ws) ds (close room) b e =
+      close-move ws ds (none-waits ws _ e) (enough-accepted (length (map (ledgerWait σ o) ws)) (o .least) _ ds e)
   passed isClosed ds (share m r s room) b e = absurd (omega arith)
   passed isClosed ds (roundOne id joined room) b e = absurd (omega arith)
   passed isClosed ds (roundTwo id joined) b e = absurd (omega arith)

@@ -62,7 +62,7 @@ module _ (σ : Setting) (o : Opened) where
       (sym (changed-keeps pendingId id noteIn (sumsOf σ o joined) (keeps-note _ _) ws)) (rearranged-refl _))
   grows (judges ws ds id p joined q s) = same (decided-same ws ds id p _ refl q)
   grows (drops ws ds id p q) = same (decided-same ws ds id p _ refl q)
-  grows (closes ds) = same (rearranged-refl _)
+  grows (closes ds q) = same (rearranged-refl _)
 
   -- what holds of the shares noted
   pub record Sound (ns : List Note) : Type 0 where
@@ -139,7 +139,7 @@ module _ (σ : Setting) (o : Opened) where
   eight-step (drops ws ds id p q) e =
       let many : suc (length (without pendingId id ws)) ≡ length ws = rearranged-length (found-out pendingId id ws p q) in
       omega arith
-  eight-step (closes ds) e = omega arith
+  eight-step (closes ds q) e = omega arith
 
   pub eight-on : {l l′ : Ledger} {xs : List Answer} {hs : List (List ℕ)} → History σ o l xs hs l′
       → length (waiting (l .progress)) ≤ mostWaiting → length (waiting (l′ .progress)) ≤ mostWaiting

@@ -7,8 +7,9 @@ use mathlib.Core.Logic.{_⊎_, ⊎-elim, inl, inr}
 use mathlib.Core.Bool.{Bool, true, false, cond, true≢false}
 use mathlib.Core.List.{List, [], _∷_, _++_, map}
 use mathlib.Core.Option.{some}
-use Prim.Native.Nat.{ℕ, _<_}
+use Prim.Native.Nat.{ℕ, _≤_, _<_}
 use native.Mathlib.Omega.{arith}
+use lib.ListN.{length}
 use Rattle.algebra.specs.Lists.{In}
 use Rattle.algebra.proofs.Members.{in-append, append-in, in-map}
 use Rattle.rules.specs.Settings.{Setting}
@@ -16,8 +17,8 @@ use Rattle.rules.specs.Messages.{serverAt, bothZero}
 use Rattle.rules.specs.Keyed.{find, changed}
 use Rattle.rules.specs.Server.{Opened, messageOne}
 use Rattle.rules.specs.Ledger.{Answer, wrote, Note, Pending, waitsOne, noteIn, pendingId, Progress, isOpen, isClosed}
-use Rattle.rules.specs.Ledger.{accepted, rejected, Decided, Ledger, isAccepted, isDropped, notesOf, closingMessage, noted}
-use Rattle.rules.specs.Ledger.{secondAnswer}
+use Rattle.rules.specs.Ledger.{accepted, rejected, Decided, Ledger, isAccepted, isDropped, notesWith, notesOf}
+use Rattle.rules.specs.Ledger.{closingMessage, noted, secondAnswer}
 use Rattle.rules.specs.WholeRun.{notesIn}
 use Rattle.rules.proofs.Histories.Shuffled.{rearranged-in}
 use Rattle.rules.proofs.Histories.JoinedRuns.{Joined}
@@ -57,7 +58,7 @@ module _ (σ : Setting) (o : Opened) where
   first-origin (sums ws ds id n joined w s) m e = of-one n (found-in ws ds id (waitsOne n) joined w) joined (inl refl) s (cc)
   first-origin (judges ws ds id p joined w s) m q = absurd (let z : _≡_ {A = ℕ} 0 1 = cc in omega arith)
   first-origin (drops ws ds id p w) m e = absurd (let z : _≡_ {A = ℕ} 0 1 = cc in omega arith)
-  first-origin (closes ds) m e = of-close (at (isOpen []) ds) (cc)
+  first-origin (closes ds q) m e = of-close (at (isOpen []) ds) (cc)
 
   pub origin : {l l′ : Ledger} {xs : List Answer} {hs : List (List ℕ)} → History σ o l xs hs l′
       → (m : List ℕ) → In (wrote m) xs → Origin (notesIn l′) hs m
@@ -80,7 +81,7 @@ module _ (σ : Setting) (o : Opened) where
   first-named (sums ws ds id n run w s) joined k = only-named 34 (n .id) run joined s k
   first-named (judges ws ds id p run w s) joined k = only-named 35 (noteIn p .id) run joined s k
   first-named (drops ws ds id p w) joined k = absurd k
-  first-named (closes ds) joined k = absurd k
+  first-named (closes ds q) joined k = absurd k
 
   pub handed-named : {l l′ : Ledger} {xs : List Answer} {hs : List (List ℕ)} → History σ o l xs hs l′
       → (joined : List ℕ) → In joined hs → Named joined
@@ -126,7 +127,7 @@ module _ (σ : Setting) (o : Opened) where
       ⊎-elim (λ q. inl q)
       (λ (q : dropOf σ o (noteIn p) ≡ k). absurd (true≢false (ap (λ (v : Decided). isDropped (v .decision)) q ∙ f)))
       (last-or ds (dropOf σ o (noteIn p)) k h)
-  first-judged (closes ds) k h f = inl h
+  first-judged (closes ds q) k h f = inl h
 
   pub judged-on : {l l′ : Ledger} {xs : List Answer} {hs : List (List ℕ)} → History σ o l xs hs l′
       → (k : Decided) → In k (l′ .decided) → isDropped (k .decision) ≡ false → In k (l .decided) ⊎ JudgedOn hs k
@@ -148,31 +149,38 @@ module _ (σ : Setting) (o : Opened) where
   move-closed (sums ws ds id n joined w s) e = absurd (true≢false (sym e))
   move-closed (judges ws ds id p joined w s) e = absurd (true≢false (sym e))
   move-closed (drops ws ds id p w) e = absurd (true≢false (sym e))
-  move-closed (closes ds) e = absurd (true≢false (sym e))
+  move-closed (closes ds q) e = absurd (true≢false (sym e))
 
-  stays-closed : {l l′ : Ledger} {xs : List Answer} {hs : List (List ℕ)} → History σ o l xs hs l′
+  pub stays-closed : {l l′ : Ledger} {xs : List Answer} {hs : List (List ℕ)} → History σ o l xs hs l′
       → ended (l .progress) ≡ true → l′ ≡ l
   stays-closed (over l) e = refl
   stays-closed (next mv r) e =
       let q = move-closed mv e in
       stays-closed r (ap (λ (v : Ledger). ended (v .progress)) q ∙ e) ∙ q
 
+  -- at least Q are accepted
+  abbrev pub Enough : Ledger → Type 0
+  Enough l = o .least ≤ length (notesWith isAccepted (l .decided))
+
   first-closing : {l l′ : Ledger} {a : Answer} {h : List (List ℕ)} → Moves σ o l a h l′ → ended (l′ .progress) ≡ true
-      → (ended (l .progress) ≡ true) ⊎ (a ≡ wrote (closingMessage σ o l′))
+      → (ended (l .progress) ≡ true) ⊎ ((a ≡ wrote (closingMessage σ o l′)) × Enough l′)
   unfolding closingMessage
   first-closing (stays l n) e = inl e
   first-closing (notes ws ds n t) e = absurd (true≢false (sym e))
   first-closing (sums ws ds id n joined w s) e = absurd (true≢false (sym e))
   first-closing (judges ws ds id p joined w s) e = absurd (true≢false (sym e))
   first-closing (drops ws ds id p w) e = absurd (true≢false (sym e))
-  first-closing (closes ds) e = inr refl
+  first-closing (closes ds q) e = inr (refl, q)
 
   pub closing-written : {l l′ : Ledger} {xs : List Answer} {hs : List (List ℕ)} → History σ o l xs hs l′
-      → ended (l′ .progress) ≡ true → (ended (l .progress) ≡ true) ⊎ In (wrote (closingMessage σ o l′)) xs
+      → ended (l′ .progress) ≡ true → (ended (l .progress) ≡ true) ⊎ (In (wrote (closingMessage σ o l′)) xs × Enough l′)
   closing-written (over l) e = inl e
   closing-written (next mv r) e =
       ⊎-elim
       (λ old. ⊎-elim (λ q. inl q)
-      (λ q. inr (inl (q ∙ ap (λ (v : Ledger). wrote (closingMessage σ o v)) (sym (stays-closed r old)))))
+      (λ q. inr (
+        inl (q .0 ∙ ap (λ (v : Ledger). wrote (closingMessage σ o v)) (sym (stays-closed r old))),
+        subst Enough (sym (stays-closed r old)) (q .1),
+      ))
       (first-closing mv old))
-      (λ new. inr (inr new)) (closing-written r e)
+      (λ new. inr (inr (new .0), new .1)) (closing-written r e)

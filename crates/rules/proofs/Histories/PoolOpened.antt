@@ -16,8 +16,9 @@ module _ (σ : Setting) (𝓟 : Pool σ) where
   abbrev lent : Lent
   lent = 𝓟 .buffers 0
 
-  pub opened : Opening σ (𝓟 .servers) 0 (𝓟 .sheet) (𝓟 .returns) (length (lent .bytes)) (length (lent .slots)) (length (lent .elements))
-  opened = opening σ (𝓟 .servers) 0 (𝓟 .sheet) (𝓟 .returns) _ _ _ (𝓟 .opens 0 (𝓟 .some-server))
+  pub opened : Opening σ (𝓟 .servers) 0 (𝓟 .sheet) (𝓟 .returns) (𝓟 .least)
+      (length (lent .bytes)) (length (lent .slots)) (length (lent .elements))
+  opened = opening σ (𝓟 .servers) 0 (𝓟 .sheet) (𝓟 .returns) (𝓟 .least) _ _ _ (𝓟 .opens 0 (𝓟 .some-server))
 
   pub is-read : readSheet (𝓟 .sheet) ≡ ok (columns σ 𝓟)
   is-read = sheet-read (𝓟 .sheet) (opened .no-fault)

@@ -14,7 +14,7 @@ use Rattle.algebra.specs.Sums.{sum}
 use Rattle.algebra.proofs.Members.{in-count, length-count}
 use Rattle.algebra.proofs.Rearrangement.{rearranged-sym, rearranged-length, rearranged-sum, sum-map, sum-cong}
 use Rattle.rules.specs.Settings.{Setting, Facts}
-use Rattle.rules.specs.Messages.{kindIn, idIn, serverIn, firstIn, secondIn, roundMessage, roundLength, roundSound, roundFault}
+use Rattle.rules.specs.Messages.{serverIn, firstIn, secondIn, roundMessage, roundLength, roundSound, roundFault}
 use Rattle.rules.specs.Messages.{firstSum, secondSum}
 use Rattle.rules.specs.AnyOrder.{SomeOrder}
 use Rattle.rules.proofs.Histories.MessageBytes.{length-round, round-kind, round-id, round-server, round-first, round-second}

@@ -11,7 +11,7 @@ use lib.Dec.{eqb}
 use lib.ListN.{length, getD}
 use Rattle.algebra.specs.Lists.{In, Rearranged, sumOver}
 use Rattle.algebra.specs.Modulo.{modulo}
-use Rattle.algebra.proofs.Members.{all-in}
+use Rattle.algebra.proofs.Members.{all-in, map-same}
 use Rattle.algebra.proofs.Sums.{sum-ext}
 use Rattle.algebra.proofs.Rearrangement.{rearranged-sym, rearranged-sum, sum-cong}
 use Rattle.words.proofs.Below.{all-of-below}
@@ -32,7 +32,7 @@ use Rattle.rules.proofs.Histories.Shuffled.{rearranged-in}
 use Rattle.rules.proofs.Returns.OnSheets.{sheet-entries-add-up}
 use Rattle.rules.proofs.Histories.PoolOpened.{is-read, limited}
 use Rattle.rules.proofs.Histories.ClosingBytes.{getD-map}
-use Rattle.rules.proofs.Runs.WholeTotals.{map-same, closed-together}
+use Rattle.rules.proofs.Runs.WholeTotals.{closed-together}
 
 -- ones and zeros added up are a number of members
 ones-count : (t : ℕ → Bool) (s : List ℕ) → sumOver (λ x. cond (t x) 1 0) s ≡ howMany t s

@@ -2,11 +2,10 @@
 -- its form. Shares past the last server count for nothing, so they may be taken as 0. Assumes nothing.
 use mathlib.Core.Path.{_≡_, refl, ap, subst}
 use mathlib.Core.Bool.{Bool, true, false, cond}
-use mathlib.Core.Logic.{inl, inr}
 use mathlib.Core.List.{List, [], _∷_}
 use Prim.Native.Nat.{ℕ, zero, suc, _+_, _-_, _*_, _≤_, _<_, max}
 use borrow.Author.Tests.{ltb-true, lt-ltb}
-use lib.Dec.{eqb, ltb}
+use lib.Dec.{ltb}
 use lib.ListN.{getD}
 use Rattle.algebra.specs.Lists.{All, all[], all∷, In}
 use Rattle.algebra.specs.Modulo.{modulo}

@@ -1,11 +1,11 @@
 -- Fields 2, 3 and 4 of demand 3: when all servers have closed, the accepted ids are the same at each, and joining the
 -- closing messages is refused 14 at most and gives their number and the sums of the added-up published entries. Sums over
 -- servers and over ids may be taken in either order. Assumes the conditions of whole runs.
-use mathlib.Core.Path.{_≡_, refl, sym, ap, _∙_}
+use mathlib.Core.Path.{_≡_, sym, ap, _∙_}
 use mathlib.Core.Bool.{true}
-use mathlib.Core.List.{List, _++_, map}
-use Prim.Native.Nat.{ℕ, zero, suc, _+_, _*_, _%_, _≤_, _<_}
-use native.Mathlib.Nat.{mod-lt, mul-zero, zero-add}
+use mathlib.Core.List.{List, map}
+use Prim.Native.Nat.{ℕ, _+_, _*_, _%_, _≤_, _<_}
+use native.Mathlib.Nat.{mod-lt, mul-zero}
 use native.Mathlib.Omega.{arith}
 use borrow.Author.Tests.{eq-eqb, le-leb}
 use lib.Dec.{leb}

@@ -1,13 +1,13 @@
 -- "13 is given when they reach it; .. An id that waits is refused 10; a ninth return, an id not waiting, or a close while any
--- waits is refused 11." Of a ledger where the returns ws wait and ds are decided; each by computing the first check that
--- fails. Assumes nothing.
+-- waits is refused 11." "too few accepted is refused 15". Of a ledger where the returns ws wait and ds are decided; each by
+-- computing the first check that fails. Assumes nothing.
 use mathlib.Core.Path.{_≡_, refl, ap, _∙_}
-use mathlib.Core.Bool.{Bool, true, false}
-use mathlib.Core.List.{List, _++_, map}
+use mathlib.Core.Bool.{Bool, true, false, cond}
+use mathlib.Core.List.{List, [], _∷_, _++_, map}
 use mathlib.Core.Option.{some, none}
-use Prim.Native.Nat.{ℕ, _+_, _<_}
+use Prim.Native.Nat.{ℕ, _+_, _≤_, _<_}
 use native.Mathlib.Omega.{arith}
-use borrow.Author.Tests.{lt-ltb, ltb-true, ne-eqb}
+use borrow.Author.Tests.{lt-ltb, le-leb, lt-leb, ltb-true, ne-eqb}
 use lib.Dec.{ltb}
 use lib.ListN.{length}
 use Rattle.algebra.specs.Lists.{In}
@@ -16,9 +16,9 @@ use Rattle.rules.specs.Settings.{Setting}
 use Rattle.rules.specs.Messages.{idIn, headerFault, elementsFault}
 use Rattle.rules.specs.Keyed.{find}
 use Rattle.rules.specs.Server.{Opened, Wait, heldId, mostWaiting, isMember, whileOpen, whileOne, whileTwo, whileWaiting}
-use Rattle.rules.specs.Server.{shareRefusal, oneRefusal, twoRefusal, dropRefusal, closeRefusal}
-use Rattle.rules.specs.Ledger.{share, roundOne, roundTwo, drop, close, Note, Pending, waitsOne, waitsTwo, noteIn}
-use Rattle.rules.specs.Ledger.{pendingId, isOpen, Decided}
+use Rattle.rules.specs.Server.{totalsLength, shareRefusal, oneRefusal, twoRefusal, dropRefusal, closeRefusal}
+use Rattle.rules.specs.Ledger.{Call, share, roundOne, roundTwo, drop, close, Note, Pending, waitsOne, waitsTwo, noteIn}
+use Rattle.rules.specs.Ledger.{pendingId, isOpen, Decided, Ledger, isAccepted, notesWith, ledgerAfter, ledgerStep, runLedger}
 use Rattle.rules.specs.Ledger.{idsOf, notesOf, ledgerWait, ledgerStage, ledgerState, refusalOf}
 use Rattle.rules.proofs.Histories.Keyed.{in-member, not-found, through}
 use Rattle.rules.proofs.Histories.Moves.{at, many-used, many-told, all-ids, find-told}
@@ -84,12 +84,12 @@ module _ (σ : Setting) (o : Opened) (ws : List Pending) (ds : List Decided) whe
   -- an id that waits in the other stage
   pub second-wait-one : (id : ℕ) (n : Note) (d e : ℕ) → find pendingId id ws ≡ some (waitsTwo n d e) → (joined : List ℕ) (room : ℕ)
       → refusalOf σ o (at (isOpen ws) ds) (roundOne id joined room) ≡ 11
-  unfolding refusalOf ledgerState ledgerStage oneRefusal whileOpen whileOne ledgerWait through
+  unfolding refusalOf ledgerState ledgerStage oneRefusal whileOpen whileOne ledgerWait
   second-wait-one id n d e h joined room = rw (find-told σ o id ws, h) refl
 
   pub first-wait-two : (id : ℕ) (n : Note) → find pendingId id ws ≡ some (waitsOne n) → (joined : List ℕ)
       → refusalOf σ o (at (isOpen ws) ds) (roundTwo id joined) ≡ 11
-  unfolding refusalOf ledgerState ledgerStage twoRefusal whileOpen whileTwo ledgerWait through
+  unfolding refusalOf ledgerState ledgerStage twoRefusal whileOpen whileTwo ledgerWait
   first-wait-two id n h joined = rw (find-told σ o id ws, h) refl
 
   -- "a close while any waits is refused 11"
@@ -98,3 +98,42 @@ module _ (σ : Setting) (o : Opened) (ws : List Pending) (ds : List Decided) whe
   close-waiting h room =
       let some : length ts ≡ 0 → ⊥ = λ e. omega (arith, many-told σ o ws) in
       rw (ne-eqb (length ts) 0 some) refl
+
+-- none waits
+module _ (σ : Setting) (o : Opened) (ds : List Decided) where
+  abbrev open-at : Ledger
+  open-at = at (isOpen []) ds
+
+  -- a refused call leaves the ledger
+  kept : (c : Call) → (refusalOf σ o open-at c ≡ 0 → ⊥) → ledgerStep σ o open-at c (refusalOf σ o open-at c) ≡ open-at
+  kept c h = ap (λ (b : Bool). cond b (ledgerAfter σ o open-at c) open-at) (ne-eqb (refusalOf σ o open-at c) 0 h)
+
+  -- at least Q are accepted
+  pub reached : o .least ≤ length (notesWith isAccepted ds) → (room : ℕ) → totalsLength σ o ≤ room
+      → refusalOf σ o open-at (close room) ≡ 0
+  unfolding refusalOf ledgerState ledgerStage closeRefusal whileOpen orElse
+  reached h room l = rw (le-leb (o .least) (length (notesWith isAccepted ds)) h, le-leb (totalsLength σ o) room l) refl
+
+  -- "too few accepted is refused 15"
+  pub too-few : length (notesWith isAccepted ds) < o .least → (room : ℕ) → refusalOf σ o open-at (close room) ≡ 15
+  unfolding refusalOf ledgerState ledgerStage closeRefusal whileOpen orElse
+  too-few h room = rw (lt-leb (o .least) (length (notesWith isAccepted ds)) h) refl
+
+  -- with fewer and N decided every call is refused
+  module _ (few : length (notesWith isAccepted ds) < o .least) where
+    pub few-kept : (room : ℕ) → runLedger σ o open-at (close room ∷ []) ≡ open-at
+    unfolding runLedger
+    few-kept room = kept (close room) (λ e. omega (arith, too-few few room))
+
+    module _ (all : length ds ≡ o .returns) where
+      nothing-taken : (c : Call) → refusalOf σ o open-at c ≡ 0 → ⊥
+      nothing-taken (share m r s room) e = omega (arith, full σ o [] ds (omega arith) (omega arith) m r s room)
+      nothing-taken (roundOne id joined room) e = omega (arith, not-waiting-one σ o [] ds id (λ h. h) joined room)
+      nothing-taken (roundTwo id joined) e = omega (arith, not-waiting-two σ o [] ds id (λ h. h) joined)
+      nothing-taken (drop id) e = omega (arith, not-waiting-drop σ o [] ds id (λ h. h))
+      nothing-taken (close room) e = omega (arith, too-few few room)
+
+      pub stays-shut : (cs : List Call) → runLedger σ o open-at cs ≡ open-at
+      unfolding runLedger
+      stays-shut [] = refl
+      stays-shut (c ∷ cs) = ap (λ (l : Ledger). runLedger σ o l cs) (kept c (nothing-taken c)) ∙ stays-shut cs

@@ -72,7 +72,7 @@ module _ (t : Decision → Bool) where
       go true a = distinct∷ (in-all (idsOf (notesWith t ks)) apart) a
       go false a = a
 
-  with-length : (ks : List Decided) → length (notesWith t ks) ≤ length ks
+  pub with-length : (ks : List Decided) → length (notesWith t ks) ≤ length ks
   unfolding notesWith
   with-length [] = omega arith
   with-length (k ∷ ks) = go (t (k .decision)) (with-length ks)

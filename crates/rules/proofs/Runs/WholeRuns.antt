@@ -16,6 +16,7 @@ use Rattle.rules.proofs.Runs.Verdicts.{verdict, honest}
 use Rattle.rules.proofs.Runs.Handled.{handled, handled-mixed}
 use Rattle.rules.proofs.Runs.Mixed.{mixing, bytes-on}
 use Rattle.rules.proofs.Runs.WithinLimits.{within-returns, at-most-eight, once}
+use Rattle.rules.proofs.Runs.Enough.{closed-enough, totals-enough, close-done, refused-15, shut}
 
 -- 9, on the table
 alone : (σ : Setting) → Facts σ → (𝓟 : Pool σ) → (i : ℕ) → i < 𝓟 .servers → (id : ℕ)
@@ -43,6 +44,11 @@ whole-run σ facts 𝓟 = record {
   holds = records-hold σ facts 𝓟;
   unused = unused-zero σ facts 𝓟;
   erased = erased-zero σ facts 𝓟;
+  closed-enough = closed-enough σ 𝓟;
+  totals-enough = λ i l. totals-enough σ 𝓟 i l facts;
+  closes = close-done σ 𝓟;
+  too-few = refused-15 σ 𝓟;
+  stays-shut = shut σ 𝓟;
 }
 
 -- at the setting of document 01

@@ -1,17 +1,15 @@
 -- Where every accepted return keeps its form the totals are the sums themselves: the added-up entries are then encodings
 -- of legal values, and N times a published one stays below p. With this the fields 2, 3 and 4 of demand 3 stand together.
 -- Assumes the conditions of whole runs.
-use mathlib.Core.Path.{_≡_, refl, ap, _∙_}
-use mathlib.Core.Logic.{⊎-elim, inl, inr}
-use mathlib.Core.Bool.{true, false, false≢true}
-use mathlib.Core.List.{List, [], _∷_, map}
+use mathlib.Core.Path.{_≡_, _∙_}
+use mathlib.Core.List.{map}
 use Prim.Native.Nat.{ℕ, _*_, _%_, _≤_, _<_}
 use native.Mathlib.Nat.{mod-le, mod-eq-of-lt, mul-le-mul-right}
 use native.Mathlib.Omega.{arith}
 use lib.ListN.{getD}
 use Rattle.algebra.specs.Lists.{In, sumOver}
 use Rattle.algebra.specs.Modulo.{modulo}
-use Rattle.algebra.proofs.Members.{all-in}
+use Rattle.algebra.proofs.Members.{all-in, map-same}
 use Rattle.rules.specs.Settings.{Setting, Facts}
 use Rattle.rules.specs.Columns.{publishedFrom}
 use Rattle.rules.specs.Values.{Encodes, encoding}
@@ -25,16 +23,10 @@ use Rattle.rules.proofs.Circuits.Published.{published-fits}
 use Rattle.rules.proofs.Histories.Opening.{positive}
 use Rattle.rules.proofs.Histories.OwnMessages.{sum-below}
 use Rattle.rules.proofs.Histories.PoolOpened.{opened, is-read, limited, returns-limits}
-use Rattle.rules.proofs.Histories.Origins.{ended, closing-written}
-use Rattle.rules.proofs.Runs.Agreement.{history-at}
+use Rattle.rules.proofs.Runs.Enough.{closed-writes, closed-enough}
 use Rattle.rules.proofs.Runs.SameIds.{distinct-accepted, same-ids}
 use Rattle.rules.proofs.Histories.ClosingBytes.{small-sum}
 use Rattle.rules.proofs.Runs.JoinedTotals.{few-ids, count-is, joins, totals}
-
--- equal at each member
-pub map-same : (f g : ℕ → ℕ) (xs : List ℕ) → ((x : ℕ) → In x xs → f x ≡ g x) → map f xs ≡ map g xs
-map-same f g [] h = refl
-map-same f g (x ∷ xs) h = λ t. h x (inl refl) t ∷ map-same f g xs (λ z k. h z (inr k)) t
 
 module _ (σ : Setting) (facts : Facts σ) (𝓟 : Pool σ) (𝓒 : Conditions σ 𝓟) (closed : AllClosed σ 𝓟) where
   entry-below : (id e : ℕ) → addedEntry σ 𝓟 id e < σ .modulus
@@ -66,10 +58,7 @@ module _ (σ : Setting) (facts : Facts σ) (𝓟 : Pool σ) (𝓒 : Conditions �
 
   wrote-closing : (i : ℕ) → i < 𝓟 .servers
       → In (wrote (closingMessage σ (openedAt σ 𝓟 i) (ledgerAt σ 𝓟 i))) (answersAt σ 𝓟 i)
-  wrote-closing i l =
-      let o = openedAt σ 𝓟 i in
-      ⊎-elim (λ (e : false ≡ true). absurd (false≢true e)) (λ h. h)
-      (closing-written σ o (history-at σ 𝓟 i l) (ap (ended σ o) (closed i l)))
+  wrote-closing i l = closed-writes σ 𝓟 i l (closed i l) .0
 
   -- 2, 3, 4
   pub closed-together : Closed σ 𝓟
@@ -81,6 +70,7 @@ module _ (σ : Setting) (facts : Facts σ) (𝓟 : Pool σ) (𝓒 : Conditions �
     wrote-closing = wrote-closing;
     joins = joins σ facts 𝓟 𝓒 closed;
     count = count-is σ facts 𝓟 𝓒 closed;
+    enough = rw (count-is σ facts 𝓟 𝓒 closed) (closed-enough σ 𝓟 0 (𝓟 .some-server) (closed 0 (𝓟 .some-server)));
     totals = totals σ facts 𝓟 𝓒 closed;
     whole = whole;
   }

@@ -98,6 +98,7 @@ module _ (σ : Setting) (cs : List Column) (g : Parts) (z : Sized σ cs g) (id :
       sheet-fits = z .sheet-fits;
       decided-few = omega arith;
       accepted-few = omega (arith, z .accepted-few);
+      least-few = z .least-few;
     }
 
     decided-sized : Sized σ cs (decidedParts a t)

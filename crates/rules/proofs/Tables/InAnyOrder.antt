@@ -3,14 +3,14 @@
 -- A run in server order is one of the orders. Assumes nothing.
 use mathlib.Core.Path.{_≡_, refl, sym, ap, ap₂, _∙_}
 use mathlib.Core.Bool.{Bool, true, false, cond, _&&_}
-use mathlib.Core.List.{List, map, flatten}
+use mathlib.Core.List.{List, flatten}
 use mathlib.Core.Option.{Option, some, none}
 use Prim.Native.Nat.{ℕ, _*_, _%_, _<_}
 use native.Mathlib.Omega.{arith}
 use borrow.Author.Tests.{eqb-true}
 use lib.Dec.{eqb, leb}
 use lib.ListN.{length, set}
-use Rattle.algebra.specs.Lists.{All, Rearranged, every, countFrom}
+use Rattle.algebra.specs.Lists.{Rearranged, every, countFrom}
 use Rattle.algebra.proofs.Members.{and-left, and-right}
 use Rattle.algebra.proofs.Rearrangement.{rearranged-refl, rearranged-length, rearranged-sum}
 use Rattle.words.specs.Bytes.{sameBytes}
@@ -24,12 +24,12 @@ use Rattle.rules.specs.Messages.{secondSum, bothZero}
 use Rattle.rules.specs.Keyed.{find}
 use Rattle.rules.specs.Server.{Waiting, Wait, awaitsOne, awaitsTwo, heldId, Stage, takes, closed, Opened, ServerState}
 use Rattle.rules.specs.Server.{summed, withSums, messageOne, messageTwo, whileOpen, whileOne, whileTwo, oneRefusal, twoRefusal}
-use Rattle.rules.specs.Ledger.{Call, share, roundOne, roundTwo, drop, close, Answer, refused, wrote, judged}
+use Rattle.rules.specs.Ledger.{Call, share, roundOne, roundTwo, drop, close, refused, wrote, judged}
 use Rattle.rules.specs.WaitingList.{placeOf, slotOf, stageTwo}
 use Rattle.rules.specs.Table.{Lent, tableFault, tableState, waitingUnder, oneRefused, oneTable, oneBytes}
 use Rattle.rules.specs.Table.{decidedBytes, decidedTable, addedBytes, twoRefused, twoVerdict, twoTable}
 use Rattle.rules.specs.Runs.{tableRefusal, tableAfter, tableAnswer, tableSays, tableStep}
-use Rattle.rules.specs.AnyOrder.{faultInOrder, oneInOrder, twoInOrder, refusalInOrder, SameCall, SomeOrder, AnyOrder}
+use Rattle.rules.specs.AnyOrder.{faultInOrder, oneInOrder, twoInOrder, refusalInOrder, SameCall, AnyOrder}
 use Rattle.rules.proofs.Histories.MessageBytes.{Sized, flatten-cut}
 use Rattle.rules.proofs.Histories.Checks.{check-passed, every-at}
 use Rattle.rules.proofs.Histories.Shuffled.{rearranged-all}

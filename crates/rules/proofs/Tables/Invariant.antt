@@ -10,7 +10,7 @@ use lib.ListN.{length, take, drop, replicate}
 use Rattle.words.specs.Bytes.{elementsOf, allBelow}
 use Rattle.records.specs.Outcome.{ok}
 use Rattle.rules.specs.Settings.{Setting}
-use Rattle.rules.specs.Columns.{within, readSheet, totalsFit}
+use Rattle.rules.specs.Columns.{within, leastFits, readSheet, totalsFit}
 use Rattle.rules.specs.Server.{Opened, Stage, ServerState}
 use Rattle.rules.specs.WaitingList.{waitingCount, waitsIn}
 use Rattle.rules.specs.Table.{Lent, stageOpen, stageClosed, openedIn, tableState, tableFault}
@@ -27,6 +27,7 @@ pub record Opens (σ : Setting) (o : Opened) (sheet : List ℕ) : Type 0 where
   pub servers-fit : within 2 8 (o .servers) ≡ true
   pub own-fits : ltb (o .own) (o .servers) ≡ true
   pub returns-fit : within 1 1024 (o .returns) ≡ true
+  pub least-fits : leastFits (o .returns) (o .least) ≡ true
   pub totals-fit : totalsFit σ (o .returns) (o .columns) ≡ true
 
 -- the stage byte of a table
@@ -36,10 +37,11 @@ stageOf isClosed = stageClosed
 
 module _ (σ : Setting) (o : Opened) where
   -- the header says what the table was opened with
-  pub record OpenedAs (servers own returns : ℕ) : Type 0 where
+  pub record OpenedAs (servers own returns least : ℕ) : Type 0 where
     pub servers-are : servers ≡ o .servers
     pub own-is : own ≡ o .own
     pub returns-are : returns ≡ o .returns
+    pub least-is : least ≡ o .least
 
   -- the counts, ids and totals are those of the decided returns
   pub record Tells (ds : List Decided) (decided accepted : ℕ) (totals ids : List ℕ) : Type 0 where
@@ -54,7 +56,7 @@ module _ (σ : Setting) (o : Opened) where
     pub parts : Parts
     pub is : T .bytes ≡ assemble σ parts
     pub sized : Sized σ (o .columns) parts
-    pub opened-as : OpenedAs (parts .servers) (parts .own) (parts .returns)
+    pub opened-as : OpenedAs (parts .servers) (parts .own) (parts .returns) (parts .least)
     pub tells : Tells (l .decided) (parts .decided) (parts .accepted) (parts .totals) (parts .ids)
     pub staged : parts .stage ≡ stageOf (l .progress)
     pub listed : Listed σ o (waiting (l .progress)) (T .slots) (T .elements)
@@ -82,6 +84,7 @@ module _ (σ : Setting) (o : Opened) where
           own = b .opened-as .own-is i;
           columns = o .columns;
           returns = b .opened-as .returns-are i;
+          least = b .opened-as .least-is i;
         }
 
     -- the table knows what the ledger tells
@@ -93,7 +96,13 @@ module _ (σ : Setting) (o : Opened) where
         ∙ λ i. record {
           opened =
               let h = b .opened-as in
-              record { servers = h .servers-are i; own = h .own-is i; columns = o .columns; returns = h .returns-are i };
+              record {
+                servers = h .servers-are i;
+                own = h .own-is i;
+                columns = o .columns;
+                returns = h .returns-are i;
+                least = h .least-is i;
+              };
           stage = stageAt (b .staged i) (waitsIn (o .columns) (T .slots) (T .elements));
           used = b .tells .used-are i;
           accepted = b .tells .accepted-is i;
@@ -111,6 +120,7 @@ module _ (σ : Setting) (o : Opened) where
         servers-fit = rw (b .opened-as .servers-are) (open-facts .servers-fit);
         own-fits = rw (b .opened-as .own-is, b .opened-as .servers-are) (open-facts .own-fits);
         returns-fit = rw (b .opened-as .returns-are) (open-facts .returns-fit);
+        least-fits = rw (b .opened-as .returns-are, b .opened-as .least-is) (open-facts .least-fits);
         totals-fit = rw (b .opened-as .returns-are) (open-facts .totals-fit);
         stage-fits = omega (arith, b .staged, stage-most (l .progress));
         decided-fit = omega (

@@ -21,7 +21,7 @@ use Rattle.rules.specs.Settings.{Setting, Facts}
 use Rattle.rules.specs.Columns.{Column, columnsOf, publishedIn, publishedFrom}
 use Rattle.rules.specs.Server.{Opened, mostWaiting}
 use Rattle.rules.specs.WaitingList.{placeSize, runSize, numbersAt, waitAt, recordsFrom, present, freeList}
-use Rattle.rules.specs.Table.{Lent, stageOpen, tableLength, openLength, openRoom, openBytes, openedTable}
+use Rattle.rules.specs.Table.{Lent, stageOpen, headerLength, tableLength, openLength, openRoom, openBytes, openedTable}
 use Rattle.rules.specs.Ledger.{Call, empty, notesWith, ledgerTotals, ledgerAnswers}
 use Rattle.rules.specs.Runs.{runTable, tableAnswers}
 use Rattle.rules.specs.WholeRun.{BytesIn, opensIn, Pool, columns, openedAt, tableAt, ledgerAt, answersAt}
@@ -100,16 +100,16 @@ module _ (σ : Setting) (o : Opened) (es : List ℕ) (enough : runSize (o .colum
     ids-fit = all[];
   }
 
-module _ (σ : Setting) (facts : Facts σ) (servers own : ℕ) (sheet : List ℕ) (returns : ℕ) (B : Lent)
-    (opens : opensIn σ servers own sheet returns B ≡ 0) where
+module _ (σ : Setting) (facts : Facts σ) (servers own : ℕ) (sheet : List ℕ) (returns least : ℕ) (B : Lent)
+    (opens : opensIn σ servers own sheet returns least B ≡ 0) where
   abbrev cs : List Column
   cs = columnsOf sheet
 
   abbrev o : Opened
-  o = record { servers = servers; own = own; columns = cs; returns = returns }
+  o = record { servers = servers; own = own; columns = cs; returns = returns; least = least }
 
-  known-open : Opening σ servers own sheet returns (length (B .bytes)) (length (B .slots)) (length (B .elements))
-  known-open = opening σ servers own sheet returns (length (B .bytes)) (length (B .slots)) (length (B .elements)) opens
+  known-open : Opening σ servers own sheet returns least (length (B .bytes)) (length (B .slots)) (length (B .elements))
+  known-open = opening σ servers own sheet returns least (length (B .bytes)) (length (B .slots)) (length (B .elements)) opens
 
   limited : Limits sheet cs
   limited = sheet-limits sheet (known-open .no-fault)
@@ -120,6 +120,7 @@ module _ (σ : Setting) (facts : Facts σ) (servers own : ℕ) (sheet : List ℕ
     servers-fit = known-open .servers-fit;
     own-fits = known-open .own-fits;
     returns-fit = known-open .returns-fit;
+    least-fits = known-open .least-fits;
     totals-fit = known-open .totals-fit;
   }
 
@@ -139,19 +140,20 @@ module _ (σ : Setting) (facts : Facts σ) (servers own : ℕ) (sheet : List ℕ
     returns = returns;
     decided = 0;
     accepted = 0;
+    least = least;
     sheet = sheet;
     totals = replicate (σ .width * publishedIn cs) 0;
     ids = replicate (4 * returns) 0;
-    rest = drop (0 + length (openBytes σ servers own sheet returns)) (B .bytes);
+    rest = drop (0 + length (openBytes σ servers own sheet returns least)) (B .bytes);
   }
 
-  zeros-are : replicate (openLength σ sheet returns - (12 + length sheet)) 0 ≡ parts .totals ++ parts .ids
+  zeros-are : replicate (openLength σ sheet returns - (headerLength + length sheet)) 0 ≡ parts .totals ++ parts .ids
   unfolding openLength tableLength
   zeros-are =
-      let size : openLength σ sheet returns - (12 + length sheet) ≡ σ .width * publishedIn cs + 4 * returns = omega arith in
+      let size : openLength σ sheet returns - (headerLength + length sheet) ≡ σ .width * publishedIn cs + 4 * returns = omega arith in
       ap (λ (k : ℕ). replicate k 0) size ∙ sym (replicate-append-replicate (σ .width * publishedIn cs) (4 * returns) 0)
 
-  opened-parts : splice (B .bytes) 0 (openBytes σ servers own sheet returns) ≡ assemble σ parts
+  opened-parts : splice (B .bytes) 0 (openBytes σ servers own sheet returns least) ≡ assemble σ parts
   unfolding splice openBytes assemble bytesOf
   opened-parts =
       ap (λ (z : List ℕ). header σ parts ++ (sheet ++ z) ++ parts .rest) zeros-are
@@ -173,7 +175,7 @@ module _ (σ : Setting) (facts : Facts σ) (servers own : ℕ) (sheet : List ℕ
       each [] = refl
       each (e ∷ l) = ap₂ (λ (a : ℕ) (b : List ℕ). a ∷ b) (sym (zero-mod (σ .modulus))) (each l)
 
-  pub opened-beside : Beside σ o (openedTable σ servers own sheet returns B) empty
+  pub opened-beside : Beside σ o (openedTable σ servers own sheet returns least B) empty
   unfolding notesWith elementsOf tabulate
   opened-beside =
       let few = within-both 1 1024 returns (known-open .returns-fit) in
@@ -188,8 +190,9 @@ module _ (σ : Setting) (facts : Facts σ) (servers own : ℕ) (sheet : List ℕ
           sheet-fits = omega (arith, limited .bytes-most, limited .entries-most);
           decided-few = omega arith;
           accepted-few = omega arith;
+          least-few = within-both 1 returns least (known-open .least-fits) .1;
         };
-        opened-as = record { servers-are = refl; own-is = refl; returns-are = refl };
+        opened-as = record { servers-are = refl; own-is = refl; returns-are = refl; least-is = refl };
         tells = record {
           decided-is = refl;
           accepted-is = refl;
@@ -211,13 +214,13 @@ module _ (σ : Setting) (facts : Facts σ) (𝓟 : Pool σ) (i : ℕ) (h : i < �
   S = 𝓟 .servers
 
   opened-at : Opens σ (openedAt σ 𝓟 i) (𝓟 .sheet)
-  opened-at = open-facts σ facts S i (𝓟 .sheet) (𝓟 .returns) (𝓟 .buffers i) (𝓟 .opens i h)
+  opened-at = open-facts σ facts S i (𝓟 .sheet) (𝓟 .returns) (𝓟 .least) (𝓟 .buffers i) (𝓟 .opens i h)
 
   begins : Beside σ (openedAt σ 𝓟 i) (tableAt σ 𝓟 i) empty
-  begins = opened-beside σ facts S i (𝓟 .sheet) (𝓟 .returns) (𝓟 .buffers i) (𝓟 .opens i h)
+  begins = opened-beside σ facts S i (𝓟 .sheet) (𝓟 .returns) (𝓟 .least) (𝓟 .buffers i) (𝓟 .opens i h)
 
   many : length (publishedFrom 0 (columns σ 𝓟)) ≡ publishedIn (columns σ 𝓟)
-  many = limited σ facts S i (𝓟 .sheet) (𝓟 .returns) (𝓟 .buffers i) (𝓟 .opens i h) .published-count
+  many = limited σ facts S i (𝓟 .sheet) (𝓟 .returns) (𝓟 .least) (𝓟 .buffers i) (𝓟 .opens i h) .published-count
 
   -- whatever list of calls a table gets
   pub tables-answer : (cs : List Call) → All BytesIn cs

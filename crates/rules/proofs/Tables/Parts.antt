@@ -12,8 +12,8 @@ use Rattle.words.proofs.Splice.{part-of-drop}
 use Rattle.records.specs.Outcome.{ok}
 use Rattle.rules.specs.Settings.{Setting}
 use Rattle.rules.specs.Columns.{Column, readSheet, columnsOf, listIn, publishedIn}
-use Rattle.rules.specs.Table.{totalsPlace, idsPlace}
-use Rattle.rules.specs.Table.{returnsIn, decidedIn, acceptedIn, sheetSize, sheetIn, columnsIn}
+use Rattle.rules.specs.Table.{headerLength, totalsPlace, idsPlace}
+use Rattle.rules.specs.Table.{returnsIn, decidedIn, acceptedIn, leastIn, sheetSize, sheetIn, columnsIn}
 
 pub record Parts : Type 0 where
   pub stage : ℕ
@@ -22,19 +22,21 @@ pub record Parts : Type 0 where
   pub returns : ℕ
   pub decided : ℕ
   pub accepted : ℕ
+  pub least : ℕ
   pub sheet : List ℕ
   pub totals : List ℕ
   pub ids : List ℕ
   pub rest : List ℕ
 
--- the first twelve bytes
+-- the bytes before the sheet
 abbrev pub header : Setting → Parts → List ℕ
 header σ g =
     σ .tableByte
     ∷ g .stage
     ∷ g .servers
     ∷ g .own
-    ∷ (bytesOf 2 (g .returns) ++ (bytesOf 2 (g .decided) ++ (bytesOf 2 (g .accepted) ++ bytesOf 2 (length (g .sheet)))))
+    ∷ (bytesOf 2 (g .returns)
+    ++ (bytesOf 2 (g .decided) ++ (bytesOf 2 (g .accepted) ++ (bytesOf 2 (g .least) ++ bytesOf 2 (length (g .sheet))))))
 
 abbrev pub body : Parts → List ℕ
 body g = g .sheet ++ (g .totals ++ (g .ids ++ g .rest))
@@ -43,7 +45,7 @@ unfoldable pub assemble : Setting → Parts → List ℕ
 assemble σ g = header σ g ++ body g
 
 -- the parts have the lengths of the layout, and the counts fit their bytes
-pub record SizedAs (σ : Setting) (cs : List Column) (sheet : List ℕ) (returns decided accepted : ℕ)
+pub record SizedAs (σ : Setting) (cs : List Column) (sheet : List ℕ) (returns decided accepted least : ℕ)
     (totals ids : List ℕ) : Type 0 where
   pub reads : readSheet sheet ≡ ok cs
   pub totals-long : length totals ≡ σ .width * publishedIn cs
@@ -52,9 +54,10 @@ pub record SizedAs (σ : Setting) (cs : List Column) (sheet : List ℕ) (returns
   pub sheet-fits : length sheet < 65536
   pub decided-few : decided ≤ returns
   pub accepted-few : accepted ≤ decided
+  pub least-few : least ≤ returns
 
 abbrev pub Sized : Setting → List Column → Parts → Type 0
-Sized σ cs g = SizedAs σ cs (g .sheet) (g .returns) (g .decided) (g .accepted) (g .totals) (g .ids)
+Sized σ cs g = SizedAs σ cs (g .sheet) (g .returns) (g .decided) (g .accepted) (g .least) (g .totals) (g .ids)
 
 -- a part within a list, by its place
 pub part-within : (a x b : List ℕ) (i n : ℕ) → i + n ≤ length x → part (length a + i) n (a ++ (x ++ b)) ≡ part i n x
@@ -86,16 +89,20 @@ module _ (σ : Setting) (cs : List Column) (g : Parts) (z : Sized σ cs g) where
   unfolding assemble bytesOf
   accepted-are = value-bytes 2 (g .accepted) (omega (arith, z .decided-few, z .returns-fit, z .accepted-few))
 
+  pub least-is : leastIn σ T ≡ g .least
+  unfolding assemble bytesOf
+  least-is = value-bytes 2 (g .least) (omega (arith, z .least-few, z .returns-fit))
+
   -- behind the header
-  pub body-is : drop 12 T ≡ body g
+  pub body-is : drop headerLength T ≡ body g
   unfolding assemble bytesOf
   body-is = refl
 
-  part-body : (i n : ℕ) → part (12 + i) n T ≡ part i n (body g)
-  part-body i n = sym (part-of-drop i n 12 T) ∙ ap (part i n) body-is
+  part-body : (i n : ℕ) → part (headerLength + i) n T ≡ part i n (body g)
+  part-body i n = sym (part-of-drop i n headerLength T) ∙ ap (part i n) body-is
 
   pub sheet-is : sheetIn σ T ≡ g .sheet
-  sheet-is = ap (λ (k : ℕ). part 12 k T) size-is ∙ part-body 0 (length (g .sheet)) ∙ take-at (g .sheet) _ _ refl
+  sheet-is = ap (λ (k : ℕ). part headerLength k T) size-is ∙ part-body 0 (length (g .sheet)) ∙ take-at (g .sheet) _ _ refl
 
   pub columns-in : columnsIn σ T ≡ cs
   columns-in = ap columnsOf sheet-is ∙ columns-are
@@ -109,7 +116,7 @@ module _ (σ : Setting) (cs : List Column) (g : Parts) (z : Sized σ cs g) where
       → part (totalsPlace σ (length (g .sheet)) cs (g .returns) + i) n T ≡ part i n (g .totals)
   unfolding totalsPlace
   part-totals i n h =
-      ap (λ (k : ℕ). part k n T) (let e : 12 + length (g .sheet) + i ≡ 12 + (length (g .sheet) + i) = omega arith in e)
+      ap (λ (k : ℕ). part k n T) (let e : headerLength + length (g .sheet) + i ≡ headerLength + (length (g .sheet) + i) = omega arith in e)
       ∙ part-body (length (g .sheet) + i) n
       ∙ part-within (g .sheet) (g .totals) (g .ids ++ g .rest) i n h
 
@@ -124,7 +131,7 @@ module _ (σ : Setting) (cs : List Column) (g : Parts) (z : Sized σ cs g) where
       → part (idsPlace σ (length (g .sheet)) cs (g .returns) + i) n T ≡ part i n (g .ids)
   unfolding idsPlace
   part-ids i n h =
-      let e : 12 + length (g .sheet) + σ .width * publishedIn cs + i ≡ 12 + (length (g .sheet ++ g .totals) + i)
+      let e : headerLength + length (g .sheet) + σ .width * publishedIn cs + i ≡ headerLength + (length (g .sheet ++ g .totals) + i)
       = omega (arith, ids-at) in
       ap (λ (k : ℕ). part k n T) e
       ∙ part-body (length (g .sheet ++ g .totals) + i) n

@@ -9,7 +9,7 @@ use Rattle.algebra.specs.Lists.{sumOver}
 use Rattle.records.specs.Outcome.{ok, orElse}
 use Rattle.rules.specs.Settings.{Setting, Facts}
 use Rattle.rules.specs.Columns.{Column, yesNo, choice, number, top, entriesOf, entriesIn, faultIn, listIn, readSheet, sheetFault}
-use Rattle.rules.specs.Columns.{columnsOf, serversFault, ownFault, mostReturns, within, totalsFit}
+use Rattle.rules.specs.Columns.{columnsOf, serversFault, ownFault, leastFits, mostReturns, within, totalsFit}
 use Rattle.rules.specs.Circuit.{Step, wiresOf, constantsOf, addsOf, scalesOf, gatesOf, wiresIn, circuitOf}
 use Rattle.rules.specs.Circuit.{constantsIn, addsIn, scalesIn, gatesIn}
 use Rattle.rules.specs.CircuitReader.{stepWires, stepGates, stepTests, circuitFault, countIn, sheetCircuit}
@@ -58,23 +58,25 @@ module _ (σ : Setting) (facts : Facts σ) (sheet : List ℕ) (no-fault : sheetF
   counted f = rw (back.circuit-is-read σ facts sheet cs is-read) refl
 
   -- ---- opening
-  module _ (servers own returns room records numbers : ℕ) (S-fits : serversFault servers ≡ 0) (own-fits : ownFault servers own ≡ 0)
-      (enough : openRoom σ sheet returns room records numbers ≡ true) where
-    opens-few : openRefusal σ servers own sheet returns room records numbers ≡ 0
-        → (1 ≤ returns) × (returns ≤ greatestUpTo σ cs mostReturns)
+  module _ (servers own returns least room records numbers : ℕ) (S-fits : serversFault servers ≡ 0)
+      (own-fits : ownFault servers own ≡ 0) (enough : openRoom σ sheet returns room records numbers ≡ true) where
+    opens-few : openRefusal σ servers own sheet returns least room records numbers ≡ 0
+        → (1 ≤ least) × (least ≤ returns) × (returns ≤ greatestUpTo σ cs mostReturns)
     opens-few e =
-        let o = opening σ servers own sheet returns room records numbers e in
+        let o = opening σ servers own sheet returns least room records numbers e in
         let n = within-both 1 mostReturns returns (o .returns-fit) in
-        (n .0, greatest-reached σ some cs mostReturns returns (n .1) (fits-largest σ some returns cs (o .totals-fit)))
+        let q = within-both 1 returns least (o .least-fits) in
+        (q .0, q .1, greatest-reached σ some cs mostReturns returns (n .1) (fits-largest σ some returns cs (o .totals-fit)))
 
-    few-opens : (1 ≤ returns) × (returns ≤ greatestUpTo σ cs mostReturns)
-        → openRefusal σ servers own sheet returns room records numbers ≡ 0
+    few-opens : (1 ≤ least) × (least ≤ returns) × (returns ≤ greatestUpTo σ cs mostReturns)
+        → openRefusal σ servers own sheet returns least room records numbers ≡ 0
     unfolding openRefusal openFault orElse
     few-opens h =
         let l = greatest-most σ some cs mostReturns in
-        let n : within 1 mostReturns returns ≡ true = within-is 1 mostReturns returns (h .0) (omega (arith, h .1)) in
-        let t : totalsFit σ returns cs ≡ true = largest-fits σ some returns cs (fewer-fit σ some cs mostReturns returns (h .1)) in
-        rw (S-fits, own-fits, no-fault, n, t, enough) refl
+        let n : within 1 mostReturns returns ≡ true = within-is 1 mostReturns returns (omega (arith, h .0, h .1)) (omega (arith, h .2)) in
+        let q : leastFits returns least ≡ true = within-is 1 returns least (h .0) (h .1) in
+        let t : totalsFit σ returns cs ≡ true = largest-fits σ some returns cs (fewer-fit σ some cs mostReturns returns (h .2)) in
+        rw (S-fits, own-fits, no-fault, n, q, t, enough) refl
 
   told-from-sheet : ToldFromSheet σ sheet
   unfolding sizesOf shareLength sheetCircuit
@@ -87,7 +89,8 @@ module _ (σ : Setting) (facts : Facts σ) (sheet : List ℕ) (no-fault : sheetF
     share-bytes-are = λ id server xs e. length-share σ id server xs ∙ ap (λ n. 6 + σ .width * n) e;
     greatest-most = greatest-most σ some cs mostReturns;
     greatest-opens =
-        λ S own N room records numbers a b c. (opens-few S own N room records numbers a b c, few-opens S own N room records numbers a b c);
+        λ S own N Q room records numbers a b c.
+        (opens-few S own N Q room records numbers a b c, few-opens S own N Q room records numbers a b c);
   }
 
 pub room-told : (σ : Setting) → Facts σ → RoomTold σ

@@ -1,6 +1,6 @@
 -- A table whose pieces and records are within the limits is within the limits. Each test of `tableSound` is one fact of them.
 -- Assumes nothing.
-use mathlib.Core.Path.{_≡_, refl, ap, _∙_}
+use mathlib.Core.Path.{_≡_, refl, ap, ap₂, _∙_}
 use mathlib.Core.Bool.{Bool, true}
 use mathlib.Core.List.{List}
 use Prim.Native.Nat.{ℕ, _+_, _≤_}
@@ -12,12 +12,12 @@ use Rattle.algebra.proofs.Members.{and-true}
 use Rattle.words.specs.Bytes.{bytesOf, elementsOf, allBelow}
 use Rattle.slots.specs.declared.Slot.{Slot}
 use Rattle.rules.specs.Settings.{Setting}
-use Rattle.rules.specs.Columns.{Column, within, check, faultIn, sheetFault, totalsFit}
+use Rattle.rules.specs.Columns.{Column, within, leastFits, check, faultIn, sheetFault, totalsFit}
 use Rattle.rules.specs.WaitingList.{waitingCount, waitingSound}
 use Rattle.rules.specs.Table.{Lent, stageClosed, tableLength, sheetSize, sheetIn, columnsIn, returnsIn, decidedIn, acceptedIn}
-use Rattle.rules.specs.Table.{headerSound, countsSound, tableSound, tableFault}
+use Rattle.rules.specs.Table.{headerLength, headerSound, countsSound, tableSound, tableFault}
 use Rattle.rules.proofs.Tables.Parts.{Parts, Sized, body, assemble, placed, columns-in, size-is, sheet-is}
-use Rattle.rules.proofs.Tables.Parts.{returns-are, decided-are, accepted-are}
+use Rattle.rules.proofs.Tables.Parts.{returns-are, decided-are, accepted-are, least-is}
 use Rattle.rules.proofs.Tables.State.{totals-are}
 
 -- by the number of returns that wait
@@ -25,6 +25,7 @@ pub record Limited (σ : Setting) (cs : List Column) (g : Parts) (waiting : ℕ)
   pub servers-fit : within 2 8 (g .servers) ≡ true
   pub own-fits : ltb (g .own) (g .servers) ≡ true
   pub returns-fit : within 1 1024 (g .returns) ≡ true
+  pub least-fits : leastFits (g .returns) (g .least) ≡ true
   pub totals-fit : totalsFit σ (g .returns) cs ≡ true
   pub stage-fits : g .stage ≤ stageClosed
   pub decided-fit : g .decided + waiting ≤ g .returns
@@ -35,7 +36,7 @@ module _ (σ : Setting) (cs : List Column) (g : Parts) (z : Sized σ cs g) (xs :
   abbrev T : List ℕ
   T = assemble σ g
 
-  length-is : length T ≡ 12 + (length (g .sheet) + (length (g .totals) + (length (g .ids) + length (g .rest))))
+  length-is : length T ≡ headerLength + (length (g .sheet) + (length (g .totals) + (length (g .ids) + length (g .rest))))
   unfolding assemble bytesOf
   length-is =
       let parts : length (body g) ≡ length (g .sheet) + (length (g .totals) + (length (g .ids) + length (g .rest)))
@@ -45,17 +46,18 @@ module _ (σ : Setting) (cs : List Column) (g : Parts) (z : Sized σ cs g) (xs :
   header-sound : headerSound σ T ≡ true
   unfolding headerSound assemble
   header-sound =
-      let long : 12 ≤ length T = omega (arith, length-is) in
-      let sheet : 12 + sheetSize σ T ≤ length T = omega (arith, length-is, size-is σ cs g z) in
+      let long : headerLength ≤ length T = omega (arith, length-is) in
+      let sheet : headerLength + sheetSize σ T ≤ length T = omega (arith, length-is, size-is σ cs g z) in
       let no-fault : sheetFault (sheetIn σ T) ≡ 0 =
       ap sheetFault (sheet-is σ cs g z) ∙ ap faultIn (z .reads) ∙ (unfold faultIn in refl) in
-      and-true _ _ (le-leb 12 (length T) long)
+      and-true _ _ (le-leb headerLength (length T) long)
       (and-true _ _ (eq-eqb (σ .tableByte) (σ .tableByte) refl)
       (and-true _ _ (le-leb (g .stage) stageClosed (m .stage-fits))
       (and-true _ _ (m .servers-fit)
       (and-true _ _ (m .own-fits)
       (and-true _ _ (ap (within 1 1024) (returns-are σ cs g z) ∙ m .returns-fit)
-      (and-true _ _ (le-leb (12 + sheetSize σ T) (length T) sheet) (eq-eqb (sheetFault (sheetIn σ T)) 0 no-fault)))))))
+      (and-true _ _ (ap₂ leastFits (returns-are σ cs g z) (least-is σ cs g z) ∙ m .least-fits)
+      (and-true _ _ (le-leb (headerLength + sheetSize σ T) (length T) sheet) (eq-eqb (sheetFault (sheetIn σ T)) 0 no-fault))))))))
 
   counts-sound : countsSound σ T (waitingCount xs) ≡ true
   unfolding countsSound assemble tableLength

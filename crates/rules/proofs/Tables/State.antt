@@ -16,11 +16,11 @@ use Rattle.rules.specs.Columns.{Column, publishedIn}
 use Rattle.rules.specs.Server.{Opened, Wait, Stage, takes, closed, ServerState}
 use Rattle.rules.specs.WaitingList.{waitsIn}
 use Rattle.rules.specs.Table.{Lent, stageOpen, totalsPlace, idsPlace, decidedIn, totalsIn, idsIn, openedIn, stageIn, tableState}
-use Rattle.rules.proofs.Tables.Parts.{Parts, Sized, assemble, placed, columns-in, returns-are, decided-are, accepted-are}
+use Rattle.rules.proofs.Tables.Parts.{Parts, Sized, assemble, placed, columns-in, returns-are, decided-are, accepted-are, least-is}
 use Rattle.rules.proofs.Tables.Parts.{part-totals, part-ids}
 
 abbrev pub openedAt : List Column → Parts → Opened
-openedAt cs g = record { servers = g .servers; own = g .own; columns = cs; returns = g .returns }
+openedAt cs g = record { servers = g .servers; own = g .own; columns = cs; returns = g .returns; least = g .least }
 
 unfoldable pub stageAt : ℕ → List Wait → Stage
 stageAt b ws = cond (eqb b stageOpen) (takes ws) closed
@@ -57,7 +57,13 @@ module _ (σ : Setting) (cs : List Column) (g : Parts) (z : Sized σ cs g) where
   pub opened-is : openedIn σ T ≡ openedAt cs g
   unfolding assemble
   opened-is =
-      λ i. record { servers = g .servers; own = g .own; columns = columns-in σ cs g z i; returns = returns-are σ cs g z i }
+      λ i. record {
+        servers = g .servers;
+        own = g .own;
+        columns = columns-in σ cs g z i;
+        returns = returns-are σ cs g z i;
+        least = least-is σ cs g z i;
+      }
 
   module _ (xs : List Slot) (es : List ℕ) where
     abbrev lent : Lent

@@ -11,7 +11,7 @@ use Rattle.words.specs.Bytes.{bytesOf, splice}
 use Rattle.words.proofs.Splice.{splice-all}
 use Rattle.rules.specs.Settings.{Setting}
 use Rattle.rules.specs.Columns.{Column, publishedIn}
-use Rattle.rules.specs.Table.{totalsPlace, idsPlace}
+use Rattle.rules.specs.Table.{headerLength, totalsPlace, idsPlace}
 use Rattle.rules.proofs.Tables.Parts.{Parts, Sized, header, body, assemble, ids-at, ids-body}
 
 -- a run of bytes put within the middle of three lists
@@ -36,6 +36,7 @@ setStage b g = record {
   returns = g .returns;
   decided = g .decided;
   accepted = g .accepted;
+  least = g .least;
   sheet = g .sheet;
   totals = g .totals;
   ids = g .ids;
@@ -50,6 +51,7 @@ setCounts d a g = record {
   returns = g .returns;
   decided = d;
   accepted = a;
+  least = g .least;
   sheet = g .sheet;
   totals = g .totals;
   ids = g .ids;
@@ -65,6 +67,7 @@ setRuns totals ids g = record {
   returns = g .returns;
   decided = g .decided;
   accepted = g .accepted;
+  least = g .least;
   sheet = g .sheet;
   totals = totals;
   ids = ids;
@@ -81,12 +84,12 @@ module _ (σ : Setting) (g : Parts) where
   put-counts d a = refl
 
   -- behind the header
-  put-body : (k : ℕ) (ys : List ℕ) → splice (assemble σ g) (12 + k) ys ≡ header σ g ++ splice (body g) k ys
+  put-body : (k : ℕ) (ys : List ℕ) → splice (assemble σ g) (headerLength + k) ys ≡ header σ g ++ splice (body g) k ys
   unfolding assemble splice bytesOf
   put-body k ys =
-      let front : take (12 + k) (assemble σ g) ≡ header σ g ++ take k (body g) = take-append-add (header σ g) (body g) k in
-      let place : 12 + k + length ys ≡ 12 + (k + length ys) = omega arith in
-      let back : drop (12 + k + length ys) (assemble σ g) ≡ drop (k + length ys) (body g) =
+      let front : take (headerLength + k) (assemble σ g) ≡ header σ g ++ take k (body g) = take-append-add (header σ g) (body g) k in
+      let place : headerLength + k + length ys ≡ headerLength + (k + length ys) = omega arith in
+      let back : drop (headerLength + k + length ys) (assemble σ g) ≡ drop (k + length ys) (body g) =
       ap (λ (i : ℕ). drop i (assemble σ g)) place ∙ drop-append-add (header σ g) (body g) (k + length ys) in
       ap₂ (λ (u v : List ℕ). u ++ ys ++ v) front back ∙ simp append-assoc
 
@@ -108,7 +111,7 @@ module _ (σ : Setting) (cs : List Column) (g : Parts) (z : Sized σ cs g) where
   unfolding idsPlace assemble
   put-ids i ys h =
       let before = g .sheet ++ g .totals in
-      let place : 12 + length (g .sheet) + σ .width * publishedIn cs + i ≡ 12 + (length before + i)
+      let place : headerLength + length (g .sheet) + σ .width * publishedIn cs + i ≡ headerLength + (length before + i)
       = omega (arith, ids-at σ cs g z) in
       ap (λ (k : ℕ). splice (assemble σ g) k ys) place
       ∙ put-body σ g (length before + i) ys

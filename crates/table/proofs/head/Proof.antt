@@ -73,6 +73,9 @@ read-u16-requires-3 c κs = omega (arith, counted (c .before .before .before .be
 read-u16-requires-4 : tie.Need-read-u16-requires-4
 read-u16-requires-4 c κs = omega (arith, counted (c .before .before .before .before .before .before .before .before))
 
+read-u16-requires-5 : tie.Need-read-u16-requires-5
+read-u16-requires-5 c κs = omega (arith, counted (c .before .before .before .before .before .before .before .before .before))
+
 returns-2 : tie.Need-returns-2
 returns-2 c =
     let u = c .before .before in
@@ -82,16 +85,17 @@ returns-2 c =
 
 returns-3 : tie.Need-returns-3
 returns-3 c =
-    let w = c .before .before .before .before .before in
+    let w = c .before .before .before .before .before .before in
     let k = w .before .before .before .before in
     let u = k .before .before in
     let n = u .before .before in
     rw (
       w .wide .ensures,
-      c .before .before .before .wide2 .ensures,
-      c .before .before .read-u162 .ensures,
-      c .before .read-u163 .ensures,
-      c .read-u164 .ensures,
+      c .before .before .before .before .wide2 .ensures,
+      c .before .before .before .read-u162 .ensures,
+      c .before .before .read-u163 .ensures,
+      c .before .read-u164 .ensures,
+      c .read-u165 .ensures,
       n .read-u16 .ensures,
     )
     (head-counted _ (n .read-u16 .result) (n .read-u16 .ensures) _ (u .before .sheet-part .ensures) (start-holds (n .before)) _
@@ -117,5 +121,6 @@ head-spec =
     read-u16-requires-2
     read-u16-requires-3
     read-u16-requires-4
+    read-u16-requires-5
     returns-2
     returns-3)

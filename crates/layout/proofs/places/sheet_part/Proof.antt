@@ -1,4 +1,5 @@
 -- `layout::places::sheet_part` meets its contract: a part from a place to n behind it is n long (`span`). Assumes nothing.
+use Rattle.rules.specs.Table.{headerLength}
 use Rattle.steps.proofs.Parts.{span}
 use borrow.Author.Needs.{needs}
 use Rattle.layout.proofs.places.sheet_part.Statement.{statement}
@@ -17,7 +18,7 @@ part-result-end : tie.Need-part-result-end
 part-result-end c = search needs
 
 returns : tie.Need-returns
-returns c = let a = c .before .args in span 12 (a .n) (a .t .now)
+returns c = let a = c .before .args in span headerLength (a .n) (a .t .now)
 
 pub sheet-part-spec : {M : Type 1} → statement M
 sheet-part-spec = tie.close (tie.spec add-end sub-result part-result-start part-result-end returns)

@@ -1,5 +1,6 @@
 -- `layout::writing::note_decided` meets its contract: counts and id are put where they stand (`noted-written`).
 -- Assumes nothing.
+use Rattle.rules.specs.Table.{headerLength}
 use Prim.Native.Nat.{_≤_}
 use native.Mathlib.Omega.{arith}
 use lib.ListN.{length}
@@ -44,7 +45,7 @@ returns c =
     let second = third .before .before .before .before .before in
     let first = second .before .before .before .before .before in
     let a = first .before .before .before in
-    let h : 12 ≤ length (a .args .t .now) = omega (arith, a .pre) in
+    let h : headerLength ≤ length (a .args .t .now) = omega (arith, a .pre) in
     rw (
       third .write-u32 .ensures,
       third .before .ids-place .ensures,

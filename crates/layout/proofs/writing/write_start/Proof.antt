@@ -44,9 +44,9 @@ write-u16-requires-4 c κs =
       first .before .before .before .pre,
     )
 
-same-length : tie.Need-same-length
-same-length c =
-    let fourth = c .before .before in
+write-u16-requires-5 : tie.Need-write-u16-requires-5
+write-u16-requires-5 c κs =
+    let fourth = c .before .before .before in
     let third = fourth .before .before .before .before in
     let second = third .before .before .before .before in
     let first = second .before .before .before .before in
@@ -56,17 +56,36 @@ same-length c =
       second .write-u162 .kept .0,
       third .write-u163 .kept .0,
       fourth .write-u164 .kept .0,
+      first .before .before .before .pre,
+    )
+
+same-length : tie.Need-same-length
+same-length c =
+    let fifth = c .before .before in
+    let fourth = fifth .before .before .before .before in
+    let third = fourth .before .before .before .before in
+    let second = third .before .before .before .before in
+    let first = second .before .before .before .before in
+    omega (
+      arith,
+      simp length-set at (first .write-u16 .kept .0),
+      second .write-u162 .kept .0,
+      third .write-u163 .kept .0,
+      fourth .write-u164 .kept .0,
+      fifth .write-u165 .kept .0,
     )
 
 returns : tie.Need-returns
 returns c =
-    let fourth = c .before .before in
+    let fifth = c .before .before in
+    let fourth = fifth .before .before .before .before in
     let third = fourth .before .before .before .before in
     let second = third .before .before .before .before in
     let first = second .before .before .before .before in
     let a = first .before .before .before in
     cc (
-      start-written (a .args .t .now) (a .args .servers) (a .args .own) (a .args .returns) (a .args .n) (a .pre),
+      start-written (a .args .t .now) (a .args .servers) (a .args .own) (a .args .returns) (a .args .least) (a .args .n) (a .pre),
+      fifth .write-u165 .ensures,
       fourth .write-u164 .ensures,
       third .write-u163 .ensures,
       second .write-u162 .ensures,
@@ -85,5 +104,6 @@ write-start-spec =
     write-u16-requires-2
     write-u16-requires-3
     write-u16-requires-4
+    write-u16-requires-5
     same-length
     returns)

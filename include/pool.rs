@@ -70,6 +70,7 @@ extern "C" {
         sheet: *const u8,
         sheet_len: usize,
         returns: u32,
+        least: u32,
         table: *mut u8,
         table_len: usize,
         slots: *mut pool_slot,

@@ -42,6 +42,7 @@ pub fn open(
     own: u32,
     sheet: &[u8],
     returns: u32,
+    least: u32,
     table: &mut [u8],
     slots: &mut [Slot],
     elements: &mut [u32],
@@ -51,7 +52,7 @@ pub fn open(
         let (s, n) = (sheet.as_ptr(), sheet.len());
         let (slots, records, elements, numbers) = (x.as_mut_ptr(), x.len(), e.as_mut_ptr(), e.len());
         let (table, room) = (t.as_mut_ptr(), t.len());
-        c::pool_open(servers, own, s, n, returns, table, room, slots, records, elements, numbers, &mut written)
+        c::pool_open(servers, own, s, n, returns, least, table, room, slots, records, elements, numbers, &mut written)
     };
     done(answer, written)
 }

@@ -4,11 +4,12 @@
 // returns a fresh table is opened, unmeasured. So a share looks through 32 decided ids on the average, and the fast form's
 // list of ids grows as it does in use (a clone of its table would have to make room at every call). Where eight returns
 // wait, seven others were taken before: they stay in the first seven slots and await round one. Closing alone is timed on a
-// table that is restored before each call, unmeasured: by a copy of the three parts, or by a clone. No call may be refused.
+// table with one accepted return that is restored before each call, unmeasured: by a copy of the three parts, or by a clone.
+// No call may be refused.
 //
 // The clock is read once for several tables in the same state, and the time of an empty turn is taken off. At M = 256
 // it is one table: more would push the fast form's work space, which it keeps in each table, out of the nearest cache.
-use crate::setting::{Setting, RETURNS, ROOM};
+use crate::setting::{Setting, ID, RETURNS, ROOM};
 use crate::tables::Table;
 use std::hint::black_box;
 use std::time::Instant;
@@ -98,6 +99,13 @@ pub fn waiting<T: Table>(x: &Setting, others: u32) -> T {
     table
 }
 
+// Takes one return to the totals, so that the table closes.
+fn accept<T: Table>(x: &Setting, table: &mut T) {
+    taken(table.share(x.share(0), x.r, x.s));
+    taken(table.round_one(ID, &x.ones));
+    taken(table.round_two(ID, &x.twos));
+}
+
 // Opens in the place of each table.
 fn openings<T: Table>(x: &Setting, tables: &mut [T]) -> f64 {
     let mut opened = Vec::with_capacity(tables.len());
@@ -115,7 +123,10 @@ fn closings<T: Table>(tables: &mut [T], was: &T, out: &mut [u8]) -> f64 {
 pub fn series<T: Table>(x: &Setting, call: Call, others: u32) -> f64 {
     let fresh = || waiting::<T>(x, others);
     let mut tables: Vec<T> = (0..tables_for(x)).map(|_| fresh()).collect();
-    let was = fresh();
+    let mut was = fresh();
+    if call == Call::Close {
+        accept(x, &mut was);
+    }
     let (mut messages, mut out) = (Messages::of(x), vec![0; ROOM]);
     let (mut spent, mut empty) = (0.0, 0.0);
     for id in 0..RETURNS {

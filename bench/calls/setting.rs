@@ -6,6 +6,8 @@ use second::{fast, field::P, Sheet};
 // The returns that a series takes one after another, and the N of its tables: there is room for others that wait.
 pub const RETURNS: u32 = 64;
 pub const LIMIT: u32 = RETURNS + 7;
+// The Q of the tables: one accepted return closes them.
+pub const LEAST: u32 = 1;
 pub const ROOM: usize = 32768;
 
 pub struct Setting {
@@ -39,7 +41,7 @@ impl Setting {
         let (r, s) = (rng.between(read.multiplications() as u64 + 1, P - 1), rng.below(P));
         let shares = fast::make(&sheet, servers, ID, &values, &random, ROOM).expect("a return");
         let mut tables: Vec<fast::Table> =
-            (0..servers).map(|own| fast::open(servers, own, &sheet, LIMIT).expect("a table")).collect();
+            (0..servers).map(|own| fast::open(servers, own, &sheet, LIMIT, LEAST).expect("a table")).collect();
         let messages = shares.chunks(read.share_length());
         let ones = tables.iter_mut().zip(messages).flat_map(|(t, m)| fast::share(t, m, r, s, 14).expect("round one"));
         let ones: Vec<u8> = ones.collect();
@@ -73,7 +75,7 @@ impl Setting {
     }
 
     pub fn table_bytes(&self, returns: usize) -> usize {
-        12 + self.sheet.len() + 4 * self.published + 4 * returns
+        14 + self.sheet.len() + 4 * self.published + 4 * returns
     }
 
     // The numbers beside the eight records of a table.

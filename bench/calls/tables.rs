@@ -3,7 +3,7 @@
 // them, as document 01 asks (refusal 11); their messages are written into lent buffers. The fast one is a structure that
 // nobody else can write, so its calls do not look it over; it has weights worked out at opening and keeps work space.
 use crate::pool;
-use crate::setting::{Setting, LIMIT};
+use crate::setting::{Setting, LEAST, LIMIT};
 use second::{fast, lent, Verdict};
 use std::borrow::Cow;
 
@@ -37,14 +37,14 @@ macro_rules! table_in_parts {
                 let (bytes, elements) = (vec![0; x.table_bytes(LIMIT as usize)], vec![0; x.numbers()]);
                 let mut t = $name { bytes, slots: Default::default(), elements };
                 let (b, s, e) = (&mut t.bytes, &mut t.slots, &mut t.elements);
-                let written = $calls::open(x.servers, own, &x.sheet, LIMIT, b, s, e)?;
+                let written = $calls::open(x.servers, own, &x.sheet, LIMIT, LEAST, b, s, e)?;
                 assert!(written == t.bytes.len());
                 Ok(t)
             }
 
             fn open(&mut self, x: &Setting) -> Option<$name> {
                 let (b, s, e) = (&mut self.bytes, &mut self.slots, &mut self.elements);
-                $calls::open(x.servers, 0, &x.sheet, LIMIT, b, s, e).expect("opened");
+                $calls::open(x.servers, 0, &x.sheet, LIMIT, LEAST, b, s, e).expect("opened");
                 None
             }
 
@@ -91,7 +91,7 @@ table_in_parts!(Lent, lent, accepted);
 
 impl Table for fast::Table {
     fn fresh(x: &Setting, own: u32) -> Result<fast::Table, u32> {
-        fast::open(x.servers, own, &x.sheet, LIMIT)
+        fast::open(x.servers, own, &x.sheet, LIMIT, LEAST)
     }
 
     fn open(&mut self, x: &Setting) -> Option<fast::Table> {

@@ -86,7 +86,7 @@ impl Setting<'_> {
     }
 
     fn share_plain(&self) -> Result<f64, u32> {
-        let plain = table::open(SERVERS, 0, self.bytes, 1)?;
+        let plain = table::open(SERVERS, 0, self.bytes, 1, 1)?;
         Ok(time(self.plain_count(), |number| {
             let (r, s) = self.challenges[number as usize % 256];
             let mut table = plain.clone();
@@ -97,7 +97,7 @@ impl Setting<'_> {
     /// A share and a drop; ids are rewritten in place.
     fn share_fast(&self) -> Result<f64, u32> {
         let mut message = self.shares[0].clone();
-        let fresh = || fast::open(SERVERS, 0, self.bytes, LIMIT);
+        let fresh = || fast::open(SERVERS, 0, self.bytes, LIMIT, 1);
         let mut table = fresh()?;
         Ok(time(20_000, |number| {
             if number % LIMIT == 0 {
@@ -117,7 +117,7 @@ impl Setting<'_> {
         let (r, s) = self.challenges[0];
         let (mut tables, mut first, mut second) = (Vec::new(), Vec::new(), Vec::new());
         for (own, share) in (0..SERVERS).zip(&self.shares) {
-            let mut table = fast::open(SERVERS, own, self.bytes, LIMIT)?;
+            let mut table = fast::open(SERVERS, own, self.bytes, LIMIT, 1)?;
             first.extend(fast::share(&mut table, share, r, s, 14)?);
             tables.push(table);
         }

@@ -26,8 +26,8 @@ pub use making::make;
 /// A server's table in the fast form.
 pub type Table = crate::table::Table<plan::Plan>;
 
-/// Opens a table with S, the own number, a sheet and N. Order of refusals: S and own
-/// number, sheet, N, 4.
-pub fn open(servers: u32, own: u32, sheet: &[u8], limit: u32) -> Result<Table, u32> {
-    crate::table::open_as(servers, own, sheet, limit)
+/// Opens a table with S, the own number, a sheet, N and the least count Q. Order of
+/// refusals: S and own number, sheet, N, Q, 4.
+pub fn open(servers: u32, own: u32, sheet: &[u8], limit: u32, least: u32) -> Result<Table, u32> {
+    crate::table::open_as(servers, own, sheet, limit, least)
 }

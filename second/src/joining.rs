@@ -1,8 +1,9 @@
 //! Joining the closing messages of S servers.
 
 use crate::field;
+use crate::limits::{check_limit, check_servers};
 use crate::refusal;
-use crate::sheet::{check_limit, check_servers, Sheet};
+use crate::sheet::Sheet;
 use crate::table::CLOSING;
 
 /// What joining gives.

@@ -8,15 +8,16 @@
 //!
 //! | from | bytes | what |
 //! | --- | --- | --- |
-//! | 0 | 1 | table byte: 2 |
+//! | 0 | 1 | table byte: 3 |
 //! | 1 | 1 | stage: 0 open, 1 closed |
 //! | 2 | 1 | S |
 //! | 3 | 1 | own number |
 //! | 4 | 2 | N |
 //! | 6 | 2 | returns decided, dropped ones included |
 //! | 8 | 2 | returns accepted |
-//! | 10 | 2 | n, the length of the sheet (a sheet that is read has 1 to 426 bytes) |
-//! | 12 | n | the sheet |
+//! | 10 | 2 | Q |
+//! | 12 | 2 | n, the length of the sheet (a sheet that is read has 1 to 426 bytes) |
+//! | 14 | n | the sheet |
 //! | | 4 P | the totals, an element for each of the P published entries |
 //! | | 4 N | N ids, the decided ones first, in the order in which they were |
 //!
@@ -50,7 +51,7 @@
 //! # Which tables are refused 11
 //!
 //! Those whose bytes or numbers are too few, whose records are not eight, or whose table byte,
-//! stage, S, own number, N, sheet or refusal 4's rule breaks its limit. The counts: accepted at
+//! stage, S, own number, N, Q, sheet or refusal 4's rule breaks its limit. The counts: accepted at
 //! most decided, decided and waiting together at most N. Totals are below p. A record has stage
 //! 0, 1 or 2; where it waits, r is above M and below p, s, d and e are below p, and so are all
 //! numbers of its place.
@@ -71,8 +72,8 @@ use crate::judging::{
     check_challenges, parts_of_length, round_message, round_sums, sigma, Findings, Round,
     ROUND_LENGTH, ROUND_ONE, ROUND_TWO,
 };
+use crate::limits::{check_limit, check_servers};
 use crate::refusal;
-use crate::sheet::check_servers;
 use crate::table::{Verdict, CLOSING};
 use layout::{Table, Word};
 use shape::Shape;
@@ -80,7 +81,8 @@ pub use slot::{Slot, AWAITS_ONE, AWAITS_TWO, FREE, SLOTS};
 
 /// The length of a table's bytes with this sheet and N. Order of refusals: sheet, N, 4.
 pub fn length(sheet: &[u8], limit: u32) -> Result<usize, u32> {
-    let shape = Shape::opening(sheet, limit)?;
+    let shape = Shape::read(sheet)?;
+    check_limit(shape.largest, limit)?;
     Ok(layout::length(sheet.len(), &shape, limit as usize))
 }
 
@@ -89,13 +91,15 @@ pub fn run_length(sheet: &[u8]) -> Result<usize, u32> {
     Ok(Shape::read(sheet)?.run_length())
 }
 
-/// Opens a table with S, the own number, a sheet and N: writes all three parts and gives the
-/// length of the bytes. Order of refusals: S and own number, sheet, N, 4, 14.
+/// Opens a table with S, the own number, a sheet, N and the least count Q: writes all three parts
+/// and gives the length of the bytes. Order of refusals: S and own number, sheet, N, Q, 4, 14.
+#[allow(clippy::too_many_arguments)]
 pub fn open(
     servers: u32,
     own: u32,
     sheet: &[u8],
     limit: u32,
+    least: u32,
     table: &mut [u8],
     slots: &mut [Slot],
     elements: &mut [u32],
@@ -104,7 +108,7 @@ pub fn open(
     if own >= servers {
         return Err(refusal::LIMIT);
     }
-    let shape = Shape::opening(sheet, limit)?;
+    let shape = Shape::opening(sheet, limit, least)?;
     let length = layout::length(sheet.len(), &shape, limit as usize);
     let bytes = table.get_mut(..length).ok_or(refusal::ROOM)?;
     let numbers = elements.get_mut(..shape.run_length());
@@ -112,7 +116,8 @@ pub fn open(
     if slots.len() != SLOTS {
         return Err(refusal::ROOM);
     }
-    layout::write(bytes, servers as u8, own as u8, sheet, limit as u16);
+    let (limit, least) = (limit as u16, least as u16);
+    layout::write(bytes, servers as u8, own as u8, sheet, limit, least);
     slots.fill(Slot::default());
     numbers.fill(0);
     Ok(length)
@@ -233,8 +238,8 @@ pub fn drop(
     Ok(())
 }
 
-/// Closes the table; writes the closing message and gives its length. Order of refusals: 11,
-/// 14.
+/// Closes the table when at least Q returns are accepted; writes the closing message and gives
+/// its length. Order of refusals: 11, 15, 14.
 pub fn close(
     table: &mut [u8],
     slots: &mut [Slot],
@@ -244,6 +249,10 @@ pub fn close(
     let mut table = Table::look_over(table, slots, elements)?;
     if table.waiting > 0 {
         return Err(refusal::STAGE);
+    }
+    // "Too few accepted is refused 15, between 11 and 14."
+    if table.accepted < table.least {
+        return Err(refusal::FEW);
     }
     let length = 6 + field::WIDTH * table.totals.len();
     let out = out.get_mut(..length).ok_or(refusal::ROOM)?;

@@ -4,8 +4,8 @@
 //! Three forms of the same rules live here:
 //!
 //! * the plain form, one module for each part of the paper: [`field`], [`sheet`],
-//!   [`mod@circuit`], [`mod@sizes`], [`values`], [`listing`], [`making`], [`judging`],
-//!   [`table`], [`joining`], [`mod@recount`] and [`shelf`];
+//!   [`mod@circuit`], [`mod@sizes`], [`limits`], [`values`], [`listing`], [`making`],
+//!   [`judging`], [`table`], [`joining`], [`mod@recount`] and [`shelf`];
 //! * the fast form, [`fast`], with the same calls and the same answers;
 //! * the lent form, [`lent`], with the calls on a table in three parts that the host lends.
 //!
@@ -26,6 +26,7 @@ pub mod gen;
 pub mod joining;
 pub mod judging;
 pub mod lent;
+pub mod limits;
 pub mod listing;
 pub mod making;
 pub mod recount;

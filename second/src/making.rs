@@ -3,8 +3,9 @@
 use crate::circuit::Circuit;
 use crate::field;
 use crate::judging::basis;
+use crate::limits::check_servers;
 use crate::refusal;
-use crate::sheet::{check_servers, Sheet};
+use crate::sheet::Sheet;
 use crate::values;
 
 /// The kind byte of a share message.

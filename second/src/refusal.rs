@@ -2,7 +2,7 @@
 
 /// Unknown kind or cut body.
 pub const KIND: u32 = 1;
-/// A count, constant, server number or N outside its limits.
+/// A count, constant, server number, N or Q outside its limits.
 pub const LIMIT: u32 = 2;
 /// A wire not yet made, or an entry not below L.
 pub const WIRE: u32 = 3;
@@ -28,6 +28,8 @@ pub const JOINED: u32 = 12;
 pub const FULL: u32 = 13;
 /// Output buffer too short.
 pub const ROOM: u32 = 14;
+/// Fewer than Q returns accepted.
+pub const FEW: u32 = 15;
 /// More than 4,096 lists.
 pub const MANY: u32 = 17;
 /// A run that is not R × W bytes.

@@ -1,6 +1,5 @@
 //! "Sheet and circuit", first half: columns and the sheet reader.
 
-use crate::field::P;
 use crate::refusal;
 
 /// Entries, at most.
@@ -9,8 +8,6 @@ pub const MAX_ENTRIES: u64 = 256;
 pub const MAX_MULTIPLICATIONS: u64 = 256;
 /// Tests, at most.
 pub const MAX_TESTS: u64 = 512;
-/// Decided returns N, at most.
-pub const MAX_LIMIT: u32 = 1024;
 /// The top T of a column of kind 20, at most.
 pub const MAX_TOP: u32 = 16_777_215;
 
@@ -217,26 +214,6 @@ impl Sheet {
             first..first + column.published()
         })
     }
-}
-
-/// "Shares of S servers (2 to 8)": S outside is refused 2.
-pub(crate) fn check_servers(servers: u32) -> Result<(), u32> {
-    if (2..=8).contains(&servers) {
-        Ok(())
-    } else {
-        Err(refusal::LIMIT)
-    }
-}
-
-/// "N (1 to 1,024 decided returns)", then refusal 4 for the largest value of all columns.
-pub(crate) fn check_limit(largest: u64, limit: u32) -> Result<(), u32> {
-    if !(1..=MAX_LIMIT).contains(&limit) {
-        return Err(refusal::LIMIT);
-    }
-    if u64::from(limit) * largest >= P {
-        return Err(refusal::WRAPS);
-    }
-    Ok(())
 }
 
 #[cfg(test)]

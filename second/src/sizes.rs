@@ -6,7 +6,8 @@
 
 use crate::circuit::{circuit, read_circuit};
 use crate::field;
-use crate::sheet::{check_limit, Sheet, MAX_LIMIT};
+use crate::limits::{check_limit, MAX_LIMIT};
+use crate::sheet::Sheet;
 
 /// What a sheet comes to.
 #[derive(Clone, Copy, Debug, PartialEq, Eq)]

@@ -116,22 +116,23 @@ impl<F> Table<F> {
     }
 }
 
-/// Opens a table of any form with S, the own number, a sheet and N.
+/// Opens a table of any form with S, the own number, a sheet, N and Q.
 pub(crate) fn open_as<F: Form>(
     servers: u32,
     own: u32,
     sheet: &[u8],
     limit: u32,
+    least: u32,
 ) -> Result<Table<F>, u32> {
-    let state = State::open(servers, own, sheet, limit)?;
+    let state = State::open(servers, own, sheet, limit, least)?;
     let form = F::of(&state.sheet);
     Ok(Table { state, form })
 }
 
-/// Opens a table with S, the own number, a sheet and N. Order of refusals: S and own
-/// number, sheet, N, 4.
-pub fn open(servers: u32, own: u32, sheet: &[u8], limit: u32) -> Result<Table, u32> {
-    open_as(servers, own, sheet, limit)
+/// Opens a table with S, the own number, a sheet, N and the least count Q. Order of
+/// refusals: S and own number, sheet, N, Q, 4.
+pub fn open(servers: u32, own: u32, sheet: &[u8], limit: u32, least: u32) -> Result<Table, u32> {
+    open_as(servers, own, sheet, limit, least)
 }
 
 /// Takes a share; gives the server's round one message. Order of refusals: 11, 13, 7, 8,
@@ -171,7 +172,8 @@ pub fn drop<F>(table: &mut Table<F>, id: u32) -> Result<(), u32> {
     table.state.drop(id)
 }
 
-/// Closes the table; gives the closing message. Order of refusals: 11, 14.
+/// Closes the table when at least Q returns are accepted; gives the closing message. Order of
+/// refusals: 11, 15, 14.
 pub fn close<F>(table: &mut Table<F>, room: usize) -> Result<Vec<u8>, u32> {
     table.state.close(room)
 }

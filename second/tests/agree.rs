@@ -28,11 +28,18 @@ fn makes_agree() {
 fn scripts_agree() {
     for seed in 1000..1200 {
         let script = Script::random(seed);
-        let plain = |own| table::open(script.servers, own, &script.sheet, script.limit).unwrap();
-        let fast = |own| fast::open(script.servers, own, &script.sheet, script.limit).unwrap();
+        let Script {
+            servers,
+            ref sheet,
+            limit,
+            least,
+            ..
+        } = script;
+        let plain = |own| table::open(servers, own, sheet, limit, least).unwrap();
+        let fast = |own| fast::open(servers, own, sheet, limit, least).unwrap();
         assert_eq!(script.play(plain), Ok(()), "plain, seed {seed}");
         assert_eq!(script.play(fast), Ok(()), "fast, seed {seed}");
-        for exchange in &script.joins {
+        for exchange in script.openings.iter().chain(&script.joins) {
             assert_eq!(exchange.case.fast(), exchange.answer);
         }
     }
@@ -42,10 +49,17 @@ fn scripts_agree() {
 fn tables_agree_after_every_call() {
     for seed in 2000..2060 {
         let script = Script::random(seed);
-        let open_plain = |own| table::open(script.servers, own, &script.sheet, script.limit);
-        let open_fast = |own| fast::open(script.servers, own, &script.sheet, script.limit);
-        let mut plain: Vec<_> = (0..script.servers).flat_map(open_plain).collect();
-        let mut quick: Vec<_> = (0..script.servers).flat_map(open_fast).collect();
+        let Script {
+            servers,
+            ref sheet,
+            limit,
+            least,
+            ..
+        } = script;
+        let open_plain = |own| table::open(servers, own, sheet, limit, least);
+        let open_fast = |own| fast::open(servers, own, sheet, limit, least);
+        let mut plain: Vec<_> = (0..servers).flat_map(open_plain).collect();
+        let mut quick: Vec<_> = (0..servers).flat_map(open_fast).collect();
         for step in &script.steps {
             let server = step.server as usize;
             let before = plain[server].clone();
@@ -89,8 +103,8 @@ fn full_sheets_agree() {
         let p = second::field::P;
         for r in [gates + 1, 2 * gates - 1, 2 * gates, 2 * gates + 1, p - 1] {
             for own in 0..2u32 {
-                let mut plain = table::open(2, own, bytes, 1).unwrap();
-                let mut quick = fast::open(2, own, bytes, 1).unwrap();
+                let mut plain = table::open(2, own, bytes, 1, 1).unwrap();
+                let mut quick = fast::open(2, own, bytes, 1, 1).unwrap();
                 let call = Call::Share {
                     message: given.shares[own as usize].clone(),
                     r,

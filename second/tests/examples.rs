@@ -113,7 +113,7 @@ fn range_of_r() {
         (P - 1, Ok(())),
         (P, Err(refusal::CHALLENGE)),
     ] {
-        let mut table = open(2, 0, &YES_NO, 1).unwrap();
+        let mut table = open(2, 0, &YES_NO, 1, 1).unwrap();
         let answer = share(&mut table, &shares[0], r, 0, 14);
         assert_eq!(answer.map(|_| ()), expected, "r = {r}");
     }
@@ -121,9 +121,9 @@ fn range_of_r() {
 
 #[test]
 fn twenty_four_bits() {
-    assert!(open(2, 0, &[19, 24], 128).is_ok());
+    assert!(open(2, 0, &[19, 24], 128, 1).is_ok());
     assert_eq!(
-        open(2, 0, &[19, 24], 129).err(),
+        open(2, 0, &[19, 24], 129, 1).err(),
         Some(refusal::WRAPS),
         "129 times 2^24 - 1 is past p"
     );

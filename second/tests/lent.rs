@@ -13,7 +13,8 @@ use second::{table, Sheet};
 fn scripts_agree() {
     for seed in 3000..3400 {
         let script = Script::random(seed);
-        let open = |own| Lent::open(script.servers, own, &script.sheet, script.limit).unwrap();
+        let (servers, limit, least) = (script.servers, script.limit, script.least);
+        let open = |own| Lent::open(servers, own, &script.sheet, limit, least).unwrap();
         assert_eq!(script.play(open), Ok(()), "seed {seed}");
     }
 }
@@ -28,16 +29,17 @@ fn openings_agree() {
             own,
             sheet,
             limit,
+            least,
         } = &case
         else {
             panic!("{case:?}");
         };
-        let plain = table::open(*servers, *own, sheet, *limit);
-        let lent = Lent::open(*servers, *own, sheet, *limit);
+        let plain = table::open(*servers, *own, sheet, *limit, *least);
+        let lent = Lent::open(*servers, *own, sheet, *limit, *least);
         assert_eq!(lent.as_ref().err(), plain.as_ref().err(), "{case:?}");
         if let Ok(lent) = lent {
             openings_in_any_room(&lent, |b, slots, n| {
-                lent::open(*servers, *own, sheet, *limit, b, slots, n)
+                lent::open(*servers, *own, sheet, *limit, *least, b, slots, n)
             });
         }
     }
@@ -50,7 +52,7 @@ fn openings_in_any_room(
     open: impl Fn(&mut [u8], &mut [Slot], &mut [u32]) -> Result<usize, u32>,
 ) {
     let Lent { length, run, .. } = *opened;
-    let short = |needed: usize| [0, 1, 11, needed / 2, needed - 1];
+    let short = |needed: usize| [0, 1, 13, needed / 2, needed - 1];
     let mut rooms = vec![(length, 8, run)];
     rooms.extend(short(length).map(|length| (length, 8, run)));
     rooms.extend(short(run).map(|run| (length, 8, run)));
@@ -112,7 +114,7 @@ fn shares_agree() {
 /// Takes a return through share and round one at two servers, in both forms.
 fn share_and_round_one(bytes: &[u8], given: &Return, r: u64) {
     let mut plains = open_all(2, bytes, 1);
-    let lents = (0..2).map(|own| Lent::open(2, own, bytes, 1).unwrap());
+    let lents = (0..2).map(|own| Lent::open(2, own, bytes, 1, 1).unwrap());
     let mut lents: Vec<Lent> = lents.collect();
     let mut joined = Vec::new();
     for own in 0..2 {
@@ -141,7 +143,7 @@ fn share_and_round_one(bytes: &[u8], given: &Return, r: u64) {
 #[test]
 fn a_thousand_ids() {
     let (sheet, elements) = ([17], [1, 2, 3, 4, 5, 6, 7, 8, 9]);
-    let mut table = Lent::open(2, 0, &sheet, 1024).unwrap();
+    let mut table = Lent::open(2, 0, &sheet, 1024, 1).unwrap();
     let share = |id: u32| Call::Share {
         message: share_message(id, 0, &elements),
         r: 100,
@@ -159,6 +161,5 @@ fn a_thousand_ids() {
     }
     assert_eq!(table.call(&share(1024)), Answer::Refused(13));
     assert_eq!(table.call(&share(3)), Answer::Refused(13));
-    let close = table.call(&Call::Close { room: 10 });
-    assert_eq!(close, Answer::Message(closing(0, 0, &[0])));
+    assert_eq!(table.call(&Call::Close { room: 10 }), Answer::Refused(15));
 }

@@ -22,9 +22,10 @@ struct Model {
 impl Model {
     fn open(script: &Script, own: u32) -> Model {
         let sheet = Sheet::read(&script.sheet).unwrap();
-        let mut bytes = vec![2, 0, script.servers as u8, own as u8];
+        let mut bytes = vec![3, 0, script.servers as u8, own as u8];
         bytes.extend((script.limit as u16).to_le_bytes());
         bytes.extend([0; 4]);
+        bytes.extend((script.least as u16).to_le_bytes());
         bytes.extend((script.sheet.len() as u16).to_le_bytes());
         bytes.extend(&script.sheet);
         let end = bytes.len() + 4 * (sheet.published() + script.limit as usize);
@@ -124,7 +125,7 @@ impl Model {
 
     fn accept(&mut self, id: u32) {
         let place = self.width() * self.record(id);
-        let mut at = 12 + self.bytes[10] as usize + 256 * self.bytes[11] as usize;
+        let mut at = 14 + self.bytes[12] as usize + 256 * self.bytes[13] as usize;
         for entry in self.sheet.published_entries() {
             let old = u32::from_le_bytes(self.bytes[at..at + 4].try_into().unwrap());
             let sum = field::add(u64::from(old), u64::from(self.numbers[place + entry]));
@@ -156,8 +157,7 @@ impl Model {
 fn parts_after_every_call() {
     for seed in 7000..7150 {
         let script = Script::random(seed);
-        let open = |own| Twins::open(script.servers, own, &script.sheet, script.limit);
-        let mut tables: Vec<Twins> = (0..script.servers).map(open).collect();
+        let mut tables = Twins::of_script(&script);
         let models = (0..script.servers).map(|own| Model::open(&script, own));
         let mut models: Vec<Model> = models.collect();
         for (table, model) in tables.iter().zip(&models) {
@@ -182,8 +182,8 @@ fn longest_parts() {
     let length = |sheet: &[u8]| second::lent::length(sheet, 1024).unwrap();
     assert_eq!(second::lent::run_length(&[17; 256]), Ok(6208));
     assert_eq!(second::lent::run_length(&largest_sheet()).unwrap() % 8, 0);
-    assert_eq!(length(&[17; 256]), 12 + 256 + 4 * 256 + 4096);
-    assert_eq!(length(&longest_sheet()), 12 + 426 + 4 * 86 + 4096);
+    assert_eq!(length(&[17; 256]), 14 + 256 + 4 * 256 + 4096);
+    assert_eq!(length(&longest_sheet()), 14 + 426 + 4 * 86 + 4096);
     assert_eq!(std::mem::size_of::<Slot>(), 40);
     assert_eq!(std::mem::align_of::<Slot>(), 8);
 }

@@ -2,7 +2,7 @@
 
 mod common;
 
-use common::lent_model::{check, sound, stages, taken, Stages};
+use common::lent_model::{changed, check, put, sound, stages, taken, Stages};
 use common::lent_table::{Lent, FILL_SLOT};
 use common::P32;
 use second::field::P;
@@ -19,13 +19,6 @@ const SHEETS: [&[u8]; 5] = [
     &[20, 6, 0, 0, 0, 18, 2],
 ];
 
-/// The table with something changed.
-fn changed(table: &Lent, change: impl FnOnce(&mut Lent)) -> Lent {
-    let mut table = table.clone();
-    change(&mut table);
-    table
-}
-
 #[test]
 fn header_and_sheet_bytes_changed() {
     for (sheet, limit) in [
@@ -37,7 +30,7 @@ fn header_and_sheet_bytes_changed() {
         let Stages { tables, calls } = stages(sheet, limit);
         for (number, table) in tables.iter().enumerate() {
             assert_eq!(check(table, &calls), number < 4);
-            for at in 0..12 + sheet.len() {
+            for at in 0..14 + sheet.len() {
                 for byte in 0..=255 {
                     let other = changed(table, |t| t.bytes[at] = byte);
                     check(&other, &calls);
@@ -51,15 +44,10 @@ fn header_and_sheet_bytes_changed() {
 #[test]
 fn counts_at_their_limits() {
     let Stages { tables, calls } = stages(&[17], 6);
-    let put = |table: &Lent, at: usize, number: u16| {
-        let other = changed(table, |t| {
-            t.bytes[at..at + 2].copy_from_slice(&number.to_le_bytes())
-        });
-        check(&other, &calls)
-    };
+    let put = |table: &Lent, at, number| check(&put(table, at, number), &calls);
     let counts = [(2, 0), (2, 1), (2, 1), (3, 2)];
     for (table, (decided, waiting)) in tables.iter().zip(counts) {
-        assert_eq!(table.bytes[4..10], [6, 0, decided as u8, 0, 1, 0]);
+        assert_eq!(table.bytes[4..12], [6, 0, decided as u8, 0, 1, 0, 1, 0]);
         assert!(put(table, 6, 6 - waiting) && !put(table, 6, 7 - waiting));
         assert!(put(table, 6, 1) && !put(table, 6, 0));
         assert!(put(table, 8, decided) && !put(table, 8, decided + 1));
@@ -67,7 +55,7 @@ fn counts_at_their_limits() {
         assert!(put(table, 4, least) && !put(table, 4, least - 1));
         // The buffer has room for 16 ids.
         assert!(put(table, 4, 16) && !put(table, 4, 17));
-        for byte in [0, 1, 3, 255] {
+        for byte in [0, 1, 2, 4, 255] {
             let other = changed(table, |t| t.bytes[0] = byte);
             assert!(!check(&other, &calls));
         }
@@ -132,7 +120,7 @@ fn elements_at_their_limits() {
                     assert_eq!(with(number), free, "{at}");
                 }
             }
-            let totals = 12 + sheet.len();
+            let totals = 14 + sheet.len();
             let ids = totals + 4 * published;
             for at in (totals..table.length).step_by(4) {
                 let with = |number: u32| {
@@ -169,8 +157,8 @@ fn short_and_long_parts() {
             assert_eq!(check(&other, &calls), fits(slots == 8));
         }
     }
-    for (length, run) in [(0, 0), (11, 7000), (12, 7000), (44, 0), (7000, 7000)] {
-        for byte in [0, 1, 2, 17, 255] {
+    for (length, run) in [(0, 0), (13, 7000), (14, 7000), (44, 0), (7000, 7000)] {
+        for byte in [0, 1, 2, 3, 17, 255] {
             let table = Lent {
                 bytes: vec![byte; length],
                 slots: vec![Slot::default(); 8],

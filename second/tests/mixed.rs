@@ -8,7 +8,9 @@ use common::lent_table::Lent;
 use common::twins::Twins;
 use common::*;
 use second::gen::{self, Answer, Call, Origin, Return, Rng, Script, Server, Step};
-use second::{open, Sheet};
+use second::{open, Sheet, Verdict};
+
+const ACCEPTED: Answer = Answer::Verdict(Verdict::Accepted);
 
 /// Some calls with their answers.
 type Course = Vec<(Call, Answer)>;
@@ -17,8 +19,15 @@ type Course = Vec<(Call, Answer)>;
 /// other servers' messages are those of tables that take nothing else either.
 fn alone(setting: &Setting, given: &Return, rng: &mut Rng) -> Course {
     let id = given.id;
-    let open = |own| open(setting.servers, own, &setting.sheet, setting.limit).unwrap();
-    let mut tables: Vec<_> = (0..setting.servers).map(open).collect();
+    let Setting {
+        servers,
+        ref sheet,
+        limit,
+        least,
+        ..
+    } = *setting;
+    let open = |own| open(servers, own, sheet, limit, least).unwrap();
+    let mut tables: Vec<_> = (0..servers).map(open).collect();
     let share = |own: usize| Call::Share {
         message: given.shares[own].clone(),
         r: given.r,
@@ -74,6 +83,7 @@ struct Setting {
     own: u32,
     sheet: Vec<u8>,
     limit: u32,
+    least: u32,
 }
 
 impl Setting {
@@ -82,11 +92,13 @@ impl Setting {
         let sheet = gen::sheet(rng, max);
         let most = gen::largest_limit(&Sheet::read(&sheet).unwrap());
         let limit = rng.pick([returns, returns + 1, 1024]).min(most);
+        let few = rng.between(1, u64::from(returns)) as u32;
         (limit >= returns).then_some(Setting {
             servers,
             own: rng.below(u64::from(servers)) as u32,
             sheet,
             limit,
+            least: rng.pick([1, few, limit]),
         })
     }
 
@@ -121,10 +133,17 @@ fn shuffled(call: &Call, rng: &mut Rng) -> Call {
 }
 
 /// Mixes courses at one table, each in its order, never more than eight waiting; every answer
-/// is the one that it got alone, where the joined messages stood in server order. Then closes.
-/// Gives how many waited at most.
+/// is the one that it got alone, where the joined messages stood in server order. Then closes,
+/// where enough are accepted. Gives how many waited at most.
 fn mixed(setting: &Setting, courses: &[Course], rng: &mut Rng) -> usize {
-    let mut table = Twins::open(setting.servers, setting.own, &setting.sheet, setting.limit);
+    let Setting {
+        servers,
+        own,
+        ref sheet,
+        limit,
+        least,
+    } = *setting;
+    let mut table = Twins::open(servers, own, sheet, limit, least);
     let mut done = vec![0; courses.len()];
     let mut most = 0;
     let left = |done: &[usize]| -> Vec<usize> {
@@ -144,8 +163,12 @@ fn mixed(setting: &Setting, courses: &[Course], rng: &mut Rng) -> usize {
         done[i] += 1;
         most = most.max(table.plain.waiting().len());
     }
-    let close = table.call(&Call::Close { room: ROOM });
-    assert!(matches!(close, Answer::Message(_)));
+    let accepted = |course: &&Course| course.iter().any(|(_, answer)| *answer == ACCEPTED);
+    let accepted = courses.iter().filter(accepted).count();
+    match table.call(&Call::Close { room: ROOM }) {
+        Answer::Message(_) => assert!(accepted >= least as usize),
+        answer => assert!(answer == Answer::Refused(15) && accepted < least as usize),
+    }
     most
 }
 
@@ -176,6 +199,7 @@ fn eight_large_returns_mixed() {
             own: rng.below(2) as u32,
             sheet,
             limit: 8,
+            least: 1,
         };
         let courses = setting.courses(&mut rng, 8);
         mixed(&setting, &courses, &mut rng);
@@ -215,18 +239,18 @@ fn returns_of_scripts_alone() {
             servers,
             ref sheet,
             limit,
+            least,
             ..
         } = script;
         for ((own, id), course) in courses(&script) {
-            let mut plain = open(servers, own, sheet, limit).unwrap();
-            let mut lent = Lent::open(servers, own, sheet, limit).unwrap();
+            let mut plain = open(servers, own, sheet, limit, least).unwrap();
+            let mut lent = Lent::open(servers, own, sheet, limit, least).unwrap();
             for (call, answer) in &course {
                 assert_eq!(plain.call(call), *answer, "seed {seed}, id {id}");
                 assert_eq!(lent.call(call), *answer, "seed {seed}, id {id}");
             }
         }
-        let open = |own| Twins::open(servers, own, sheet, limit);
-        let mut tables: Vec<Twins> = (0..servers).map(open).collect();
+        let mut tables = Twins::of_script(&script);
         for step in &script.steps {
             let table = &mut tables[step.server as usize];
             assert_eq!(table.call(&step.call), step.answer, "seed {seed}");

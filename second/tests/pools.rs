@@ -20,6 +20,22 @@ struct Ledger {
     rejected: Vec<u32>,
     dropped: Vec<u32>,
     closing: Option<Vec<u8>>,
+    /// A close was refused 15.
+    few: bool,
+}
+
+impl Ledger {
+    /// Notes a close that was not refused 11: done with Q accepted or more, 15 with fewer, and 14
+    /// only with Q or more.
+    fn close(&mut self, least: u32, answer: &Answer) {
+        assert!(self.waiting.is_empty() && self.closing.is_none());
+        let few = self.accepted.len() < least as usize;
+        assert_eq!(*answer == Answer::Refused(15), few);
+        self.few |= few;
+        if let Answer::Message(message) = answer {
+            self.closing = Some(message.clone());
+        }
+    }
 }
 
 /// Reads the ledgers of a script off its calls and answers.
@@ -28,6 +44,9 @@ fn ledgers(script: &Script) -> Vec<Ledger> {
     for step in &script.steps {
         let ledger = &mut ledgers[step.server as usize];
         match (&step.call, &step.answer) {
+            (Call::Close { .. }, answer) if *answer != Answer::Refused(11) => {
+                ledger.close(script.least, answer);
+            }
             (_, Answer::Refused(_)) => {}
             (Call::Share { message, r, s, .. }, Answer::Message(written)) => {
                 assert_eq!(written.len(), 14);
@@ -53,10 +72,6 @@ fn ledgers(script: &Script) -> Vec<Ledger> {
             (Call::Drop { id }, Answer::Dropped) => {
                 assert!(ledger.waiting.remove(id).is_some());
                 ledger.dropped.push(*id);
-            }
-            (Call::Close { .. }, Answer::Message(message)) => {
-                assert!(ledger.waiting.is_empty());
-                assert!(ledger.closing.replace(message.clone()).is_none());
             }
             other => panic!("an answer of the wrong kind: {other:?}"),
         }
@@ -93,7 +108,7 @@ fn check(script: &Script, met: &mut BTreeSet<u32>, verdicts: &mut BTreeMap<Strin
             met.insert(number);
         }
     }
-    for exchange in &script.joins {
+    for exchange in script.openings.iter().chain(&script.joins) {
         if let CaseAnswer::Refused(number) = exchange.answer {
             met.insert(number);
         }
@@ -166,14 +181,18 @@ fn orderly_pools() {
     let mut full = 0;
     for seed in 0..250 {
         let script = Script::orderly(seed);
-        assert!(script.truth.is_some());
         servers.insert(script.servers);
         check(&script, &mut met, &mut verdicts);
-        full += usize::from(ledgers(&script).iter().any(|ledger| ledger.most == 8));
+        let ledgers = ledgers(&script);
+        full += usize::from(ledgers.iter().any(|ledger| ledger.most == 8));
+        // All servers close, or none does for lack of Q.
+        let closed = script.truth.is_some();
+        assert!(ledgers.iter().all(|l| l.closing.is_some() == closed));
+        assert!(closed || ledgers.iter().all(|ledger| ledger.few));
     }
     assert_eq!(servers, (2..=8).collect());
     assert!(full > 25, "{full} pools in which eight waited");
-    assert!((7..=14).all(|number| met.contains(&number)), "{met:?}");
+    assert!((7..=15).all(|number| met.contains(&number)), "{met:?}");
     assert_eq!(verdicts.len(), 7, "{verdicts:?}");
     assert_eq!(verdicts["Honest"][0], 0);
     assert!(verdicts["Honest"][1] > 100);
@@ -200,7 +219,7 @@ fn wild_lists() {
             full += usize::from(ledger.most == 8);
         }
     }
-    assert!((7..=14).all(|number| met.contains(&number)), "{met:?}");
+    assert!((7..=15).all(|number| met.contains(&number)), "{met:?}");
     assert!(accepted > 200 && rejected > 200 && dropped > 200);
     assert!(full > 25, "{full} tables at which eight waited");
 }
@@ -229,7 +248,7 @@ fn every_refusal_is_reached() {
     for seed in 0..60 {
         check(&Script::random(seed), &mut met, &mut BTreeMap::new());
     }
-    assert_eq!(met, (1..=14).chain([17, 19]).collect());
+    assert_eq!(met, (1..=15).chain([17, 19]).collect());
 }
 
 #[test]

@@ -9,7 +9,7 @@ use second::{Joined, Sheet};
 
 #[test]
 fn opening() {
-    let refused = |servers, own, sheet: &[u8], limit| open(servers, own, sheet, limit).err();
+    let refused = |servers, own, sheet: &[u8], limit| open(servers, own, sheet, limit, 1).err();
     for servers in [0, 1, 9, 258, 65_538, u32::MAX] {
         assert_eq!(refused(servers, 0, &[20], 0), Some(2));
     }
@@ -209,12 +209,13 @@ fn any_bytes_at_every_call() {
         let _ = second::recount(&bytes);
         let _ = make(&bytes, number % 10, number, &bytes, &bytes, ROOM);
         let _ = make(&[17], number % 10, number, &bytes, &bytes, ROOM);
-        let _ = open(number % 10, number % 9, &bytes, number % 1100);
+        let _ = open(number % 10, number % 9, &bytes, number % 1100, number % 7);
+        let _ = open(2, 0, &[17], number % 1100, number);
         let _ = join(number % 10, &bytes, number % 1100, &bytes, ROOM);
         let _ = join(number, &[17], number, &bytes, 0);
         let _ = shelve(number % 70, number, &bytes, ROOM);
         let _ = unshelve(number, number % 5000, &bytes, length);
-        let mut table = open(2, round % 2, &[17], 3).unwrap();
+        let mut table = open(2, round % 2, &[17], 3, 1).unwrap();
         let _ = share(&mut table, &bytes, r, s, ROOM);
         let _ = round_one(&mut table, number, &bytes, ROOM);
         let _ = round_two(&mut table, number, &bytes);

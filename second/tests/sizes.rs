@@ -97,8 +97,10 @@ fn what_the_calls_give() {
         let random = vec![0; told.share_bytes - 6 + 16];
         let made = fast::make(&sheet, 2, 1, &values, &random, ROOM).unwrap();
         assert_eq!(made.len(), 2 * told.share_bytes);
-        let mut table = open(2, 0, &sheet, told.greatest_limit).unwrap();
-        let closing = second::close(&mut table, ROOM).unwrap();
+        let mut tables = open_all(2, &sheet, told.greatest_limit);
+        let shares = split(&Sheet::read(&sheet).unwrap(), &made);
+        judge(&mut tables, &shares, 1000, 3);
+        let closing = second::close(&mut tables[0], ROOM).unwrap();
         assert_eq!(closing.len(), 6 + 4 * told.published);
     }
 }
@@ -112,7 +114,7 @@ fn the_greatest_n() {
     sheets.extend([2_097_151, 2_097_152, 8_388_608].map(top_column));
     sheets.extend((0..12).map(|_| gen::sheet(&mut rng, 40)));
     for sheet in &sheets {
-        let opening = |limit: &u32| open(2, 1, sheet, *limit).is_ok();
+        let opening = |limit: &u32| open(2, 1, sheet, *limit, 1).is_ok();
         let opened: Vec<u32> = (1..=1025).filter(opening).collect();
         let greatest = sizes(sheet).unwrap().greatest_limit;
         assert_eq!(opened, (1..=greatest).collect::<Vec<u32>>());

@@ -41,12 +41,13 @@ fn second_round(tables: &mut [Table], first: &[u8]) -> Vec<u8> {
 fn share_order() {
     let sheet = [17, 18, 2];
     let shape = Sheet::read(&sheet).unwrap();
-    let (mut tables, _) = waiting(&sheet, 1);
-    let table = &mut tables[0];
+    let (mut tables, first) = waiting(&sheet, 1);
 
     // 13 when N wait or are decided, however broken the share; 11 in a closed table.
-    refused(table, 13, |t| share(t, &[], 0, P, 0));
-    drop(table, 7).unwrap();
+    refused(&mut tables[0], 13, |t| share(t, &[], 0, P, 0));
+    let second = second_round(&mut tables, &first);
+    let table = &mut tables[0];
+    round_two(table, 7, &second).unwrap();
     refused(table, 13, |t| share(t, &[], 0, P, 0));
     close(table, ROOM).unwrap();
     refused(table, 11, |t| share(t, &[], 0, P, 0));
@@ -76,7 +77,7 @@ fn share_order() {
 fn share_message_faults() {
     let sheet = [17, 19, 3];
     let shares = honest(&sheet, 3, 1);
-    let mut table = open(3, 1, &sheet, 5).unwrap();
+    let mut table = open(3, 1, &sheet, 5, 1).unwrap();
     let good = &shares[1];
     // Every other kind byte, every other server.
     for byte in (0..=255).filter(|&byte| byte != 33) {
@@ -129,7 +130,7 @@ fn challenges(table: &mut Table, good: &[u8]) {
 fn stages() {
     let sheet = [17];
     let (mut tables, first) = waiting(&sheet, 3);
-    let mut idle = open(2, 0, &sheet, 3).unwrap();
+    let mut idle = open(2, 0, &sheet, 3, 1).unwrap();
     assert_eq!(idle.waiting(), []);
     // A table at which nothing waits takes a share or a close.
     refused(&mut idle, 11, |t| round_one(t, 7, &first, 14));
@@ -278,19 +279,8 @@ fn decided_ids_and_the_limit() {
         });
     }
     // A dropped id is refused 10 while N is not reached.
-    let mut table = open(2, 0, &sheet, 2).unwrap();
+    let mut table = open(2, 0, &sheet, 2, 1).unwrap();
     share(&mut table, &accepted[0], 5, 1, 14).unwrap();
     drop(&mut table, 1).unwrap();
     refused(&mut table, 10, |t| share(t, &accepted[0], 5, 1, 14));
-}
-
-#[test]
-fn closing_room() {
-    let sheet = [17, 18, 3, 19, 5];
-    let mut table = open(2, 1, &sheet, 3).unwrap();
-    for room in 0..6 + 4 * 5 {
-        refused(&mut table, 14, |t| close(t, room));
-    }
-    let message = close(&mut table, 26).unwrap();
-    assert_eq!(message, closing(1, 0, &[0; 5]));
 }

@@ -3,9 +3,9 @@
 mod common;
 
 use common::*;
-use second::field::P;
+use second::field::{self, P};
 use second::gen::{self, added_up, lets_in, Origin, Return, Rng};
-use second::{close, drop, fast, join, make, open, share};
+use second::{close, drop, fast, join, make, share};
 use second::{Circuit, Column, Joined, Sheet, Verdict};
 
 /// Adds values to the published sums.
@@ -164,23 +164,23 @@ fn hours_past_the_top() {
             .chain(bits(value))
             .chain(bits(rest))
             .collect();
-        let honest = value + rest == 200;
+        let good = value + rest == 200;
         let given = Return::of_entries(&mut rng, &sheet, 3, 1, &entries);
         let mut tables = open_all(3, &top_column(200), 10);
+        // Hours that are accepted, so that the pool closes.
+        let other = honest(&top_column(200), 3, 2);
+        judge(&mut tables, &other, 1000, 5);
         let (_, second, verdict) = judge(&mut tables, &given.shares, given.r, 5);
-        assert_eq!(verdict == Verdict::Accepted, honest, "{value} {rest}");
+        assert_eq!(verdict == Verdict::Accepted, good, "{value} {rest}");
         // The polynomials are those of the entries: a test tells.
         assert_eq!(sums(&second).0, 0);
-        let total = if honest { value as u32 } else { 0 };
+        let hours = added_up(&sheet, &other).unwrap()[0] as u32;
+        let total = hours + if good { value as u32 } else { 0 };
         let closings = tables.iter_mut().map(|table| close(table, ROOM).unwrap());
         let joined = closings.collect::<Vec<_>>().concat();
-        assert_eq!(
-            join(3, &top_column(200), 10, &joined, 4),
-            Ok(Joined {
-                count: u32::from(honest),
-                totals: words(&[total]),
-            })
-        );
+        let (count, totals) = (1 + u32::from(good), words(&[total]));
+        let answer = join(3, &top_column(200), 10, &joined, 4);
+        assert_eq!(answer, Ok(Joined { count, totals }));
     }
 }
 
@@ -210,12 +210,14 @@ fn few_pairs_let_a_false_return_in() {
 fn a_dropped_share_leaves_no_trace_in_the_totals() {
     let sheet = Sheet::read(&[19, 4]).unwrap();
     let mut rng = Rng::new(9);
-    let given = Return::random(&mut rng, &sheet, 2, 1, Origin::Honest);
-    for own in 0..2 {
-        let mut table = open(2, own, &[19, 4], 3).unwrap();
-        let message = &given.shares[own as usize];
-        share(&mut table, message, given.r, given.s, 14).unwrap();
-        drop(&mut table, 1).unwrap();
-        assert_eq!(close(&mut table, 10), Ok(closing(own as u8, 0, &[0])));
+    let mut make = |id| Return::random(&mut rng, &sheet, 2, id, Origin::Honest);
+    let (given, other) = (make(1), make(2));
+    let mut tables = open_all(2, &[19, 4], 3);
+    judge(&mut tables, &other.shares, other.r, other.s);
+    for (own, table) in tables.iter_mut().enumerate() {
+        share(table, &given.shares[own], given.r, given.s, 14).unwrap();
+        drop(table, 1).unwrap();
+        let total = field::elements(&other.shares[own][6..10]).unwrap()[0] as u32;
+        assert_eq!(close(table, 10), Ok(closing(own as u8, 1, &[total])));
     }
 }

@@ -21,9 +21,8 @@ struct Pool {
 
 impl Pool {
     fn open(limit: u32) -> Pool {
-        let tables = (0..2).map(|own| Twins::open(2, own, &SHEET, limit));
         Pool {
-            tables: tables.collect(),
+            tables: Twins::open_all(2, &SHEET, limit, 1),
             first: BTreeMap::new(),
             second: BTreeMap::new(),
         }

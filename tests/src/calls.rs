@@ -10,7 +10,7 @@ use crate::guard::{Lent, Word};
 use crate::layout::{Parts, SLOTS};
 
 /// Room for the bytes and for the numbers of any table.
-pub const MOST_BYTES: usize = 5_388;
+pub const MOST_BYTES: usize = 5_390;
 pub const MOST_ELEMENTS: usize = 6_208;
 
 /// The functions of pool.h.
@@ -39,6 +39,7 @@ pub struct Call {
     pub servers: u32,
     pub own: u32,
     pub returns: u32,
+    pub least: u32,
     pub entries: u32,
     pub id: u32,
     pub messages: u32,
@@ -83,6 +84,7 @@ impl Call {
             servers: 0,
             own: 0,
             returns: 0,
+            least: 0,
             entries: 0,
             id: 0,
             messages: 0,
@@ -100,9 +102,10 @@ impl Call {
         }
     }
 
-    /// Opening, with room for any table.
+    /// Opening with Q = 1 and room for any table.
     pub fn open_table(servers: u32, own: u32, sheet: &[u8], returns: u32) -> Call {
-        Call { servers, own, sheet: sheet.to_vec(), returns, room: MOST_BYTES, ..Call::of(Function::Open) }
+        let (sheet, room) = (sheet.to_vec(), MOST_BYTES);
+        Call { servers, own, sheet, returns, least: 1, room, ..Call::of(Function::Open) }
     }
 
     /// Carries the call out. An error tells which lent byte was changed that had to stay.

@@ -4,7 +4,7 @@ use second::gen;
 
 use crate::calls::{plain, Call, Function};
 use crate::faults::{alone_and_in_pairs, sheets};
-use crate::layout::Parts;
+use crate::layout::{put_short, Parts};
 use crate::suite::{Suite, Verdict};
 use crate::tops::{largest_sheet, longest_sheet, top_column};
 
@@ -92,7 +92,8 @@ fn shares(suite: &mut Suite, sheet: &[u8], servers: u32, told: [u32; 9]) -> Verd
     suite.number(&Call { values: vec![0; 4 * columns + 4], ..make }, 5)
 }
 
-/// The greatest N told opens; one more is refused, 4 or at 1,025 2. The totals are as many as told.
+/// The greatest N told opens; one more is refused, 4 or at 1,025 2. The totals are as many as told: of a table that has
+/// one accepted, by hand.
 fn openings(suite: &mut Suite, sheet: &[u8], servers: u32, told: [u32; 9]) -> Verdict {
     let (published, greatest) = (told[2], told[8]);
     let open = Call::open_table(servers, 1, sheet, greatest);
@@ -103,6 +104,10 @@ fn openings(suite: &mut Suite, sheet: &[u8], servers: u32, told: [u32; 9]) -> Ve
     suite.number(&Call { returns: 1, ..open.clone() }, 0)?;
     let table = suite.check(&open)?.map_or(Parts::default(), |done| done.table);
     let room = 6 + 4 * published as usize;
+    let table = table.with(|table| {
+        put_short(&mut table.bytes, 6, 1);
+        put_short(&mut table.bytes, 8, 1);
+    });
     let close = Call { table, room, ..Call::of(Function::Close) };
     suite.number(&close, 0)?;
     suite.number(&Call { room: room - 1, ..close }, 14)

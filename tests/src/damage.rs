@@ -28,7 +28,7 @@ fn bytes(rng: &mut Rng, bytes: &mut Vec<u8>) {
         2 => bytes.extend(rng.bytes(9)),
         _ => {
             for _ in 0..rng.between(1, 3).min(length as u64) {
-                let (head, any, byte) = (rng.index(length.min(12)), rng.index(length), rng.next_u64() as u8);
+                let (head, any, byte) = (rng.index(length.min(14)), rng.index(length), rng.next_u64() as u8);
                 let at = rng.pick([head, any]);
                 bytes[at] = rng.pick([bytes[at] ^ 1, bytes[at] ^ 128, byte]);
             }

@@ -11,21 +11,24 @@ use crate::suite::{Suite, Verdict};
 
 /// How a return ends.
 #[derive(Clone, Copy, Debug, PartialEq, Eq)]
-enum End {
+pub enum End {
     Accepted,
     Rejected,
     DroppedFirst,
     DroppedSecond,
 }
 
-const ENDS: [End; 4] = [End::Accepted, End::Rejected, End::DroppedFirst, End::DroppedSecond];
+pub const ENDS: [End; 4] = [End::Accepted, End::Rejected, End::DroppedFirst, End::DroppedSecond];
 
 /// What is added to the first entry of a return that is to be rejected.
 const FALSE: u64 = 7;
 
+/// A return's shares, one for each server.
+type Shares = Vec<Vec<u8>>;
+
 /// The shares of a return that is to end so.
-fn made(suite: &mut Suite, rng: &mut Rng, pool: &Pool, values: &[u8], end: End) -> Result<Vec<Vec<u8>>, String> {
-    let mut shares = pool.make(suite, rng, 2, values)?;
+fn made(suite: &mut Suite, rng: &mut Rng, pool: &Pool, id: u32, values: &[u8], end: End) -> Result<Shares, String> {
+    let mut shares = pool.make(suite, rng, id, values)?;
     if end == End::Rejected {
         let entry = field::add(word(&shares[0], 6), FALSE);
         put_word(&mut shares[0], 6, entry);
@@ -50,6 +53,12 @@ fn play(suite: &mut Suite, pool: &mut Pool, shares: &[Vec<u8>], end: End, look: 
         return Err(format!("{end:?}: the verdicts are {verdicts:?}"));
     }
     Ok(())
+}
+
+/// Takes a return of zeros to its end.
+pub fn take(suite: &mut Suite, rng: &mut Rng, pool: &mut Pool, id: u32, end: End) -> Verdict {
+    let shares = made(suite, rng, pool, id, &vec![0; 4 * pool.sheet.columns().len()], end)?;
+    play(suite, pool, &shares, end, |_| Ok(()))
 }
 
 /// Every eight bytes that stand one after another in a part of a table, numbers lowest byte first.
@@ -118,7 +127,7 @@ pub fn bytes(suite: &mut Suite) -> Verdict {
         let tables = pool.tables.clone();
         for end in ENDS {
             pool.tables.clone_from(&tables);
-            let shares = made(suite, &mut rng, &pool, &values, end)?;
+            let shares = made(suite, &mut rng, &pool, 2, &values, end)?;
             play(suite, &mut pool, &shares, end, |pool| runs(pool, &tables, &shares, true))?;
             runs(&pool, &tables, &shares, false)?;
             clean(&pool)?;
@@ -146,12 +155,14 @@ fn added(pool: &Pool, places: impl Iterator<Item = usize>, expected: &[u64]) -> 
 }
 
 /// All tables added up show a return while it waits. They show zeros when it is decided, and when they are closed.
+/// Another is accepted before, so that the pool closes.
 pub fn sums(suite: &mut Suite) -> Verdict {
     let values = [[1, 0, 0, 0], [2, 0, 0, 0], [9, 0, 0, 0]].concat();
     for (servers, end) in [2, 5].into_iter().flat_map(|servers| ENDS.map(|end| (servers, end))) {
         let mut rng = suite.seed(u64::from(servers));
-        let mut pool = Pool::open(suite, servers, &[17, 18, 3, 19, 4], 1)?;
-        let shares = made(suite, &mut rng, &pool, &values, end)?;
+        let mut pool = Pool::open(suite, servers, &[17, 18, 3, 19, 4], 2)?;
+        take(suite, &mut rng, &mut pool, 1, End::Accepted)?;
+        let shares = made(suite, &mut rng, &pool, 2, &values, end)?;
         let first = if end == End::Rejected { 1 + FALSE } else { 1 };
         play(suite, &mut pool, &shares, end, |pool| added(pool, pool.sheet.published_entries(), &[first, 0, 0, 1, 9]))?;
         let all = pool.sheet.share_elements();

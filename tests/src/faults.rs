@@ -78,11 +78,11 @@ pub fn sheets(order: u32) -> Vec<Fault> {
     wrong.into_iter().map(changed).collect()
 }
 
-/// N outside 1 to 1,024, and N that a number of 24 bits or the greatest top does not allow.
-fn returns(order: u32) -> Vec<Fault> {
+/// N outside 1 to 1,024, and N that a number of 24 bits or the greatest top does not allow: `wraps` is the order of 4.
+fn returns(order: u32, wraps: u32) -> Vec<Fault> {
     let wrong = [(0, 2), (1025, 2), (65_537, 2), (u32::MAX, 2), (129, 4), (1024, 4)];
     let changed = |(returns, number): (u32, u32)| {
-        let order = if number == 2 { order } else { order + 1 };
+        let order = if number == 2 { order } else { wraps };
         fault(order, number, "returns", move |call| call.returns = returns)
     };
     wrong.map(changed).into()
@@ -180,7 +180,7 @@ pub fn join(suite: &mut Suite) -> Verdict {
         let base = Call { servers: 3, sheet, returns: 128, message: totals(3), room: 20, ..Call::of(Function::Join) };
         let mut faults = servers(0);
         faults.extend(sheets(1));
-        faults.extend(returns(2));
+        faults.extend(returns(2, 3));
         faults.extend(rooms(5, 20));
         faults.extend(joined_totals(4));
         alone_and_in_pairs(suite, &base, &faults)?;

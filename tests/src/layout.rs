@@ -7,7 +7,7 @@ use second::Sheet;
 pub use crate::c::pool_slot as Slot;
 
 /// The first byte of a table.
-pub const TABLE: u8 = 2;
+pub const TABLE: u8 = 3;
 /// The stages of a table.
 pub const OPEN: u8 = 0;
 pub const CLOSED: u8 = 1;
@@ -45,7 +45,7 @@ impl Parts {
     }
 }
 
-/// Where everything stands that depends on the sheet and N. The sheet itself stands at byte 12.
+/// Where everything stands that depends on the sheet and N. The sheet itself stands at byte 14.
 #[derive(Clone, Copy, Debug)]
 pub struct Places {
     pub totals: usize,
@@ -61,7 +61,7 @@ pub struct Places {
 }
 
 pub fn places(sheet_length: usize, sheet: &Sheet, returns: usize) -> Places {
-    let totals = 12 + sheet_length;
+    let totals = 14 + sheet_length;
     let ids = totals + 4 * sheet.published();
     let share = sheet.entries() + 2 * sheet.multiplications() + 6;
     Places { totals, ids, length: ids + 4 * returns, share, place: share + 2, run: SLOTS * (share + 2) }
@@ -111,6 +111,7 @@ pub struct Table {
     pub returns: usize,
     pub decided: usize,
     pub accepted: usize,
+    pub least: usize,
     pub bytes: Vec<u8>,
     pub sheet: Sheet,
     pub at: Places,
@@ -134,19 +135,20 @@ impl Table {
 
 /// The table at the start of a slice; `None` where its header or its sheet is not sound.
 fn header(slice: &[u8]) -> Option<Table> {
-    if slice.len() < 12 || slice[0] != TABLE || slice[1] > CLOSED {
+    if slice.len() < 14 || slice[0] != TABLE || slice[1] > CLOSED {
         return None;
     }
     let (servers, own) = (u32::from(slice[2]), u32::from(slice[3]));
-    let (returns, length) = (short(slice, 4), short(slice, 10));
-    if !(2..=8).contains(&servers) || own >= servers || !(1..=1024).contains(&returns) {
+    let (returns, least, length) = (short(slice, 4), short(slice, 10), short(slice, 12));
+    let numbers = (2..=8).contains(&servers) && own < servers;
+    if !numbers || !(1..=1024).contains(&returns) || !(1..=returns).contains(&least) {
         return None;
     }
-    let bytes = slice.get(12..12 + length)?.to_vec();
+    let bytes = slice.get(14..14 + length)?.to_vec();
     let sheet = Sheet::read(&bytes).ok()?;
     let at = places(length, &sheet, returns);
     let (decided, accepted) = (short(slice, 6), short(slice, 8));
-    Some(Table { closed: slice[1] == CLOSED, servers, own, returns, decided, accepted, bytes, sheet, at })
+    Some(Table { closed: slice[1] == CLOSED, servers, own, returns, decided, accepted, least, bytes, sheet, at })
 }
 
 /// Every part has its length, and the counts are sound.
@@ -188,12 +190,13 @@ pub fn read(parts: &Parts) -> Result<Table, String> {
 }
 
 /// The parts of a table that was just opened.
-pub fn opened(servers: u32, own: u32, bytes: &[u8], sheet: &Sheet, returns: u32) -> Parts {
+pub fn opened(servers: u32, own: u32, bytes: &[u8], sheet: &Sheet, returns: u32, least: u32) -> Parts {
     let at = places(bytes.len(), sheet, returns as usize);
     let mut table = vec![0; at.length];
     table[..4].copy_from_slice(&[TABLE, OPEN, servers as u8, own as u8]);
     put_short(&mut table, 4, returns as usize);
-    put_short(&mut table, 10, bytes.len());
-    table[12..12 + bytes.len()].copy_from_slice(bytes);
+    put_short(&mut table, 10, least as usize);
+    put_short(&mut table, 12, bytes.len());
+    table[14..14 + bytes.len()].copy_from_slice(bytes);
     Parts { bytes: table, slots: vec![Slot::default(); SLOTS], elements: vec![0; at.run] }
 }

@@ -208,13 +208,15 @@ pub fn rooms(suite: &mut Suite) -> Verdict {
         };
         room(suite, &make, servers as usize * sheet.share_length())?;
         let open = Call::open_table(servers, 0, &bytes, 2);
-        room(suite, &open, 12 + bytes.len() + 4 * sheet.published() + 8)?;
+        room(suite, &open, 14 + bytes.len() + 4 * sheet.published() + 8)?;
         opening_rooms(suite, &open, 8 * (sheet.entries() + 2 * sheet.multiplications() + 8))?;
         let fixture = Fixture::new(suite, servers, 1, &bytes, 2)?;
         room(suite, &fixture.share(), 14)?;
         room(suite, &fixture.round_one(), 14)?;
         room(suite, &fixture.close(), 6 + 4 * sheet.published())?;
         let mut pool = Pool::open(suite, servers, &bytes, 2)?;
+        let shares = pool.make_zeros(suite, &mut rng, 5)?;
+        pool.judge(suite, &shares, 1_000_003, 19)?;
         let join = pool.close(suite)?;
         room(suite, &join, 4 * sheet.published())?;
     }

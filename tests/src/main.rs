@@ -12,6 +12,7 @@ mod faults;
 mod fixture;
 mod guard;
 mod layout;
+mod least;
 mod limits;
 mod lists;
 mod mixed;
@@ -58,7 +59,7 @@ const REFUSALS: [(Function, &[u32]); 14] = [
     (Function::RoundOne, &[0, 11, 12, 14]),
     (Function::RoundTwo, &[0, 11, 12]),
     (Function::Drop, &[0, 11]),
-    (Function::Close, &[0, 11, 14]),
+    (Function::Close, &[0, 11, 14, 15]),
     (Function::Join, &[0, 1, 2, 4, 12, 14]),
     (Function::Shelve, &[0, 2, 14, 19]),
     (Function::Unshelve, &[0, 2, 14, 19]),
@@ -67,7 +68,7 @@ const REFUSALS: [(Function, &[u32]); 14] = [
 type Test = fn(&mut Suite) -> Verdict;
 
 /// Named tests without a seed of their own.
-const NAMED: [(&str, Test); 91] = [
+const NAMED: [(&str, Test); 102] = [
     ("header: constants", sizes::constants),
     ("header: a slot", sizes::slot),
     ("header: sizes", sizes::lengths),
@@ -138,6 +139,17 @@ const NAMED: [(&str, Test); 91] = [
     ("orders: 11, 12 and 14", orders::order),
     ("orders: totals messages", orders::totals),
     ("orders: random orders and damage", orders::random),
+    ("least count: opening", least::opening),
+    ("least count: order of opening", least::opening_order),
+    ("least count: closing from Q on", least::from),
+    ("least count: order of closing", least::closing_order),
+    ("least count: rejected and dropped returns", least::others),
+    ("least count: 15 changes nothing", least::kept),
+    ("least count: pools that never close", least::never),
+    ("least count: servers opened alike", least::alike),
+    ("least count: joining", least::joining),
+    ("least count: in damaged tables", least::damaged),
+    ("least count: beside the accepted", least::compared),
     ("mixed returns: the largest sheets", mixed::large),
     ("tops: a circuit told by hand", tops::circuit),
     ("tops: values past the top", tops::past),

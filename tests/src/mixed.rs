@@ -6,7 +6,7 @@ use second::gen::{self, Origin, Return, Rng};
 use second::Sheet;
 
 use crate::calls::{plain, Call, Function};
-use crate::layout::{read, word, Slot, SLOTS};
+use crate::layout::{read, words, Slot, SLOTS};
 use crate::orders::shuffled;
 use crate::pools::Pool;
 use crate::suite::{Suite, Verdict};
@@ -81,7 +81,7 @@ fn step(suite: &mut Suite, pool: &mut Pool, server: usize, given: &Return, call:
 
 /// Plays a return alone on fresh tables.
 fn alone(suite: &mut Suite, rng: &mut Rng, pool: &Pool, given: Return) -> Result<Course, String> {
-    let mut fresh = Pool::open(suite, pool.servers, &pool.bytes, pool.returns)?;
+    let mut fresh = Pool::open_from(suite, pool.servers, &pool.bytes, pool.returns, pool.least)?;
     let plan: &[Phase] = match rng.below(8) {
         0 => &[Phase::Share, Phase::Drop],
         1 => &[Phase::Share, Phase::One, Phase::Drop],
@@ -97,11 +97,22 @@ fn alone(suite: &mut Suite, rng: &mut Rng, pool: &Pool, given: Return) -> Result
         }
         phases.push((phase, gives));
     }
-    let join = fresh.close(suite)?;
-    let join = suite.check(&join)?.map_err(|number| format!("refused {number}"))?;
-    let accepted = join.numbers == [1];
-    let totals = accepted.then(|| (0..fresh.sheet.published()).map(|k| word(&join.bytes, 4 * k)).collect());
+    let totals = totals(&fresh)?;
     Ok(Course { given, phases, totals, now: 0, left: Vec::new() })
+}
+
+/// What the tables of a return that was played alone add up to, where it was accepted.
+fn totals(pool: &Pool) -> Result<Option<Vec<u64>>, String> {
+    let mut sums = vec![0; pool.sheet.published()];
+    let mut accepted = 0;
+    for parts in &pool.tables {
+        let table = read(parts)?;
+        accepted += table.accepted;
+        for (sum, share) in sums.iter_mut().zip(words(&parts.bytes, table.at.totals, pool.sheet.published())) {
+            *sum = field::add(*sum, share);
+        }
+    }
+    Ok((accepted == pool.tables.len()).then_some(sums))
 }
 
 /// A return of any origin under an id that may be near another.
@@ -184,7 +195,7 @@ fn play(suite: &mut Suite, rng: &mut Rng, pool: &mut Pool, count: u32, most: usi
     ended(suite, pool, &courses)
 }
 
-/// A mix by its seed: 1 to 14 returns at 2 to 8 servers.
+/// A mix by its seed: 1 to 14 returns at 2 to 8 servers, any Q.
 pub fn mix(suite: &mut Suite, seed: u64) -> Verdict {
     let mut rng = suite.seed(seed ^ 0x313E_D000);
     let entries = rng.pick([1, 4, 12, 12, 60]);
@@ -193,7 +204,9 @@ pub fn mix(suite: &mut Suite, seed: u64) -> Verdict {
     let servers = rng.between(2, 8) as u32;
     let count = rng.between(1, 14) as u32;
     let returns = rng.pick([count, count + 1, 40, largest]);
-    let mut pool = Pool::open(suite, servers, &bytes, returns)?;
+    let few = rng.between(1, u64::from(count.div_ceil(2))) as u32;
+    let least = rng.pick([1, few, few, count]);
+    let mut pool = Pool::open_from(suite, servers, &bytes, returns, least)?;
     let most = rng.pick([2, 5, SLOTS, SLOTS]);
     play(suite, &mut rng, &mut pool, count, most)
 }
@@ -209,12 +222,15 @@ pub fn large(suite: &mut Suite) -> Verdict {
     Ok(())
 }
 
-/// All tables close, and join to the accepted returns.
+/// All tables close and join to the accepted returns, or refuse to close where these are fewer than Q.
 fn ended(suite: &mut Suite, pool: &mut Pool, courses: &[Course]) -> Verdict {
     let mut totals = vec![0; pool.sheet.published()];
     let accepted: Vec<&Vec<u64>> = courses.iter().filter_map(|course| course.totals.as_ref()).collect();
     for (total, k) in totals.iter_mut().zip(0..) {
         *total = field::sum(accepted.iter().map(|totals| totals[k]));
+    }
+    if accepted.len() < pool.least as usize {
+        return pool.close_refused(suite, 15);
     }
     let join = pool.close(suite)?;
     let bytes = totals.iter().flat_map(|&total| (total as u32).to_le_bytes()).collect();

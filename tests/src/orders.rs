@@ -1,48 +1,16 @@
 //! Joined round messages in any order, each server exactly once. What is taken and what is refused is told by hand.
 
-use second::gen::Rng;
+mod messages;
 
 use crate::calls::{Call, Function};
 use crate::damage::{damaged, damaged_joined};
 use crate::fixture::{Fixture, UNKNOWN};
-use crate::layout::{put_word, word};
+use crate::reference::ROUND;
 use crate::suite::{Suite, Verdict};
+use messages::{altered, every_order, exchanged, picked, reversed};
+pub use messages::{ordered, shuffled};
 
-const ROUND: usize = 14;
-const P: u64 = 2_147_483_647;
 const SHEET: [u8; 3] = [17, 18, 3];
-
-/// Joined messages of so many bytes each, in an order of those places.
-fn picked(joined: &[u8], length: usize, order: &[usize]) -> Vec<u8> {
-    order.iter().flat_map(|&place| &joined[length * place..][..length]).copied().collect()
-}
-
-/// Round messages in an order of their places.
-pub fn ordered(joined: &[u8], order: &[usize]) -> Vec<u8> {
-    picked(joined, ROUND, order)
-}
-
-/// Round messages in a random order.
-pub fn shuffled(rng: &mut Rng, joined: &[u8]) -> Vec<u8> {
-    let mut order: Vec<usize> = (0..joined.len() / ROUND).collect();
-    rng.shuffle(&mut order);
-    ordered(joined, &order)
-}
-
-fn reversed(joined: &[u8]) -> Vec<u8> {
-    let order: Vec<usize> = (0..joined.len() / ROUND).rev().collect();
-    ordered(joined, &order)
-}
-
-/// Every order of so many messages.
-fn every_order(count: usize) -> Vec<Vec<usize>> {
-    let mut all = vec![Vec::new()];
-    for next in 0..count {
-        let with = |order: &Vec<usize>, at| [&order[..at], &[next], &order[at..]].concat();
-        all = all.iter().flat_map(|order| (0..=next).map(|at| with(order, at)).collect::<Vec<_>>()).collect();
-    }
-    all
-}
 
 /// A server's round call, its messages in server order.
 #[derive(Clone)]
@@ -91,28 +59,6 @@ impl Round {
     fn starts(&self) -> impl Iterator<Item = usize> + Clone {
         (0..self.servers).map(|place| ROUND * place)
     }
-}
-
-/// Where the message of a server starts.
-fn start(joined: &[u8], server: usize) -> usize {
-    let place = joined.chunks(ROUND).position(|message| usize::from(message[5]) == server);
-    ROUND * place.unwrap_or(0)
-}
-
-/// Messages with one of the two elements of a server's changed.
-fn altered(joined: &[u8], server: usize) -> [Vec<u8>; 2] {
-    [6, 10].map(|at| {
-        let (at, mut message) = (start(joined, server) + at, joined.to_vec());
-        put_word(&mut message, at, (word(joined, at) + 1) % P);
-        message
-    })
-}
-
-/// Messages of which two have each other's server number.
-fn exchanged(joined: &[u8], one: usize, two: usize) -> Vec<u8> {
-    let mut message = joined.to_vec();
-    message.swap(start(joined, one) + 5, start(joined, two) + 5);
-    message
 }
 
 /// From the last to the first, and turned by one: as in server order.

@@ -16,6 +16,7 @@ pub struct Pool {
     pub bytes: Vec<u8>,
     pub sheet: Sheet,
     pub returns: u32,
+    pub least: u32,
     pub tables: Vec<Parts>,
 }
 
@@ -25,14 +26,20 @@ fn done(suite: &mut Suite, call: &Call) -> Result<Done, String> {
 }
 
 impl Pool {
-    /// Opens S tables.
+    /// Opens S tables with Q = 1.
     pub fn open(suite: &mut Suite, servers: u32, bytes: &[u8], returns: u32) -> Result<Pool, String> {
+        Pool::open_from(suite, servers, bytes, returns, 1)
+    }
+
+    /// Opens S tables with any Q.
+    pub fn open_from(suite: &mut Suite, servers: u32, bytes: &[u8], returns: u32, least: u32) -> Result<Pool, String> {
         let sheet = Sheet::read(bytes).map_err(|number| format!("the test's sheet is refused {number}"))?;
         let mut tables = Vec::new();
         for own in 0..servers {
-            tables.push(done(suite, &Call::open_table(servers, own, bytes, returns))?.table);
+            let call = Call { least, ..Call::open_table(servers, own, bytes, returns) };
+            tables.push(done(suite, &call)?.table);
         }
-        Ok(Pool { servers, bytes: bytes.to_vec(), sheet, returns, tables })
+        Ok(Pool { servers, bytes: bytes.to_vec(), sheet, returns, least, tables })
     }
 
     /// Makes a return; gives its S share messages.
@@ -110,6 +117,15 @@ impl Pool {
         Ok(())
     }
 
+    /// Every table refuses to close with this number.
+    pub fn close_refused(&self, suite: &mut Suite, number: u32) -> Verdict {
+        let room = self.sheet.closing_length();
+        for table in &self.tables {
+            suite.number(&Call { table: table.clone(), room, ..Call::of(Function::Close) }, number)?;
+        }
+        Ok(())
+    }
+
     /// Closes every table; gives the joining of what they wrote.
     pub fn close(&mut self, suite: &mut Suite) -> Result<Call, String> {
         let mut message = Vec::new();
@@ -137,12 +153,15 @@ fn add_values(sheet: &Sheet, values: &[u8], totals: &mut [u64]) {
     }
 }
 
-/// Honest returns of random values, their messages in random orders, now and then one dropped: all others are accepted,
-/// and the joined totals are their sums.
+/// Honest returns of random values, their messages in random orders, now and then one dropped: all others are accepted.
+/// Until they are Q every close is refused 15; then the joined totals are their sums.
 fn honest(suite: &mut Suite, rng: &mut Rng, pool: &mut Pool, count: u32) -> Verdict {
     let mut totals = vec![0; pool.sheet.published()];
     let mut accepted = 0;
     for id in 0..count {
+        if accepted < u64::from(pool.least) && rng.chance(50) {
+            pool.close_refused(suite, 15)?;
+        }
         let values = gen::values(rng, &pool.sheet);
         let shares = pool.make(suite, rng, id, &values)?;
         let (r, s) = gen::pair(rng, pool.sheet.multiplications());
@@ -160,12 +179,15 @@ fn honest(suite: &mut Suite, rng: &mut Rng, pool: &mut Pool, count: u32) -> Verd
         add_values(&pool.sheet, &values, &mut totals);
         accepted += 1;
     }
+    if accepted < u64::from(pool.least) {
+        return pool.close_refused(suite, 15);
+    }
     let join = pool.close(suite)?;
     let bytes = totals.iter().flat_map(|&total| (total as u32).to_le_bytes()).collect();
     suite.gives(&join, plain(vec![accepted], bytes))
 }
 
-/// A pool by its seed: sheets of all sizes, 2 to 8 servers.
+/// A pool by its seed: sheets of all sizes, 2 to 8 servers, Q often as many as come.
 pub fn pool(suite: &mut Suite, seed: u64) -> Verdict {
     let mut rng = suite.seed(seed);
     let entries = rng.pick([1, 6, 20, 60, 256]);
@@ -174,7 +196,9 @@ pub fn pool(suite: &mut Suite, seed: u64) -> Verdict {
     let largest = Sheet::read(&bytes).map_or(1, |sheet| gen::largest_limit(&sheet));
     let count = rng.between(1, 6).min(u64::from(largest)) as u32;
     let returns = rng.pick([count, largest]);
-    let mut pool = Pool::open(suite, servers, &bytes, returns)?;
+    let any = rng.between(1, count.into()) as u32;
+    let least = rng.pick([1, any, count, (count + 1).min(returns)]);
+    let mut pool = Pool::open_from(suite, servers, &bytes, returns, least)?;
     honest(suite, &mut rng, &mut pool, count)
 }
 

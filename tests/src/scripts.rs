@@ -45,7 +45,8 @@ fn same(outcome: &Outcome, answer: &Answer) -> bool {
 fn open_tables(suite: &mut Suite, rng: &mut Rng, script: &Script) -> Result<Vec<Parts>, String> {
     let mut tables = Vec::new();
     for own in 0..script.servers {
-        let mut call = Call::open_table(script.servers, own, &script.sheet, script.limit);
+        let open = Call::open_table(script.servers, own, &script.sheet, script.limit);
+        let mut call = Call { least: script.least, ..open };
         let needed = suite.check(&call)?.map_or(0, |done| done.table.bytes.len());
         call.room = needed;
         call.elements = run_length(&script.sheet);
@@ -63,6 +64,9 @@ fn open_tables(suite: &mut Suite, rng: &mut Rng, script: &Script) -> Result<Vec<
 pub fn script(suite: &mut Suite, seed: u64) -> Verdict {
     let mut rng = suite.seed(seed);
     let script = Script::random(seed);
+    for exchange in &script.openings {
+        exchanged(suite, exchange)?;
+    }
     let mut tables = open_tables(suite, &mut rng, &script)?;
     for step in &script.steps {
         let table = &mut tables[step.server as usize];
@@ -84,7 +88,7 @@ pub fn script(suite: &mut Suite, seed: u64) -> Verdict {
     truth(suite, &script)
 }
 
-/// An orderly script's closing messages join to the sums that its returns add up to.
+/// Where an orderly script's pool reaches Q, the closing messages join to the sums that its returns add up to.
 fn truth(suite: &mut Suite, script: &Script) -> Verdict {
     let (Some(truth), Some(first)) = (&script.truth, script.joins.first()) else {
         return Ok(());
@@ -114,7 +118,9 @@ fn case_call(case: &Case) -> Option<Call> {
             let room = room.min(MAKE_ROOM);
             Call { sheet, servers, id, values, random, room, ..Call::of(Function::Make) }
         }
-        Case::Open { servers, own, sheet, limit } => Call::open_table(servers, own, &sheet, limit),
+        Case::Open { servers, own, sheet, limit, least } => {
+            Call { least, ..Call::open_table(servers, own, &sheet, limit) }
+        }
         Case::Join { servers, sheet, limit, joined, room } => {
             let room = room.min(MESSAGE_ROOM);
             Call { servers, sheet, returns: limit, message: joined, room, ..Call::of(Function::Join) }

@@ -41,7 +41,7 @@ size_t sizes_constant(uint32_t number)
     static const size_t constants[] = {
         POOL_DONE, POOL_KIND, POOL_LIMIT, POOL_WIRE, POOL_WRAP, POOL_VALUE, POOL_RANDOM, POOL_SHARE,
         POOL_ELEMENT, POOL_PAIR, POOL_DECIDED, POOL_STAGE, POOL_JOINED, POOL_FULL, POOL_ROOM,
-        POOL_MANY, POOL_RUN,
+        POOL_FEW, POOL_MANY, POOL_RUN,
         POOL_PRIME, POOL_MIN_SERVERS, POOL_MAX_SERVERS, POOL_MAX_RETURNS, POOL_MAX_ENTRIES,
         POOL_YES_NO, POOL_CHOICE, POOL_NUMBER, POOL_TOP, POOL_ROUND_BYTES,
         POOL_MAX_SHEET_BYTES, POOL_MAX_CIRCUIT_BYTES, POOL_MAX_SHARE_BYTES, POOL_MAX_TOTALS_BYTES,
@@ -64,8 +64,8 @@ uint32_t (*const type_circuit)(in, size_t, out, size_t, size_t *) = pool_circuit
 uint32_t (*const type_read_circuit)(uint32_t, in, size_t, number, number, number) = pool_read_circuit;
 uint32_t (*const type_every_return)(in, size_t, out, size_t, number, size_t *) = pool_every_return;
 uint32_t (*const type_make)(in, size_t, uint32_t, uint32_t, in, size_t, in, size_t, out, size_t, size_t *) = pool_make;
-uint32_t (*const type_open)(uint32_t, uint32_t, in, size_t, uint32_t, out, size_t, slots, size_t, number, size_t,
-                            size_t *) = pool_open;
+uint32_t (*const type_open)(uint32_t, uint32_t, in, size_t, uint32_t, uint32_t, out, size_t, slots, size_t, number,
+                            size_t, size_t *) = pool_open;
 uint32_t (*const type_share)(in, size_t, slots, size_t, number, size_t, in, size_t, uint64_t, uint64_t, out, size_t,
                              size_t *) = pool_share;
 uint32_t (*const type_round_one)(in, size_t, slots, size_t, numbers, size_t, uint32_t, in, size_t, out, size_t,

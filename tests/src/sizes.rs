@@ -27,7 +27,7 @@ extern "C" {
 }
 
 /// The refusals.
-const REFUSALS: [usize; 17] = [0, 1, 2, 3, 4, 5, 6, 7, 8, 9, 10, 11, 12, 13, 14, 17, 19];
+const REFUSALS: [usize; 18] = [0, 1, 2, 3, 4, 5, 6, 7, 8, 9, 10, 11, 12, 13, 14, 15, 17, 19];
 
 /// After the refusals: p, S from and to, the most returns and entries, the column kinds, a round message's length, and
 /// the largest sizes; R and W at most, and their product; lists at most, and their bytes; slots, the most numbers, and a
@@ -47,7 +47,7 @@ const CONSTANTS: [usize; 25] = [
     7161,
     3102,
     1030,
-    5388,
+    5390,
     64,
     4096,
     262_144,

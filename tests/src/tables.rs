@@ -60,7 +60,7 @@ pub fn headers(suite: &mut Suite) -> Verdict {
     for fixture in fixtures(suite)? {
         let calls = fixture.calls();
         for table in fixture.stages() {
-            let end = 12 + usize::from(table.bytes[10]);
+            let end = 14 + usize::from(table.bytes[12]);
             for (at, value) in (0..end).flat_map(|at| (0..=255).map(move |value| (at, value))) {
                 all_calls(suite, &calls, &table.with(|table| table.bytes[at] = value))?;
             }
@@ -74,7 +74,7 @@ pub fn bodies(suite: &mut Suite) -> Verdict {
     for fixture in fixtures(suite)? {
         let calls = fixture.calls();
         for table in fixture.stages() {
-            for at in 12 + usize::from(table.bytes[10])..table.bytes.len() {
+            for at in 14 + usize::from(table.bytes[12])..table.bytes.len() {
                 let old = table.bytes[at];
                 for value in [0, 1, 127, 128, 255, old ^ 1, old ^ 128] {
                     all_calls(suite, &calls, &table.with(|table| table.bytes[at] = value))?;
@@ -103,13 +103,13 @@ pub fn lengths(suite: &mut Suite) -> Verdict {
     Ok(())
 }
 
-/// Header numbers at both sides. 1 was the first byte of the tables of an earlier layout.
+/// Header numbers at both sides. 1 and 2 were the first bytes of the tables of earlier layouts.
 pub fn header_limits(suite: &mut Suite) -> Verdict {
     for fixture in fixtures(suite)? {
         let calls = fixture.calls();
         for table in fixture.stages() {
             let (all, own) = (table.bytes[2], table.bytes[3]);
-            for kind in [0, 1, 3, 36, 255] {
+            for kind in [0, 1, 2, 4, 36, 255] {
                 changed(suite, &calls, table, false, |t| t.bytes[0] = kind)?;
             }
             for stage in [2, 3, 127, 128, 255] {
@@ -173,10 +173,10 @@ pub fn sheets(suite: &mut Suite) -> Verdict {
     let calls = fixture.calls();
     for table in fixture.stages() {
         for sheet in [[20, 20, 17], [19, 25, 17], [19, 0, 17], [17, 17, 18], [18, 1, 17], [18, 65, 17]] {
-            changed(suite, &calls, table, false, |t| t.bytes[12..15].copy_from_slice(&sheet))?;
+            changed(suite, &calls, table, false, |t| t.bytes[14..17].copy_from_slice(&sheet))?;
         }
         for length in [0, 1, 300, 65_535] {
-            changed(suite, &calls, table, false, |t| put_short(&mut t.bytes, 10, length))?;
+            changed(suite, &calls, table, false, |t| put_short(&mut t.bytes, 12, length))?;
         }
         // Longer parts in which wider sheets and more returns find room.
         let longer = table.with(|t| {
@@ -199,14 +199,15 @@ pub fn sheets(suite: &mut Suite) -> Verdict {
     Ok(())
 }
 
-/// Writes a table of a sheet with N, in which nothing waits, over what the parts hold.
+/// Writes a table of a sheet with N and Q = 1, in which nothing waits, over what the parts hold.
 fn fresh(parts: &mut Parts, sheet: &[u8], returns: usize) {
     let slice = &mut parts.bytes;
     slice.fill(0);
-    slice[..4].copy_from_slice(&[2, 0, 2, 1]);
+    slice[..4].copy_from_slice(&[3, 0, 2, 1]);
     put_short(slice, 4, returns);
-    put_short(slice, 10, sheet.len());
-    slice[12..12 + sheet.len()].copy_from_slice(sheet);
+    put_short(slice, 10, 1);
+    put_short(slice, 12, sheet.len());
+    slice[14..14 + sheet.len()].copy_from_slice(sheet);
     parts.slots.fill(Slot::default());
     parts.elements.fill(0);
 }

@@ -47,7 +47,7 @@ impl fmt::Display for Call {
             }
             Function::Open => {
                 write!(f, "pool_open servers={servers} own={} sheet={sheet} ", self.own)?;
-                write!(f, "returns={returns} table_len={room} ")?;
+                write!(f, "returns={returns} least={} table_len={room} ", self.least)?;
                 write!(f, "slots_len={} elements_len={}", self.slots, self.elements)
             }
             Function::Share => {

@@ -75,13 +75,16 @@ fn entries(v: u64, left: u64, bits: u32) -> Vec<u64> {
 }
 
 /// A return of a yes/no and a column with a top: made by a workshop that says what it likes, and judged. It is accepted
-/// exactly when v and what is left add up to the top; then the total is v.
+/// exactly when v and what is left add up to the top; then the total is v. One of zeros is accepted before, so that the
+/// pool closes.
 fn judged(suite: &mut Suite, rng: &mut Rng, servers: u32, top: u32, v: u64, left: u64) -> Verdict {
     let bytes = [vec![17], top_column(top)].concat();
     let sheet = Sheet::read(&bytes).map_err(|number| format!("refused {number}"))?;
     let list = [vec![1], entries(v, left, top.ilog2() + 1)].concat();
     let given = Return::of_entries(rng, &sheet, servers, 5, &list);
     let mut pool = Pool::open(suite, servers, &bytes, 3)?;
+    let zeros = pool.make_zeros(suite, rng, 4)?;
+    pool.judge(suite, &zeros, 1_000_003, 19)?;
     // s is not 0: the tests before the last are 0, and s = 0 would leave the last out.
     let verdicts = pool.judge(suite, &given.shares, given.r, given.s.max(1))?;
     let good = v + left == u64::from(top);
@@ -90,7 +93,7 @@ fn judged(suite: &mut Suite, rng: &mut Rng, servers: u32, top: u32, v: u64, left
     }
     let totals = if good { [1, v as u32] } else { [0, 0] };
     let join = pool.close(suite)?;
-    suite.gives(&join, plain(vec![u64::from(good)], totals.map(u32::to_le_bytes).concat()))
+    suite.gives(&join, plain(vec![1 + u64::from(good)], totals.map(u32::to_le_bytes).concat()))
 }
 
 /// Values past the top that have as many bits, with bits of v that are right and any others: rejected. Making refuses
@@ -149,17 +152,17 @@ pub fn tables(suite: &mut Suite) -> Verdict {
     taken(suite, &fixture, |_| ())?;
     for table in fixture.stages() {
         for length in (0..1200).chain([65_535 - 85, 65_535]) {
-            let damaged = table.with(|table| put_short(&mut table.bytes, 10, length));
+            let damaged = table.with(|table| put_short(&mut table.bytes, 12, length));
             if length < 426 && length % 5 != 0 {
                 refused(suite, &calls, &damaged)?;
             }
             all_calls(suite, &calls, &damaged)?;
         }
-        for (at, value) in [12, 13, 16, 17, 267, 268, 432, 437].into_iter().flat_map(|at| [0, 1, 255].map(|v| (at, v)))
+        for (at, value) in [14, 15, 18, 19, 269, 270, 434, 439].into_iter().flat_map(|at| [0, 1, 255].map(|v| (at, v)))
         {
             all_calls(suite, &calls, &table.with(|table| table.bytes[at] = value))?;
         }
-        for length in [11, 12, 267, 268, 437, 438, table.bytes.len() - 1] {
+        for length in [13, 14, 269, 270, 439, 440, table.bytes.len() - 1] {
             refused(suite, &calls, &table.with(|table| table.bytes.truncate(length)))?;
         }
     }

@@ -43,6 +43,22 @@ pub(super) fn any_limit(rng: &mut Rng, sheet: &[u8], percent_edge: u64) -> u32 {
     }
 }
 
+/// A Q for an N, out of range in so many of a hundred cases; often 1.
+pub(super) fn any_least(rng: &mut Rng, limit: u32, percent_wrong: u64) -> u32 {
+    if rng.chance(percent_wrong) {
+        return wrong_least(rng, limit);
+    }
+    let any = rng.between(1, u64::from(limit)) as u32;
+    rng.pick([1, 1, any, limit])
+}
+
+/// A Q outside 1 to N.
+pub(super) fn wrong_least(rng: &mut Rng, limit: u32) -> u32 {
+    let past = limit.saturating_add(1);
+    let far = rng.between(past.into(), u32::MAX.into()) as u32;
+    rng.pick([0, 0, past, past, 65_537, far, u32::MAX])
+}
+
 /// Room for so many bytes, too short in so many of a hundred cases.
 pub(super) fn any_room(rng: &mut Rng, needed: usize, percent_short: u64) -> usize {
     if rng.chance(percent_short) {

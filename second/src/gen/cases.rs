@@ -38,6 +38,7 @@ pub enum Case {
         own: u32,
         sheet: Vec<u8>,
         limit: u32,
+        least: u32,
     },
     /// Joining closing messages.
     Join {
@@ -118,7 +119,7 @@ fn counts(circuit: Circuit) -> CaseAnswer {
 
 /// How a form makes returns and opens tables.
 type Make = fn(&[u8], u32, u32, &[u8], &[u8], usize) -> Result<Vec<u8>, u32>;
-type Open<T> = fn(u32, u32, &[u8], u32) -> Result<T, u32>;
+type Open<T> = fn(u32, u32, &[u8], u32, u32) -> Result<T, u32>;
 
 impl Case {
     /// The plain form's answer.
@@ -153,7 +154,8 @@ impl Case {
                 own,
                 sheet,
                 limit,
-            } => open(*servers, *own, sheet, *limit).map(|_| CaseAnswer::Opened),
+                least,
+            } => open(*servers, *own, sheet, *limit, *least).map(|_| CaseAnswer::Opened),
             Case::Join {
                 servers,
                 sheet,

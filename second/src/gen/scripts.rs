@@ -15,7 +15,7 @@ use builder::Builder;
 pub use calls::{Answer, Call, Server, Step};
 
 /// A script: S tables opened alike, one list of steps for all of them, and joins of what
-/// they wrote at the end.
+/// they wrote at the end. A pool that does not reach Q is not closed.
 #[derive(Clone, Debug, PartialEq, Eq)]
 pub struct Script {
     /// The seed it comes from.
@@ -26,15 +26,19 @@ pub struct Script {
     pub sheet: Vec<u8>,
     /// N.
     pub limit: u32,
+    /// Q.
+    pub least: u32,
+    /// Openings of the same pool with a Q outside 1 to N.
+    pub openings: Vec<Exchange>,
     /// The returns that play a part; each stands at one id.
     pub returns: Vec<Return>,
     /// The calls in order. Only the order at each server matters.
     pub steps: Vec<Step>,
-    /// Joins and recounts. In an orderly script the first is the join of the closing
-    /// messages, unaltered and with enough room.
+    /// Joins and recounts. In an orderly script that is closed the first is the join of the
+    /// closing messages, unaltered and with enough room.
     pub joins: Vec<Exchange>,
-    /// For an orderly script, the count and the totals that must come out, summed up from
-    /// the added-up entries of the returns that every server accepted.
+    /// For an orderly script that is closed, the count and the totals that must come out, summed
+    /// up from the added-up entries of the returns that every server accepted.
     pub truth: Option<Joined>,
 }
 
@@ -49,8 +53,8 @@ impl Script {
     }
 
     /// A whole pool under demand 3's conditions: fresh servers opened alike, round
-    /// messages unaltered, drops in the same order, all closed at the end. Between the
-    /// good calls stand refused ones.
+    /// messages unaltered, drops in the same order, all closed at the end when Q are
+    /// accepted. Between the good calls stand refused ones.
     pub fn orderly(seed: u64) -> Script {
         let mut builder = Builder::new(seed);
         builder.orderly();

@@ -2,7 +2,8 @@
 
 use super::Rng;
 use crate::field::{self, P};
-use crate::sheet::{Column, Sheet, MAX_ENTRIES, MAX_LIMIT};
+use crate::limits::MAX_LIMIT;
+use crate::sheet::{Column, Sheet, MAX_ENTRIES};
 
 /// A legal sheet of at most so many entries (at least 1, at most 256): mixed, or of one
 /// kind only; small, or filled up.

@@ -16,7 +16,7 @@ pub(super) fn value(word: Word) -> u64 {
 }
 
 /// The byte that a table starts with.
-const TABLE: u8 = 2;
+const TABLE: u8 = 3;
 
 // The stages of a table.
 const OPEN: u8 = 0;
@@ -30,8 +30,9 @@ const OWN: usize = 3;
 const LIMIT: usize = 4;
 const DECIDED: usize = 6;
 const ACCEPTED: usize = 8;
-const SHEET: usize = 10;
-const HEADER: usize = 12;
+const LEAST: usize = 10;
+const SHEET: usize = 12;
+const HEADER: usize = 14;
 
 /// The length of a table's bytes.
 pub(super) fn length(sheet: usize, shape: &Shape, limit: usize) -> usize {
@@ -39,13 +40,14 @@ pub(super) fn length(sheet: usize, shape: &Shape, limit: usize) -> usize {
 }
 
 /// Writes the bytes of a fresh table over all of them; the arguments have been checked.
-pub(super) fn write(bytes: &mut [u8], servers: u8, own: u8, sheet: &[u8], limit: u16) {
+pub(super) fn write(bytes: &mut [u8], servers: u8, own: u8, sheet: &[u8], limit: u16, least: u16) {
     bytes.fill(0);
     bytes[KIND] = TABLE;
     bytes[STAGE] = OPEN;
     bytes[SERVERS] = servers;
     bytes[OWN] = own;
     bytes[LIMIT..][..2].copy_from_slice(&limit.to_le_bytes());
+    bytes[LEAST..][..2].copy_from_slice(&least.to_le_bytes());
     bytes[SHEET..][..2].copy_from_slice(&(sheet.len() as u16).to_le_bytes());
     bytes[HEADER..][..sheet.len()].copy_from_slice(sheet);
 }
@@ -63,6 +65,8 @@ pub(super) struct Table<'a> {
     pub shape: Shape,
     pub decided: usize,
     pub accepted: usize,
+    /// Q.
+    pub least: usize,
     /// How many records wait.
     pub waiting: usize,
 }
@@ -83,19 +87,21 @@ impl<'a> Table<'a> {
     }
 
     /// The parts of a table; `None` when one is too short, the records are not eight, or the
-    /// sheet, N or refusal 4's rule is broken.
+    /// sheet, N, Q or refusal 4's rule is broken.
     #[inline(always)]
     fn parts(bytes: &'a mut [u8], slots: &'a mut [Slot], numbers: &'a mut [u32]) -> Option<Self> {
         let (header, rest) = bytes.split_first_chunk_mut::<HEADER>()?;
         let limit = usize::from(pair(header, LIMIT));
+        let least = usize::from(pair(header, LEAST));
         let (sheet, rest) = rest.split_at_mut_checked(usize::from(pair(header, SHEET)))?;
-        let shape = Shape::opening(sheet, limit as u32).ok()?;
+        let shape = Shape::opening(sheet, limit as u32, least as u32).ok()?;
         let (words, _) = rest.as_chunks_mut();
         let (totals, words) = words.split_at_mut_checked(shape.published)?;
         let slots: &mut [Slot; PLACES] = slots.try_into().ok()?;
         Some(Table {
             decided: usize::from(pair(header, DECIDED)),
             accepted: usize::from(pair(header, ACCEPTED)),
+            least,
             waiting: slots.iter().filter(|slot| slot.waits()).count(),
             header,
             sheet,

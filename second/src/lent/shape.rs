@@ -1,7 +1,8 @@
 //! The sheet reader of the lent form: counts only, in one pass.
 
+use crate::limits::check_opening;
 use crate::refusal;
-use crate::sheet::{check_limit, Column, MAX_ENTRIES, MAX_MULTIPLICATIONS, MAX_TESTS};
+use crate::sheet::{Column, MAX_ENTRIES, MAX_MULTIPLICATIONS, MAX_TESTS};
 use crate::table::PLACES;
 
 /// The counts of a sheet that was read.
@@ -20,11 +21,11 @@ pub(super) struct Shape {
 }
 
 impl Shape {
-    /// Reads a sheet, and N with it. Order of refusals: sheet, N, 4.
+    /// Reads a sheet, N and Q with it. Order of refusals: sheet, N, Q, 4.
     #[inline(always)]
-    pub fn opening(sheet: &[u8], limit: u32) -> Result<Shape, u32> {
+    pub fn opening(sheet: &[u8], limit: u32, least: u32) -> Result<Shape, u32> {
         let shape = Shape::read(sheet)?;
-        check_limit(shape.largest, limit)?;
+        check_opening(shape.largest, limit, least)?;
         Ok(shape)
     }
 

@@ -58,7 +58,7 @@ mod tests {
         let mut rng = Rng::new(32);
         for _ in 0..1000 {
             let bytes = gen::sheet(&mut rng, 256);
-            let (Ok(sheet), Ok(shape)) = (Sheet::read(&bytes), Shape::opening(&bytes, 1)) else {
+            let (Ok(sheet), Ok(shape)) = (Sheet::read(&bytes), Shape::read(&bytes)) else {
                 continue;
             };
             let entries: Vec<u32> = (0..shape.entries as u32).collect();

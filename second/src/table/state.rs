@@ -6,8 +6,9 @@ use crate::judging::{
     check_challenges, round_message, round_sums, share_parts, sigma, Findings, Round, ROUND_LENGTH,
     ROUND_ONE, ROUND_TWO,
 };
+use crate::limits::{check_opening, check_servers};
 use crate::refusal;
-use crate::sheet::{check_limit, check_servers, Sheet};
+use crate::sheet::Sheet;
 
 /// All that a table knows, apart from how it works on a share.
 #[derive(Clone, Debug, PartialEq, Eq)]
@@ -16,6 +17,8 @@ pub(super) struct State {
     own: u32,
     pub sheet: Sheet,
     limit: u32,
+    /// Q.
+    least: u32,
     pub decided: Vec<u32>,
     pub accepted: u32,
     /// Sums of the published entries over the accepted returns. At most 1,024 elements
@@ -38,17 +41,24 @@ pub(super) struct Waiting {
 }
 
 impl State {
-    pub fn open(servers: u32, own: u32, sheet: &[u8], limit: u32) -> Result<State, u32> {
+    pub fn open(
+        servers: u32,
+        own: u32,
+        sheet: &[u8],
+        limit: u32,
+        least: u32,
+    ) -> Result<State, u32> {
         check_servers(servers)?;
         if own >= servers {
             return Err(refusal::LIMIT);
         }
         let sheet = Sheet::read(sheet)?;
-        check_limit(sheet.largest(), limit)?;
+        check_opening(sheet.largest(), limit, least)?;
         Ok(State {
             servers,
             own,
             limit,
+            least,
             decided: Vec::new(),
             accepted: 0,
             totals: vec![0; sheet.published()],
@@ -201,6 +211,11 @@ impl State {
         // No close while any waits.
         if self.closed || self.waiting().next().is_some() {
             return Err(refusal::STAGE);
+        }
+        // "Closing with fewer than Q accepted gives no totals, and the pool stays open for
+        // more, up to N decided." "Too few accepted is refused 15, between 11 and 14."
+        if self.accepted < self.least {
+            return Err(refusal::FEW);
         }
         let length = self.sheet.closing_length();
         if room < length {

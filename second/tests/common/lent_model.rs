@@ -19,7 +19,7 @@ pub fn stages(sheet: &[u8], limit: u32) -> Stages {
     let shape = Sheet::read(sheet).unwrap();
     let mut rng = Rng::new(43);
     let mut make = |id, origin| Return::random(&mut rng, &shape, 2, id, origin);
-    let lents = (0..2).map(|own| Lent::open(2, own, sheet, limit).unwrap());
+    let lents = (0..2).map(|own| Lent::open(2, own, sheet, limit, 1).unwrap());
     let mut lents: Vec<Lent> = lents.collect();
     judged(&mut lents, &make(1, Origin::Honest), Verdict::Accepted);
     judged(&mut lents, &make(2, Origin::FalseTriple), Verdict::Rejected);
@@ -100,10 +100,10 @@ fn message(answer: Answer) -> Vec<u8> {
 pub fn sound(table: &Lent) -> Option<Vec<Slot>> {
     let bytes = &table.bytes[..];
     let pair = |at: usize| Some(u32::from(*bytes.get(at)?) + 256 * u32::from(*bytes.get(at + 1)?));
-    let (limit, decided, accepted) = (pair(4)?, pair(6)?, pair(8)?);
-    let end = 12 + pair(10)? as usize;
-    let sheet = bytes.get(12..end)?;
-    table::open(bytes[2].into(), bytes[3].into(), sheet, limit).ok()?;
+    let (limit, decided, accepted, least) = (pair(4)?, pair(6)?, pair(8)?, pair(10)?);
+    let end = 14 + pair(12)? as usize;
+    let sheet = bytes.get(14..end)?;
+    table::open(bytes[2].into(), bytes[3].into(), sheet, limit, least).ok()?;
     let sheet = Sheet::read(sheet).ok()?;
     let totals = end + 4 * sheet.published();
     field::elements(bytes.get(end..totals)?)?;
@@ -122,7 +122,7 @@ pub fn sound(table: &Lent) -> Option<Vec<Slot>> {
         waiting.push(*slot);
     }
     let counts = accepted <= decided && decided + waiting.len() as u32 <= limit;
-    let head = bytes[0] == 2 && bytes[1] == 0;
+    let head = bytes[0] == 3 && bytes[1] == 0;
     (table.slots.len() == 8 && counts && head).then_some(waiting)
 }
 
@@ -149,7 +149,7 @@ pub fn taken(table: &Lent, calls: &[Call]) -> Vec<bool> {
 fn refitted(table: &Lent) -> Lent {
     let told = || {
         let pair = |at| Some(u16::from_le_bytes(*table.bytes.get(at..)?.first_chunk()?));
-        let sheet = table.bytes.get(12..12 + usize::from(pair(10)?))?;
+        let sheet = table.bytes.get(14..14 + usize::from(pair(12)?))?;
         let length = lent::length(sheet, pair(4)?.into()).ok()?;
         Some((length, lent::run_length(sheet).ok()?))
     };
@@ -169,4 +169,17 @@ pub fn check(table: &Lent, calls: &[Call]) -> bool {
     let expected: Vec<bool> = calls.iter().map(allows).collect();
     assert_eq!(taken(table, calls), expected, "{table:?}");
     waiting.is_some()
+}
+
+/// The table with something changed.
+pub fn changed(table: &Lent, change: impl FnOnce(&mut Lent)) -> Lent {
+    let mut table = table.clone();
+    change(&mut table);
+    table
+}
+
+/// The table with a number of two bytes at a place.
+pub fn put(table: &Lent, at: usize, number: u16) -> Lent {
+    let bytes = number.to_le_bytes();
+    changed(table, |t| t.bytes[at..at + 2].copy_from_slice(&bytes))
 }

@@ -32,12 +32,12 @@ pub struct Lent {
 }
 
 impl Lent {
-    pub fn open(servers: u32, own: u32, sheet: &[u8], limit: u32) -> Result<Lent, u32> {
+    pub fn open(servers: u32, own: u32, sheet: &[u8], limit: u32, least: u32) -> Result<Lent, u32> {
         let mut bytes = vec![FILL; 7000];
         let mut slots = vec![FILL_SLOT; SLOTS];
         let mut numbers = vec![FILL_NUMBER; 6300];
         let (b, s, n) = (&mut bytes, &mut slots, &mut numbers);
-        let opened = lent::open(servers, own, sheet, limit, b, s, n);
+        let opened = lent::open(servers, own, sheet, limit, least, b, s, n);
         let length = *opened.as_ref().unwrap_or(&0);
         let run = opened.and_then(|_| lent::run_length(sheet)).unwrap_or(0);
         assert!(bytes[length..].iter().all(|&byte| byte == FILL));

@@ -3,6 +3,8 @@
 
 pub mod lent_model;
 pub mod lent_table;
+pub mod pool;
+pub mod rounds;
 pub mod twins;
 
 use second::field::{self, P};
@@ -90,10 +92,10 @@ pub fn sums(joined: &[u8]) -> (u64, u64) {
     })
 }
 
-/// Opens S tables alike.
+/// Opens S tables alike, with Q = 1.
 pub fn open_all(servers: u32, sheet: &[u8], limit: u32) -> Vec<Table> {
     (0..servers)
-        .map(|own| open(servers, own, sheet, limit).unwrap())
+        .map(|own| open(servers, own, sheet, limit, 1).unwrap())
         .collect()
 }
 

@@ -1,7 +1,7 @@
 //! A table in the plain and in the lent form, which must agree at every call.
 
 use super::lent_table::Lent;
-use second::gen::{Answer, Call, Server};
+use second::gen::{Answer, Call, Script, Server};
 use second::{open, Stage, Table};
 
 /// A table in both forms.
@@ -12,11 +12,22 @@ pub struct Twins {
 }
 
 impl Twins {
-    pub fn open(servers: u32, own: u32, sheet: &[u8], limit: u32) -> Twins {
+    pub fn open(servers: u32, own: u32, sheet: &[u8], limit: u32, least: u32) -> Twins {
         Twins {
-            plain: open(servers, own, sheet, limit).unwrap(),
-            lent: Lent::open(servers, own, sheet, limit).unwrap(),
+            plain: open(servers, own, sheet, limit, least).unwrap(),
+            lent: Lent::open(servers, own, sheet, limit, least).unwrap(),
         }
+    }
+
+    /// S tables opened alike.
+    pub fn open_all(servers: u32, sheet: &[u8], limit: u32, least: u32) -> Vec<Twins> {
+        let open = |own| Twins::open(servers, own, sheet, limit, least);
+        (0..servers).map(open).collect()
+    }
+
+    /// The tables of a script.
+    pub fn of_script(script: &Script) -> Vec<Twins> {
+        Twins::open_all(script.servers, &script.sheet, script.limit, script.least)
     }
 }
 

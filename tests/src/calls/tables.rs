@@ -60,6 +60,7 @@ impl Call {
                 sheet.pointer(),
                 sheet.length(),
                 self.returns,
+                self.least,
                 table.pointer_mut(),
                 table.length(),
                 slots.pointer_mut(),

@@ -3,7 +3,7 @@
 use super::{alone_and_in_pairs, fault, returns, rooms, servers, sheets, Fault, P};
 use crate::calls::{Call, Function};
 use crate::fixture::{other, Fixture, DECIDED, NEXT, UNKNOWN};
-use crate::layout::{put_word, Parts};
+use crate::layout::{put_short, put_word, Parts};
 use crate::orders::ordered;
 use crate::suite::{Suite, Verdict};
 
@@ -33,21 +33,30 @@ fn parts(order: u32, number: u32, needed: usize) -> Vec<Fault> {
     faults
 }
 
-/// Opening: S and own number, the sheet, N, 4, 14.
+/// Q outside 1 to N, whatever N is; and N + 1 where it is 128, which is one change with N's.
+fn leasts(order: u32) -> Vec<Fault> {
+    let least = |place: &'static str, least: u32| fault(order, 2, place, move |call: &mut Call| call.least = least);
+    let mut faults: Vec<Fault> = [0, 1025, 65_536, 65_537, u32::MAX].map(|wrong| least("least", wrong)).into();
+    faults.push(least("returns", 129));
+    faults
+}
+
+/// Opening: S and own number, the sheet, N, Q, 4, 14.
 pub fn open(suite: &mut Suite) -> Verdict {
     suite.seed(3);
-    let number = (vec![17, 18, 3, 19, 24], 12 + 5 + 20 + 4 * 128, 8 * (29 + 2 * 28 + 8));
-    let top = (vec![17, 18, 3, 20, 255, 255, 255, 0], 12 + 8 + 20 + 4 * 128, 8 * (53 + 2 * 52 + 8));
-    for (sheet, room, elements) in [number, top] {
-        let base = Call { room, elements, ..Call::open_table(3, 2, &sheet, 128) };
+    let number = (vec![17, 18, 3, 19, 24], 14 + 5 + 20 + 4 * 128, 8 * (29 + 2 * 28 + 8), 1);
+    let top = (vec![17, 18, 3, 20, 255, 255, 255, 0], 14 + 8 + 20 + 4 * 128, 8 * (53 + 2 * 52 + 8), 128);
+    for (sheet, room, elements, least) in [number, top] {
+        let base = Call { room, elements, least, ..Call::open_table(3, 2, &sheet, 128) };
         let mut faults = servers(0);
         faults.push(fault(1, 2, "servers", |call| call.servers = 2));
         let own = |own: u32| fault(1, 2, "own", move |call| call.own = own);
         faults.extend([3, 8, 256, 258, u32::MAX].map(own));
         faults.extend(sheets(2));
-        faults.extend(returns(3));
-        faults.extend(rooms(5, room));
-        faults.extend(parts(5, 14, elements));
+        faults.extend(returns(3, 5));
+        faults.extend(leasts(4));
+        faults.extend(rooms(6, room));
+        faults.extend(parts(6, 14, elements));
         alone_and_in_pairs(suite, &base, &faults)?;
     }
     Ok(())
@@ -238,13 +247,25 @@ pub fn drop(suite: &mut Suite) -> Verdict {
     Ok(())
 }
 
-/// Close: 11, 14; a full table closes, and none in which others wait.
+/// The table with a Q above the one return that is accepted.
+fn few(table: &Parts) -> Parts {
+    table.with(|table| put_short(&mut table.bytes, 10, 2))
+}
+
+/// Close: 11, 15, 14; a full table closes, and none in which others wait.
 pub fn close(suite: &mut Suite) -> Verdict {
     let [fixture, among] = fixtures(suite)?;
     let mut faults = tables(&fixture);
     let waits = [&fixture.first, &fixture.second, &among.idle, &among.first, &among.second, &among.full];
     faults.extend(waits.map(|wrong| table(11, wrong.clone())));
-    faults.extend(rooms(1, fixture.closing));
+    // 11 before 15: one waits, the table is closed or unsound.
+    faults.extend(waits.map(|wrong| table(11, few(wrong))));
+    faults.push(table(11, few(&fixture.closed)));
+    for (at, byte) in [(0, 2), (1, 2), (2, 1), (3, 3), (8, 2), (13, 1)] {
+        faults.push(table(11, few(&fixture.idle).with(|table| table.bytes[at] = byte)));
+    }
+    faults.extend([&fixture.idle, &fixture.full].map(|wrong| table(15, few(wrong))));
+    faults.extend(rooms(2, fixture.closing));
     faults.extend(parts(0, 11, fixture.idle.elements.len()));
     alone_and_in_pairs(suite, &fixture.close(), &faults)?;
     suite.number(&Call { table: fixture.full.clone(), ..fixture.close() }, 0)?;

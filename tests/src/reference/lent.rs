@@ -28,8 +28,8 @@ pub fn answer(call: &Call) -> Option<Outcome> {
 fn open(call: &Call) -> Outcome {
     let (mut bytes, mut elements) = (vec![0xA5; call.room], vec![0xA5A5_A5A5; call.elements]);
     let mut slots = vec![TheirSlot { id: 7, ..TheirSlot::default() }; call.slots];
-    let Call { servers, own, returns, .. } = *call;
-    let length = lent::open(servers, own, &call.sheet, returns, &mut bytes, &mut slots, &mut elements)?;
+    let Call { servers, own, returns, least, .. } = *call;
+    let length = lent::open(servers, own, &call.sheet, returns, least, &mut bytes, &mut slots, &mut elements)?;
     bytes.truncate(length);
     elements.truncate(lent::run_length(&call.sheet)?);
     Ok(Done { numbers: Vec::new(), bytes: Vec::new(), table: Parts { bytes, slots: ours(&slots), elements } })

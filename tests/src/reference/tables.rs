@@ -14,9 +14,10 @@ fn done(numbers: Vec<u64>, bytes: Vec<u8>, table: Parts) -> Outcome {
 }
 
 pub fn open(call: &Call) -> Outcome {
-    fast::open(call.servers, call.own, &call.sheet, call.returns)?;
+    let Call { servers, own, returns, least, .. } = *call;
+    fast::open(servers, own, &call.sheet, returns, least)?;
     let sheet = Sheet::read(&call.sheet)?;
-    let table = layout::opened(call.servers, call.own, &call.sheet, &sheet, call.returns);
+    let table = layout::opened(servers, own, &call.sheet, &sheet, returns, least);
     if call.room < table.bytes.len() || call.slots != layout::SLOTS || call.elements < table.elements.len() {
         return Err(refusal::ROOM);
     }
@@ -41,7 +42,7 @@ pub fn share(call: &Call) -> Outcome {
         return Err(refusal::FULL);
     }
     // A fresh table knows no ids, so that 10 has to be put between 8 and 9.
-    let mut fresh = fast::open(table.servers, table.own, &table.bytes, table.returns as u32)?;
+    let mut fresh = fast::open(table.servers, table.own, &table.bytes, table.returns as u32, 1)?;
     let taken = fast::share(&mut fresh, &call.message, call.r, call.s, call.room);
     if let Err(number @ (refusal::SHARE | refusal::ELEMENT)) = taken {
         return Err(number);
@@ -174,6 +175,9 @@ pub fn close(call: &Call) -> Outcome {
     let table = open_table(call)?;
     if call.table.waiting() > 0 {
         return Err(refusal::STAGE);
+    }
+    if table.accepted < table.least {
+        return Err(refusal::FEW);
     }
     if call.room < table.sheet.closing_length() {
         return Err(refusal::ROOM);

@@ -3,7 +3,7 @@
 use super::{Case, Shelf};
 use crate::circuit::circuit;
 use crate::gen::any::{
-    any_id, any_limit, any_messages, any_room, any_servers, any_sheet, any_width,
+    any_id, any_least, any_limit, any_messages, any_room, any_servers, any_sheet, any_width,
 };
 use crate::gen::closings::{closing, damage_closings, recount_input};
 use crate::gen::{circuits, sheets, Rng};
@@ -118,6 +118,7 @@ impl Case {
         Case::Open {
             servers,
             own,
+            least: any_least(rng, limit, 15),
             sheet,
             limit,
         }

@@ -16,6 +16,7 @@ pub(super) struct Builder {
     pub bytes: Vec<u8>,
     pub sheet: Sheet,
     pub limit: u32,
+    pub least: u32,
     pub tables: Vec<Table>,
     pub returns: Vec<Return>,
     /// How many returns an orderly script sends.
@@ -45,10 +46,12 @@ impl Builder {
         };
         // N a little above or below the number of returns, or large.
         let most = sheets::largest_limit(&sheet);
-        let near = rng.between(1, planned + 2) as u32;
+        let low = rng.pick([1, planned.div_ceil(2), planned]);
+        let near = rng.between(low, planned + 2) as u32;
         let limit = rng.pick([near, near, most, 1024]).min(most);
+        let least = least(&mut rng, limit, planned);
         let tables = (0..servers)
-            .filter_map(|own| table::open(servers, own, &bytes, limit).ok())
+            .filter_map(|own| table::open(servers, own, &bytes, limit, least).ok())
             .collect();
         Builder {
             seed,
@@ -57,6 +60,7 @@ impl Builder {
             bytes,
             sheet,
             limit,
+            least,
             tables,
             returns: Vec::new(),
             planned,
@@ -64,6 +68,13 @@ impl Builder {
             written: BTreeMap::new(),
             closings: BTreeMap::new(),
         }
+    }
+
+    /// Whether a pool with too few accepted goes on: mostly, where N are decided now and then.
+    pub fn goes_on(&mut self) -> bool {
+        let full = |table: &Table| table.decided().len() == self.limit as usize;
+        let full = self.tables.iter().any(full);
+        self.rng.chance(if full { 40 } else { 85 })
     }
 
     /// Carries out a call and notes it.
@@ -117,5 +128,18 @@ impl Builder {
         let made = Return::random(&mut self.rng, &self.sheet, self.servers, id, origin);
         self.returns.push(made);
         self.returns.len() - 1
+    }
+}
+
+/// A Q: often 1, mostly one that the planned returns may reach, now and then N where it is near.
+fn least(rng: &mut Rng, limit: u32, planned: u64) -> u32 {
+    let most = planned.min(limit.into());
+    let few = rng.between(1, most.div_ceil(3)) as u32;
+    let some = rng.between(1, most) as u32;
+    match rng.below(20) {
+        0..=8 => 1,
+        9..=16 => few,
+        17 | 18 => some,
+        _ => limit.min(planned as u32 + 2),
     }
 }

@@ -3,12 +3,29 @@
 use super::builder::Builder;
 use super::{Answer, Call, Script};
 use crate::field;
+use crate::gen::any::wrong_least;
 use crate::gen::closings::{closing, damage_closings, recount_input};
 use crate::gen::{added_up, Case, Exchange};
 use crate::joining::Joined;
-use crate::table::Verdict;
+use crate::table::{Table, Verdict};
 
 impl Builder {
+    /// Openings of the same pool with a Q outside 1 to N, in half of the scripts.
+    fn openings(&mut self) -> Vec<Exchange> {
+        let count = self.rng.pick([0, 0, 1, 3]);
+        let servers = 0..self.servers;
+        let opening = |own| {
+            Exchange::of(Case::Open {
+                servers: self.servers,
+                own,
+                sheet: self.bytes.clone(),
+                limit: self.limit,
+                least: wrong_least(&mut self.rng, self.limit),
+            })
+        };
+        servers.cycle().take(count).map(opening).collect()
+    }
+
     /// Joins at the end: the closing messages as they are, then damaged ones.
     fn joins(&mut self) -> Vec<Exchange> {
         let published = self.sheet.published();
@@ -71,13 +88,17 @@ impl Builder {
 
     /// The finished script.
     pub fn finish(mut self, orderly: bool) -> Script {
+        let openings = self.openings();
         let joins = self.joins();
-        let truth = orderly.then(|| self.truth());
+        let closed = self.tables.iter().all(Table::closed);
+        let truth = (orderly && closed).then(|| self.truth());
         Script {
             seed: self.seed,
             servers: self.servers,
             sheet: self.bytes,
             limit: self.limit,
+            least: self.least,
+            openings,
             returns: self.returns,
             steps: self.steps,
             joins,

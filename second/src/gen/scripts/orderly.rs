@@ -5,6 +5,7 @@ use super::{Answer, Call};
 use crate::gen::any::any_room;
 use crate::gen::pair;
 use crate::judging::{ROUND_LENGTH, ROUND_ONE, ROUND_TWO};
+use crate::table::Table;
 
 /// A return on its way through the pool.
 struct Course {
@@ -28,14 +29,24 @@ enum Phase {
 }
 
 impl Builder {
-    /// Takes the planned returns through the pool, their calls mixed, then closes.
+    /// Takes the planned returns through the pool, then closes. While too few are accepted, more
+    /// returns come, and another close.
     pub fn orderly(&mut self) {
         // So many are under way at once. With nine, a server may meet one too many.
         let most = self.rng.pick([1, 3, 8, 8, 9, 10]);
+        self.take(self.planned, most);
+        while !self.close_all() && self.goes_on() {
+            let more = self.rng.between(1, 3);
+            self.take(more, most);
+        }
+    }
+
+    /// Takes so many new returns through the pool, their calls mixed.
+    fn take(&mut self, planned: u64, most: usize) {
         let mut courses: Vec<Course> = Vec::new();
         let mut started = 0;
-        while started < self.planned || !courses.is_empty() {
-            let more = started < self.planned && courses.len() < most;
+        while started < planned || !courses.is_empty() {
+            let more = started < planned && courses.len() < most;
             if more && (courses.is_empty() || self.rng.chance(40)) {
                 courses.push(self.start());
                 started += 1;
@@ -45,12 +56,17 @@ impl Builder {
                 courses.swap_remove(at);
             }
         }
+    }
+
+    /// Closes at every server; tells whether the tables are closed.
+    fn close_all(&mut self) -> bool {
         for server in self.order() {
             self.noise(server);
             let room = any_room(&mut self.rng, self.sheet.closing_length(), 0);
             self.call(server, Call::Close { room });
             self.noise(server);
         }
+        self.tables.iter().all(Table::closed)
     }
 
     /// A new return. Now and then some servers never get their share; now and then the servers

@@ -39,7 +39,9 @@ impl fmt::Display for Answer {
 /// One line for each call, and one for each answer:
 ///
 /// ```text
-/// open <S> <N> <sheet>
+/// open <S> <N> <Q> <sheet>
+/// try <S> <own> <N> <Q> <sheet>
+/// = refused <number>
 /// at <server> share <r> <s> <room> <message> | one <id> <room> <joined> | two <id> <joined>
 ///     | drop <id> | close <room>
 /// = message <bytes> | accepted | rejected | dropped | refused <number>
@@ -50,35 +52,52 @@ impl fmt::Display for Script {
     fn fmt(&self, f: &mut fmt::Formatter) -> fmt::Result {
         writeln!(
             f,
-            "open {} {} {}",
+            "open {} {} {} {}",
             self.servers,
             self.limit,
+            self.least,
             Hex(&self.sheet)
         )?;
+        for exchange in &self.openings {
+            tell(f, exchange)?;
+        }
         for step in &self.steps {
             writeln!(f, "at {} {}\n= {}", step.server, step.call, step.answer)?;
         }
-        for Exchange { case, answer } in &self.joins {
-            let Case::Join {
-                servers,
-                sheet,
-                limit,
-                joined,
-                room,
-            } = case
-            else {
-                continue;
-            };
-            let (sheet, joined) = (Hex(sheet), Hex(joined));
-            writeln!(f, "join {servers} {limit} {room} {sheet} {joined}")?;
-            match answer {
-                CaseAnswer::Joined(Joined { count, totals }) => {
-                    writeln!(f, "= joined {count} {}", Hex(totals))?;
-                }
-                CaseAnswer::Refused(number) => writeln!(f, "= refused {number}")?,
-                _ => {}
-            }
+        for exchange in &self.joins {
+            tell(f, exchange)?;
         }
         Ok(())
+    }
+}
+
+/// An opening or a join with its answer; nothing for the text of recount.
+fn tell(f: &mut fmt::Formatter, exchange: &Exchange) -> fmt::Result {
+    match &exchange.case {
+        Case::Open {
+            servers,
+            own,
+            sheet,
+            limit,
+            least,
+        } => writeln!(f, "try {servers} {own} {limit} {least} {}", Hex(sheet))?,
+        Case::Join {
+            servers,
+            sheet,
+            limit,
+            joined,
+            room,
+        } => {
+            let (sheet, joined) = (Hex(sheet), Hex(joined));
+            writeln!(f, "join {servers} {limit} {room} {sheet} {joined}")?;
+        }
+        _ => return Ok(()),
+    }
+    match &exchange.answer {
+        CaseAnswer::Joined(Joined { count, totals }) => {
+            writeln!(f, "= joined {count} {}", Hex(totals))
+        }
+        CaseAnswer::Refused(number) => writeln!(f, "= refused {number}"),
+        _ => Ok(()),
     }
 }

@@ -2,11 +2,12 @@
 
 use super::builder::Builder;
 use super::joined::start_of;
-use super::Call;
+use super::{Answer, Call};
 use crate::field;
 use crate::gen::any::any_room;
 use crate::gen::pair;
 use crate::judging::{round_message, ROUND_LENGTH, ROUND_ONE, ROUND_TWO};
+use crate::refusal;
 use crate::table::{Stage, PLACES};
 
 impl Builder {
@@ -25,22 +26,34 @@ impl Builder {
             }
         }
         for server in self.order() {
-            if self.rng.chance(70) {
+            if self.rng.chance(90) {
                 self.drop_and_close(server);
             }
         }
     }
 
-    /// Drops what waits at a server and closes its table. Now and then one is left, and the
-    /// close is refused.
+    /// Drops what waits at a server and closes its table. While too few are accepted, more calls
+    /// come, and another close.
     fn drop_and_close(&mut self, server: u32) {
+        let few = Answer::Refused(refusal::FEW);
+        while self.drop_and_try(server) == few && self.goes_on() {
+            for _ in 0..10 {
+                let call = self.wild_call(server, 15);
+                self.call(server, call);
+            }
+        }
+    }
+
+    /// Drops what waits at a server and tries to close its table. Now and then one is left, and
+    /// the close is refused.
+    fn drop_and_try(&mut self, server: u32) -> Answer {
         for (id, _) in self.tables[server as usize].waiting() {
             if !self.rng.chance(3) {
                 self.call(server, Call::Drop { id });
             }
         }
         let room = any_room(&mut self.rng, self.sheet.closing_length(), 10);
-        self.call(server, Call::Close { room });
+        self.call(server, Call::Close { room })
     }
 
     /// A call that mostly fits what waits at the table.
@@ -60,7 +73,7 @@ impl Builder {
         }
         let (id, stage) = waiting[self.rng.index(waiting.len())];
         match stage {
-            _ if self.rng.chance(12) => Call::Drop { id },
+            _ if self.rng.chance(10) => Call::Drop { id },
             Stage::AwaitsRoundOne => Call::RoundOne {
                 id,
                 joined: self.wild_joined(server, id, ROUND_ONE),
@@ -81,7 +94,7 @@ impl Builder {
         let open: Vec<usize> = (0..self.returns.len())
             .filter(|&number| !used(self.returns[number].id))
             .collect();
-        let more = (self.returns.len() as u64) < self.planned;
+        let more = (self.returns.len() as u64) < self.planned || open.is_empty();
         let number = if self.returns.is_empty() || (more && self.rng.chance(25)) {
             self.new_return()
         } else if open.is_empty() || self.rng.chance(15) {
@@ -109,7 +122,7 @@ impl Builder {
     fn wild_joined(&mut self, server: u32, id: u32, kind: u8) -> Vec<u8> {
         let mut joined = self.joined(id, kind);
         let other = (server + 1) % self.servers;
-        let Some(start) = start_of(&joined, other).filter(|_| self.rng.chance(40)) else {
+        let Some(start) = start_of(&joined, other).filter(|_| self.rng.chance(60)) else {
             return joined;
         };
         let mut sums = [0, 0];

@@ -13,7 +13,7 @@
  *                       pool_round_one --> its round-two message (14 bytes)    } are under way at a time,
  *                       pool_round_two --> accepted or rejected                } each in its own stage
  *                       pool_drop          in place of a round, for a return that cannot be finished
- *                       pool_close ------> its totals message, at the end
+ *                       pool_close ------> its totals message, at the end, when enough returns are accepted
  *     anyone            pool_join -------> the count of accepted returns and the totals
  *     a keeper          pool_shelve -----> share messages stored by place, and pool_unshelve brings them back
  *
@@ -41,14 +41,15 @@
  *
  * Tables. A table has three parts, which the host keeps and lends to every call on the table:
  *
- *     table       bytes, POOL_TABLE_BYTES           S, the own number, N, the sheet, the counts, the totals, the ids decided
+ *     table       bytes, POOL_TABLE_BYTES           S, the own number, N, Q, the sheet, the counts, the totals, the ids decided
  *     slots       pool_slot, POOL_SLOTS of them     for each return that waits: its id, its stage, r, s, d and e
  *     elements    uint32_t, POOL_ELEMENTS of them   for each slot a place for the share of the return that waits in it
  *
  * Slots are aligned to 8 bytes and elements to 4, as C wants; the bytes may stand anywhere. Stored parts are copied back into
  * pool_slot and uint32_t arrays: a cast pointer into a byte buffer need not be aligned. There are exactly eight slots. The
  * bytes and the elements may stand at the start of longer buffers: what lies past them is never read nor written. Slots and
- * elements hold numbers as the machine does. A host may read the slots; it writes to none of the parts.
+ * elements hold numbers as the machine does. A host may read the slots; it writes to none of the parts. A table of an earlier
+ * version of the library is refused 11: a pool is closed by the version that opened it.
  *
  * THE THREE PARTS ARE STORED TOGETHER, with the message that a call wrote, before the message is sent: so a table survives a
  * restart. A message cannot be written a second time. Parts that were stored at different times are no table: calls cannot
@@ -65,7 +66,7 @@
  * Secrecy. Secret are the elements and, in the bytes, the totals. While a return waits, its place in the elements is as secret
  * as the share: keep copies, swap and logs of it as you keep a share. The totals are the server's shares of them: two copies,
  * from before and after one accepted return, show the published entries of its share. They stay in the bytes until the host
- * erases the table; those of S closed tables, added up modulo p, are the published totals. The slots and the rest of the bytes
+ * erases the table; those of all S tables, closed or not, added up modulo p, are the totals. The slots and the rest of the bytes
  * hold what the servers agree on or tell one another: ids, counts, r, s, d and e. The library erases in the parts that it is
  * lent; older copies and the share message are the host's to erase. Share messages that a host stores stay as secret as they
  * were, in any order of their bytes: those of all S servers, added up, are the returns.
@@ -116,6 +117,14 @@
  * drops a return only when it knows that no other server has decided it by round two, or can: a return that is accepted at
  * one server and dropped at another makes the totals wrong, and joining notices only counts that differ.
  *
+ * Small pools. The totals of few returns show much of each. So a table opens with a least count Q, from 1 to N, the same at every
+ * server: with fewer than Q returns accepted pool_close is refused 15 and gives no totals. Nothing has changed then: the table
+ * takes more returns, up to N decided, and is closed later. Returns that are rejected or dropped count towards N and not towards
+ * Q. A table with N decided and fewer than Q accepted never closes: its shares are refused 13 and its close 15. That is certain
+ * once more than N - Q returns are rejected or dropped. Then open a new pool, for which the workshops make their returns anew
+ * (a share of the old one is never judged again), and erase the old tables. Q counts returns, not workshops: who sends them,
+ * and how many each, is the host's to know.
+ *
  * Threads. Functions keep nothing between calls. Calls at the same time are allowed on separate buffers; calls on one table
  * come one after another, whichever returns they name. No function needs more than 64 KiB of stack; none allocates memory.
  */
@@ -132,7 +141,7 @@ extern "C" {
 /* Refusals. */
 #define POOL_DONE 0
 #define POOL_KIND 1     /* sheet or circuit: unknown kind byte, or the body is cut off */
-#define POOL_LIMIT 2    /* a count, top, constant, number of servers, server number, N, or R or W of stored messages outside its limits */
+#define POOL_LIMIT 2    /* a count, top, constant, S, server number, N, Q, or R or W of stored messages outside its limits */
 #define POOL_WIRE 3     /* circuit: a wire not yet made, or an entry that does not exist */
 #define POOL_WRAP 4     /* N returns could make a total of p or more */
 #define POOL_VALUE 5    /* not one value for each column, or a value outside its column */
@@ -145,6 +154,7 @@ extern "C" {
 #define POOL_JOINED 12  /* joined messages: length, kind, id, server, element, own message or counts wrong; totals out of order */
 #define POOL_FULL 13    /* N returns are decided or wait */
 #define POOL_ROOM 14    /* an output buffer is too short; in opening also a part of the table, or slots_len is not POOL_SLOTS */
+#define POOL_FEW 15     /* close: fewer than Q returns are accepted; take more, or, where N are decided, open a new pool */
 #define POOL_MANY 17    /* the sheet has more than 4,096 legal lists of values */
 #define POOL_RUN 19     /* shelf: the run is not R messages of W bytes */
 
@@ -205,7 +215,7 @@ typedef struct {
 #define POOL_TOTALS_BYTES(published) (6 + 4 * (size_t)(published))
 #define POOL_JOIN_BYTES(published) (4 * (size_t)(published))
 #define POOL_TABLE_BYTES(sheet_len, published, returns) \
-    (12 + (size_t)(sheet_len) + 4 * (size_t)(published) + 4 * (size_t)(returns))
+    (14 + (size_t)(sheet_len) + 4 * (size_t)(published) + 4 * (size_t)(returns))
 #define POOL_ELEMENTS(share_bytes) (POOL_SLOTS * (((size_t)(share_bytes) - 6) / 4 + 2))
 
 /* The size of every legal list of values of a small sheet, in bytes, from its columns and the number of lists. */
@@ -223,7 +233,7 @@ typedef struct {
 #define POOL_MAX_MAKE_BYTES 24816
 #define POOL_MAX_TOTALS_BYTES 1030
 #define POOL_MAX_JOIN_BYTES 1024
-#define POOL_MAX_TABLE_BYTES 5388 /* N = 1,024; a sheet has at most 5 bytes for each entry, its total included, as 256 yes/no have */
+#define POOL_MAX_TABLE_BYTES 5390 /* N = 1,024; a sheet has at most 5 bytes for each entry, its total included, as 256 yes/no have */
 #define POOL_MAX_ELEMENTS 6208    /* numbers: 256 entries and as many multiplications, 774 elements to a share */
 #define POOL_MAX_EVERY_RETURN_BYTES 196608
 #define POOL_MAX_SHELF_BYTES 262144 /* and for every R and W */
@@ -285,15 +295,17 @@ uint32_t pool_make(const uint8_t *sheet, size_t sheet_len, uint32_t servers, uin
                    uint8_t *out, size_t out_len, size_t *written);
 
 /*
- * Opens a table of server `own` (0 to S - 1) for `returns` returns, decided and waiting together (N, 1 to 1,024): writes its
- * three parts. An N above the sheet's greatest_returns is refused.
+ * Opens a table of server `own` (0 to S - 1): writes its three parts. S, sheet, N and Q are the same at every server.
+ *     returns   N, 1 to 1,024: how many returns it takes, decided and waiting together. One above the sheet's greatest_returns
+ *               is refused
+ *     least     Q, 1 to N: how many returns must be accepted before it closes
  *     table     POOL_TABLE_BYTES; *written is this length
  *     slots     slots_len is POOL_SLOTS
  *     elements  POOL_ELEMENTS numbers
- * Refusals: 2 for S, 2 for the own number, the sheet's, 2 for N, 4, 14 for too few bytes, other than eight slots or too few
- * numbers.
+ * Refusals: 2 for S, 2 for the own number, the sheet's, 2 for N, 2 for Q, 4, 14 for too few bytes, other than eight slots or too
+ * few numbers.
  */
-uint32_t pool_open(uint32_t servers, uint32_t own, const uint8_t *sheet, size_t sheet_len, uint32_t returns,
+uint32_t pool_open(uint32_t servers, uint32_t own, const uint8_t *sheet, size_t sheet_len, uint32_t returns, uint32_t least,
                    uint8_t *table, size_t table_len, pool_slot *slots, size_t slots_len,
                    uint32_t *elements, size_t elements_len, size_t *written);
 
@@ -341,16 +353,18 @@ uint32_t pool_drop(uint8_t *table, size_t table_len, pool_slot *slots, size_t sl
                    uint32_t *elements, size_t elements_len, uint32_t id);
 
 /*
- * Closes a table in which no return waits and writes the server's totals message, POOL_TOTALS_BYTES. Slots and elements stay
- * as they are. A closed table takes no call.
- * Refusals: 11 for a table that is unsound or closed, or in which a return waits; 14.
+ * Closes a table in which no return waits and at least Q are accepted, and writes the server's totals message,
+ * POOL_TOTALS_BYTES. Slots and elements stay as they are. A closed table takes no call.
+ * Refused 15, it gives no totals and nothing has changed: the table takes more returns, up to N decided, and is closed later. With
+ * N decided it never closes: open a new pool (see Small pools).
+ * Refusals: 11 for a table that is unsound or closed, or in which a return waits; 15 for fewer than Q accepted; 14.
  */
 uint32_t pool_close(uint8_t *table, size_t table_len, const pool_slot *slots, size_t slots_len,
                     const uint32_t *elements, size_t elements_len, uint8_t *out, size_t out_len, size_t *written);
 
 /*
- * Joins the S totals messages, in server order, of tables opened with this S, sheet and N: *accepted is the count of
- * accepted returns, and the totals of the published entries are written as elements in entry order, POOL_JOIN_BYTES.
+ * Joins the S totals messages, in server order, of tables opened with this S, sheet and N; Q is not asked for. *accepted is the
+ * count of accepted returns, and the totals of the published entries are written as elements in entry order, POOL_JOIN_BYTES.
  * Refusals: 2 for S, the sheet's, 2 for N, 4, 12, for messages in another order too, 14.
  */
 uint32_t pool_join(uint32_t servers, const uint8_t *sheet, size_t sheet_len, uint32_t returns,

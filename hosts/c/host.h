@@ -18,7 +18,7 @@ static inline const char *host_words(uint32_t refusal)
     static const char *const words[] = {
         "done",
         "sheet or circuit: an unknown kind, or its body is cut off",
-        "a count, top, constant, number of servers, server number, N, or R or W of stored messages outside its limits",
+        "a count, top, constant, number of servers, server number, N, Q, or R or W of stored messages outside its limits",
         "circuit: a wire not yet made, or an entry that does not exist",
         "so many returns could make a total of p or more",
         "not one value for each column, or a value outside its column",
@@ -31,6 +31,7 @@ static inline const char *host_words(uint32_t refusal)
         "joined messages: length, kind, id, element, own message or counts wrong, a server twice or missing, or totals out of order",
         "N returns are decided or wait",
         "an output buffer is too short; in opening also a part of the table, or slots_len is not POOL_SLOTS",
+        "fewer returns are accepted than the least count: take more and close again; where N are decided, open a new pool",
         [POOL_MANY] = "the sheet has more than 4,096 legal lists of values",
         [POOL_RUN] = "the run is not so many messages of this length",
     };

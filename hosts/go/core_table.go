@@ -53,13 +53,14 @@ func (t *Table) lendElements() (*C.uint32_t, C.size_t) {
 	return (*C.uint32_t)(&t.elements[0]), C.size_t(len(t.elements))
 }
 
-func coreOpen(servers, own uint32, sheet []byte, returns uint32, t *Table) (written int, answer uint32) {
+func coreOpen(servers, own uint32, sheet []byte, returns, least uint32, t *Table) (written int, answer uint32) {
 	var w C.size_t
 	at, n := lend(sheet)
 	b, nb := lend(t.bytes)
 	s, ns := t.lendSlots()
 	e, ne := t.lendElements()
-	answer = uint32(C.pool_open(C.uint32_t(servers), C.uint32_t(own), at, n, C.uint32_t(returns), b, nb, s, ns, e, ne, &w))
+	answer = uint32(C.pool_open(C.uint32_t(servers), C.uint32_t(own), at, n, C.uint32_t(returns), C.uint32_t(least), b, nb,
+		s, ns, e, ne, &w))
 	return int(w), answer
 }
 

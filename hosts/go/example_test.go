@@ -1,22 +1,23 @@
 package pool_test
 
 import (
+	"errors"
 	"fmt"
 	"log"
 
 	"yimakohe.example/pool"
 )
 
-// A whole pool in one program: two servers, two returns.
+// A whole pool in one program: two servers, two returns, and no totals before both are accepted.
 func Example() {
 	sheet, err := pool.NewSheet(pool.YesNo(), pool.UpTo(200))
 	if err != nil {
 		log.Fatal(err)
 	}
-	const servers, most = 2, 100
+	const servers, most, least = 2, 100, 2
 	var tables [servers]*pool.Table
 	for own := range tables {
-		if tables[own], err = pool.Open(servers, uint32(own), sheet, most); err != nil {
+		if tables[own], err = pool.Open(servers, uint32(own), sheet, most, least); err != nil {
 			log.Fatal(err)
 		}
 	}
@@ -79,4 +80,20 @@ func Example() {
 	// return 0 server 0 accepted true <nil>
 	// return 0 server 1 accepted true <nil>
 	// {Accepted:2 Lines:[{Column:1 Option:0 Total:1} {Column:2 Option:0 Total:42}]} <nil>
+}
+
+// With fewer returns accepted than the least count there are no totals, and the table goes on.
+func ExampleTable_Close() {
+	sheet, err := pool.NewSheet(pool.YesNo())
+	if err != nil {
+		log.Fatal(err)
+	}
+	table, err := pool.Open(2, 0, sheet, 100, 10)
+	if err != nil {
+		log.Fatal(err)
+	}
+	if _, err := table.Close(); errors.Is(err, pool.Few) {
+		fmt.Println("no totals yet: take more returns, and close again")
+	}
+	// Output: no totals yet: take more returns, and close again
 }

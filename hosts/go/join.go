@@ -19,7 +19,7 @@ type Totals struct {
 }
 
 // Join joins the totals messages of all servers, in server order, of tables opened with this number of servers, sheet
-// and number of returns. Another order is refused (Joined).
+// and number of returns; their least count is not asked for. Another order is refused (Joined).
 func Join(servers uint32, sheet *Sheet, returns uint32, messages [][]byte) (Totals, error) {
 	out := make([]byte, sheet.joinBytes())
 	accepted, n, number := coreJoin(servers, sheet.bytes, returns, bytes.Join(messages, nil), out)

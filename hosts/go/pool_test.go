@@ -26,11 +26,17 @@ func sheetOf(t *testing.T, columns ...Column) *Sheet {
 // servers are the tables of one pool.
 type servers []*Table
 
+// openAll opens tables that can be closed with one accepted return.
 func openAll(t *testing.T, n uint32, sheet *Sheet, returns uint32) servers {
+	t.Helper()
+	return openLeast(t, n, sheet, returns, 1)
+}
+
+func openLeast(t *testing.T, n uint32, sheet *Sheet, returns, least uint32) servers {
 	t.Helper()
 	var all servers
 	for own := uint32(0); own < n; own++ {
-		table, err := Open(n, own, sheet, returns)
+		table, err := Open(n, own, sheet, returns, least)
 		if err != nil {
 			t.Fatal(err)
 		}
@@ -178,17 +184,20 @@ func TestRefusalInWords(t *testing.T) {
 	if got := Refusal(99).Error(); got != "refused 99: unknown refusal" {
 		t.Errorf("got %s", got)
 	}
-	for k := Kind; k <= Room; k++ {
+	for k := Kind; k <= Few; k++ {
 		if words[k] == "" {
 			t.Errorf("no words for %d", uint32(k))
 		}
 	}
-	for _, k := range []Refusal{0, Room + 1, Many + 1} {
+	for _, k := range []Refusal{0, Few + 1, Many + 1} {
 		if got, want := k.Error(), fmt.Sprintf("refused %d: unknown refusal", uint32(k)); got != want {
 			t.Errorf("got %s, want %s", got, want)
 		}
 	}
 	if got := Many.Error(); !strings.HasPrefix(got, "refused 17: more than 4,096") {
+		t.Errorf("got %s", got)
+	}
+	if got := Few.Error(); !strings.HasPrefix(got, "refused 15: fewer returns are accepted") || !strings.HasSuffix(got, "open a new pool") {
 		t.Errorf("got %s", got)
 	}
 	if got := Run.Error(); !strings.HasPrefix(got, "refused 19: not so many messages") {

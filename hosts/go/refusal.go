@@ -15,7 +15,7 @@ type Refusal uint32
 // The refusals, with their numbers.
 const (
 	Kind    Refusal = 1  // sheet or circuit: unknown kind, or its body is cut off
-	Limit   Refusal = 2  // a count, top, constant, number of servers, server number, N, or R or W of stored messages outside its limits
+	Limit   Refusal = 2  // a count, top, constant, S, server number, N, Q, or R or W of stored messages outside its limits
 	Wire    Refusal = 3  // circuit: a wire not yet made, or an entry that does not exist
 	Wrap    Refusal = 4  // N returns could make a total of p or more
 	Value   Refusal = 5  // not one value for each column, or a value outside its column
@@ -28,13 +28,14 @@ const (
 	Joined  Refusal = 12 // joined messages: length, kind, id, server, element, own message or counts wrong; totals out of order
 	Full    Refusal = 13 // N returns are decided or wait
 	Room    Refusal = 14 // an output buffer is too short; in opening also a part of the table, or slots_len is not POOL_SLOTS
+	Few     Refusal = 15 // close: fewer returns are accepted than the least count Q
 	Many    Refusal = 17 // the sheet has more than 4,096 legal returns
 	Run     Refusal = 19 // messages that are not of one length, or a stored run of another length
 )
 
 var words = [...]string{
 	Kind:    "sheet or circuit: an unknown kind, or its body is cut off",
-	Limit:   "a count, top, constant, number of servers, server number, N, or number or length of stored messages outside its limits",
+	Limit:   "a count, top, constant, S, server number, N, Q, or number or length of stored messages outside its limits",
 	Wire:    "circuit: a wire not yet made, or an entry that does not exist",
 	Wrap:    "so many returns could make a total of p or more",
 	Value:   "not one value for each column, or a value outside its column",
@@ -47,6 +48,7 @@ var words = [...]string{
 	Joined:  "joined messages: length, kind, id, element, own message or counts wrong, a server twice or missing, or totals out of order",
 	Full:    "N returns are decided or wait: this table takes no more",
 	Room:    "an output buffer is too short; in opening also a part of the table, or slots_len is not POOL_SLOTS",
+	Few:     "fewer returns are accepted than the least count: take more and close again; where N are decided, open a new pool",
 	Many:    "more than 4,096 legal returns: take fewer columns, options or bits, or lower tops",
 	Run:     "not so many messages of one length: give whole messages, and the number and length that were stored",
 }

@@ -44,7 +44,7 @@ func testMade(t *testing.T, sheet *Sheet) {
 		t.Errorf("%d shares, %v: %+v", len(shares), err, sizes)
 	}
 	most := uint32(sizes.GreatestReturns)
-	table, err := Open(2, 0, sheet, most)
+	table, err := Open(2, 0, sheet, most, most)
 	if err != nil || len(table.bytes) != sheet.tableBytes(most) || len(table.bytes) > maxTable ||
 		len(table.elements) != Slots*((sizes.ShareBytes-6)/4+2) || len(table.elements) > maxElements {
 		t.Errorf("a table for %d returns: %v", most, err)
@@ -53,6 +53,6 @@ func testMade(t *testing.T, sheet *Sheet) {
 	if most == maxReturns {
 		want = Limit
 	}
-	_, err = Open(2, 0, sheet, most+1)
+	_, err = Open(2, 0, sheet, most+1, 1)
 	refused(t, err, want)
 }

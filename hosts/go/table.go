@@ -8,8 +8,9 @@ import "bytes"
 //	Share, RoundOne, RoundTwo    or Drop after Share or RoundOne
 //
 // Calls on other returns may come between them, and returns may be finished in any order; the rounds and Drop name an id.
-// Close comes at the end, when none waits. The messages of a round are handed in as they arrived, in any order: one of each
-// server, the own one among them as the table gave it. A server twice or missing is refused (Joined).
+// Close comes at the end, when none waits. With fewer returns accepted than the least count it is refused (Few), and the table
+// takes more. The messages of a round are handed in as they arrived, in any order: one of each server, the own one among them as
+// the table gave it. A server twice or missing is refused (Joined).
 //
 // MarshalBinary and UnmarshalBinary carry a table over a restart, all of it in one slice. Store it after each call, together
 // with the message that the call gave and before that message is sent. Use a table from one goroutine at a time. Do not copy a
@@ -31,14 +32,15 @@ func (*noCopy) Lock()   {}
 func (*noCopy) Unlock() {}
 
 // Open opens the table of server own (from 0) of so many servers, for at most so many returns, decided and waiting together:
-// N, from 1 to the sheet's Sizes.GreatestReturns.
-func Open(servers, own uint32, sheet *Sheet, returns uint32) (*Table, error) {
+// N, from 1 to the sheet's Sizes.GreatestReturns. Close gives no totals before least of them are accepted: Q, from 1 to N. All
+// servers of a pool open with the same number of servers, sheet, N and Q.
+func Open(servers, own uint32, sheet *Sheet, returns, least uint32) (*Table, error) {
 	t := &Table{elements: make([]uint32, sheet.tableElements())}
 	// With more returns the core refuses before it looks at the room.
 	if returns <= maxReturns {
 		t.bytes = make([]byte, sheet.tableBytes(returns))
 	}
-	n, number := coreOpen(servers, own, sheet.bytes, returns, t)
+	n, number := coreOpen(servers, own, sheet.bytes, returns, least, t)
 	if number != 0 {
 		return nil, answer("open", number)
 	}
@@ -82,6 +84,10 @@ func (t *Table) RoundTwo(id uint32, messages [][]byte) (accepted bool, err error
 func (t *Table) Drop(id uint32) error { return answer("drop", coreDrop(t, id)) }
 
 // Close closes a table in which no return waits and gives the server's totals message.
+//
+// With fewer returns accepted than the least count of Open it is refused (Few) and gives nothing; the table is as it was and
+// takes more returns, up to N decided. With N decided it never closes: open a new pool, for which the workshops make their
+// returns anew.
 func (t *Table) Close() ([]byte, error) {
 	out := make([]byte, maxTotals)
 	n, number := coreClose(t, out)

@@ -145,7 +145,7 @@ func TestRefusals(t *testing.T) {
 		client := Client{Sheet: sheet, Servers: n}
 		_, err := client.Make(1, []uint32{1})
 		refused(t, err, Limit)
-		_, err = Open(n, 0, sheet, 1)
+		_, err = Open(n, 0, sheet, 1, 1)
 		refused(t, err, Limit)
 		_, err = Join(n, sheet, 1, nil)
 		refused(t, err, Limit)
@@ -156,12 +156,12 @@ func TestRefusals(t *testing.T) {
 	_, err = client.Make(1, nil)
 	refused(t, err, Value)
 	for _, returns := range []uint32{0, 1025, 1<<32 - 1} {
-		_, err = Open(2, 0, sheet, returns)
+		_, err = Open(2, 0, sheet, returns, 1)
 		refused(t, err, Limit)
 	}
-	_, err = Open(2, 0, sheetOf(t, Number(24)), 129)
+	_, err = Open(2, 0, sheetOf(t, Number(24)), 129, 1)
 	refused(t, err, Wrap)
-	_, err = Open(2, 0, sheetOf(t, UpTo(1<<24-1)), 129)
+	_, err = Open(2, 0, sheetOf(t, UpTo(1<<24-1)), 129, 1)
 	refused(t, err, Wrap)
 	_, err = Join(2, sheet, 1, nil)
 	refused(t, err, Joined)
@@ -170,7 +170,7 @@ func TestRefusals(t *testing.T) {
 func TestTableRefusals(t *testing.T) {
 	sheet := sheetOf(t, YesNo())
 	client := Client{Sheet: sheet, Servers: 2}
-	table, err := Open(2, 0, sheet, 1)
+	table, err := Open(2, 0, sheet, 1, 1)
 	if err != nil {
 		t.Fatal(err)
 	}

@@ -197,9 +197,8 @@ func TestDecidedAndWaiting(t *testing.T) {
 		_, err := all[0].Share(last, Pair{100, 5})
 		refused(t, err, Full)
 	}
-	if got := all.closeAndJoin(t, sheet, Slots); got.Accepted != 0 {
-		t.Errorf("totals %v", got)
-	}
+	_, err = all[0].Close()
+	refused(t, err, Few)
 }
 
 // Tables are stored and restored with eight returns waiting, some in each round, and finish as if nothing had been.

@@ -4,7 +4,8 @@
  * A call fails the run where it touches a byte outside the buffers, changes what it was only lent to read, answers
  * with a refusal that its place in pool.h does not name, changes anything although it is refused, changes a byte past
  * what it says to have written, changes another return in a table than the one that it is on, leaves anything of a
- * return in the slot and the place of one that it decides, or takes or refuses the messages of a round wrongly (check_round).
+ * return in the slot and the place of one that it decides, takes or refuses the messages of a round wrongly (check_round), takes
+ * a table whose least count is out of its range (check_least), or closes or refuses to close wrongly (check_close).
  *
  * Memory outside is watched in one of two ways. GUARDED: a buffer ends right before, or begins right after, a page that
  * can not be touched. HEAP: a buffer is a block of malloc, for valgrind and for the sanitizers' own malloc. The library
@@ -62,6 +63,8 @@ void random_fill(uint8_t *at, size_t len);
 /* Numbers in a run, lowest byte first. */
 void put_u32(uint8_t *at, uint32_t x);
 uint32_t get_u32(const uint8_t *at);
+void put_u16(uint8_t *at, uint32_t x);
+uint32_t get_u16(const uint8_t *at);
 
 /*
  * The calls. `room` is the length of the output buffer, `extra` how many bytes follow the bytes of a table in its buffer, and
@@ -74,8 +77,8 @@ uint32_t call_read_circuit(uint32_t entries, const struct run *circuit, struct c
 uint32_t call_every_return(const struct run *sheet, size_t room, uint32_t *lists, struct run *out);
 uint32_t call_make(const struct run *sheet, uint32_t servers, uint32_t id, const struct run *values,
                    const struct run *random, size_t room, struct run *out);
-uint32_t call_open(uint32_t servers, uint32_t own, const struct run *sheet, uint32_t returns, struct rooms rooms,
-                   struct table *table);
+uint32_t call_open(uint32_t servers, uint32_t own, const struct run *sheet, uint32_t returns, uint32_t least,
+                   struct rooms rooms, struct table *table);
 uint32_t call_share(struct table *table, size_t extra, const struct run *message, uint64_t r, uint64_t s, size_t room,
                     struct run *out);
 uint32_t call_round_one(struct table *table, size_t extra, uint32_t id, const struct run *joined, size_t room,

@@ -1,7 +1,8 @@
 /*
  * driver.c: random pools from a seed. Each call that a pool needs is made soundly, and must be done; beside it
  * functions are called with arguments gone wild, on copies of the tables. Up to eight returns are under way in a table,
- * each server at its own pace. The totals at the end are held to the plain sums.
+ * each server at its own pace. While too few are accepted to close, more returns are played. The totals at the end are held to
+ * the plain sums; a pool with N decided and too few accepted ends without.
  *
  *     driver guard|heap SEED POOLS SECONDS
  *
@@ -14,20 +15,49 @@
 
 #include "driver.h"
 
+/* A least count: small, N, or any. */
+static uint32_t some_least(void)
+{
+    switch (random_below(4)) {
+    case 0:
+        return pool.returns;
+    case 1:
+        return 1 + random_below(pool.returns);
+    default:
+        return 1 + random_below(pool.returns < 4 ? pool.returns : 4);
+    }
+}
+
+/* While too few are accepted, more returns, so many times at most. Says whether enough are accepted. */
+static int play_more(int times)
+{
+    while (pool.accepted < pool.least) {
+        uint32_t left = pool.returns - pool.decided;
+        too_few();
+        if (left == 0 || times-- == 0)
+            return 0;
+        play_returns(1 + random_below(left < MOST_RETURNS ? left : MOST_RETURNS));
+    }
+    return 1;
+}
+
 static void play_pool(void)
 {
     uint32_t count = random_below(random_below(4) ? 5 : MOST_RETURNS + 1);
     memset(&pool.plain, 0, sizeof pool.plain);
-    pool.accepted = 0;
+    pool.accepted = pool.decided = 0;
+    pool.first_id = (uint32_t)random64();
     new_sheet();
     circuits();
     every_return();
     shelves();
     pool.servers = POOL_MIN_SERVERS + random_below(POOL_MAX_SERVERS - POOL_MIN_SERVERS + 1);
     pool.returns = count + !count + random_below(random_below(8) ? 2 : 100);
+    pool.least = some_least();
     open_tables();
     play_returns(count);
-    close_and_join();
+    if (play_more(4))
+        close_and_join();
 }
 
 int main(int argc, char **argv)
@@ -48,6 +78,7 @@ int main(int argc, char **argv)
             long_circuit();
             long_shelf();
             most_lists();
+            wide_sheet();
         }
         play_pool();
     }

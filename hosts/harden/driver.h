@@ -10,10 +10,11 @@ enum { MOST_RETURNS = 16 };
 extern struct pool {
     struct run sheet;
     struct sheet_sizes sizes;
-    uint32_t servers, returns;
+    uint32_t servers, returns, least;
     struct table tables[POOL_MAX_SERVERS];
     struct run values, random, shares; /* of the return that was made last */
-    uint32_t plain[POOL_MAX_ENTRIES], accepted;
+    uint32_t plain[POOL_MAX_ENTRIES], accepted; /* of the returns that were played */
+    uint32_t first_id, decided;                 /* they have the ids from the first one on, and are decided everywhere */
 } pool;
 
 /* wild.c */
@@ -28,6 +29,9 @@ void wild_table(struct table *table);
 /* A sound number, or another. */
 uint32_t wild32(uint32_t sound);
 uint64_t wild64(uint64_t sound);
+
+/* A least count for a table that is damaged: outside 1 to N, or in its range. */
+uint32_t wild_least(void);
 
 /* Room around what is needed. */
 size_t wild_room(size_t needed);
@@ -75,7 +79,12 @@ void make_return(uint32_t id);
  */
 int make_with_higher_tops(uint32_t id, size_t room);
 
-/* opening.c: opens the pool's tables. */
+/* opening.c */
+
+/* The limits of opening with numbers of 24 bits, where N is 128 at most. */
+void wide_sheet(void);
+
+/* Opens the pool's tables. */
 void open_tables(void);
 
 /* orders.c */
@@ -89,8 +98,29 @@ void check_orders(uint32_t i, uint32_t id, int round, const uint8_t *messages);
 /* The joined totals messages, given in server order, are refused 12 where one stands in another's place. */
 void check_totals(const struct run *totals);
 
-/* servers.c: plays so many returns, several of them under way; closes the tables and joins the totals. */
+/* servers.c */
+
+/* Plays so many returns more, several of them under way. */
 void play_returns(uint32_t count);
+
+/* How many returns server i has waiting, decided and accepted. */
+struct counts {
+    uint32_t waiting, decided, accepted;
+};
+struct counts counts_at(uint32_t i);
+
+/* A call on a copy of a table of server i, or of another, with arguments gone wild. */
+void wild_call(uint32_t i);
+
+/* closing.c */
+
+/* What a close comes to at server i, as it stands and with another least count: on copies of its table. */
+void try_close(uint32_t i);
+
+/* Every server refuses to close, with too few accepted. */
+void too_few(void);
+
+/* Closes the tables, with enough accepted, and joins the totals. */
 void close_and_join(void);
 
 #endif

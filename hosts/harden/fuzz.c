@@ -7,53 +7,18 @@
 #include <stdlib.h>
 #include <string.h>
 
-#include "runs.h"
+#include "input.h"
 
 enum { SERVERS = 2, OPERATIONS = 9, ANSWERS = POOL_RUN + 1, RETURNS = 10, IDS = 16, KINDS = 12 };
 
 /* The fuzzer looks at these counters after each input. */
 __attribute__((section("__libfuzzer_extra_counters"))) static uint8_t seen[OPERATIONS][OPERATIONS][KINDS][ANSWERS];
 
-static struct {
-    const uint8_t *at;
-    size_t left;
-} input;
-
 static struct table tables[SERVERS];
 static struct run sheet, values, random_elements, shares[IDS], totals, message, out;
 static uint8_t rounds[2][IDS][SERVERS * POOL_ROUND_BYTES]; /* what the servers wrote for each return */
 static struct sheet_sizes sizes;
 static uint32_t before; /* the operation before */
-
-static uint8_t byte(void)
-{
-    if (input.left == 0)
-        return 0;
-    input.left--;
-    return *input.at++;
-}
-
-static void bytes(struct run *run, size_t most)
-{
-    run->len = input.left < most ? input.left : most;
-    memcpy(run->at, input.at, run->len);
-    input.at += run->len;
-    input.left -= run->len;
-}
-
-/* Alters a run where the input asks for it: a byte, or the length. */
-static void alter(struct run *run)
-{
-    uint8_t how = byte();
-    if (how < 128 || run->len == 0)
-        return;
-    if (how < 224)
-        run->at[(byte() | (size_t)byte() << 8) % run->len] = byte();
-    else if (how < 240)
-        run->len -= 1;
-    else
-        run->len = (byte() | (size_t)byte() << 8) % (run->len + 1);
-}
 
 static void note(uint32_t operation, uint32_t kind, uint32_t answer)
 {
@@ -67,7 +32,7 @@ static uint32_t kind_of(const struct table *table)
     uint32_t waiting = 0;
     if (table->slots.len != SLOTS_BYTES)
         return 10;
-    if (table->bytes.len > 1 && table->bytes.at[1] != 0)
+    if (table->bytes.len > STAGE_AT && table->bytes.at[STAGE_AT] != 0)
         return 9;
     for (size_t k = 0; k < POOL_SLOTS; k++)
         waiting += slot_of(table, k).stage != POOL_FREE;
@@ -138,10 +103,10 @@ static void drop_return(uint32_t own)
     note(4, kind, call_drop(&tables[own], 0, byte() % IDS));
 }
 
-static void close_table(uint32_t own)
+static void close_table(uint32_t own, size_t short_by)
 {
     uint32_t kind = kind_of(&tables[own]);
-    uint32_t answer = call_close(&tables[own], 0, POOL_TOTALS_BYTES(sizes.published), &out);
+    uint32_t answer = call_close(&tables[own], 0, POOL_TOTALS_BYTES(sizes.published) - short_by, &out);
     if (answer == 0 && out.len <= POOL_MAX_TOTALS_BYTES)
         memcpy(totals.at + own * POOL_TOTALS_BYTES(sizes.published), out.at, out.len);
     note(5, kind, answer);
@@ -156,24 +121,6 @@ static void join_totals(void)
     note(6, 0, call_join(SERVERS, &sheet, RETURNS, &message, POOL_JOIN_BYTES(sizes.published), &accepted, &out));
 }
 
-/* Alters a part of a table; slots and numbers stay whole. */
-static void alter_table(struct table *table)
-{
-    switch (byte() % 3) {
-    case 0:
-        alter(&table->bytes);
-        break;
-    case 1:
-        alter(&table->slots);
-        table->slots.len -= table->slots.len % SLOT_BYTES;
-        break;
-    default:
-        alter(&table->elements);
-        table->elements.len -= table->elements.len % 4;
-        break;
-    }
-}
-
 static void operate(void)
 {
     uint8_t operation = byte();
@@ -186,16 +133,14 @@ static void operate(void)
         take_share(own);
         break;
     case 2:
-        take_round(own, 1);
-        break;
     case 3:
-        take_round(own, 2);
+        take_round(own, operation % OPERATIONS - 1);
         break;
     case 4:
         drop_return(own);
         break;
     case 5:
-        close_table(own);
+        close_table(own, operation >> 6 & 1);
         break;
     case 6:
         join_totals();
@@ -206,21 +151,25 @@ static void operate(void)
     }
 }
 
-/* A pool: its sheet, then what is done with it. */
+/* A pool: its least count and its sheet, then what is done with it. N is RETURNS. */
 static void play(void)
 {
     const struct rooms most = {POOL_MAX_TABLE_BYTES, POOL_SLOTS, POOL_MAX_ELEMENTS};
+    uint32_t least = byte() % (RETURNS + 2);
+    int fits = 1 <= least && least <= RETURNS;
     bytes(&sheet, byte() % 16);
     if (call_sizes(&sheet, &sizes) != 0)
         return;
     for (uint32_t own = 0; own < SERVERS; own++)
-        if (call_open(SERVERS, own, &sheet, RETURNS, most, &tables[own]) != 0)
-            return;
+        if (call_open(SERVERS, own, &sheet, RETURNS, least, most, &tables[own]) != (fits ? POOL_DONE : POOL_LIMIT))
+            fail("the answer of opening");
+    if (!fits)
+        return;
     for (int k = 0; k < IDS; k++)
         shares[k].len = 0;
     memset(rounds, 0, sizeof rounds);
     memset(totals.at, 0, SERVERS * POOL_MAX_TOTALS_BYTES);
-    while (input.left > 0)
+    while (input_left() > 0)
         operate();
 }
 
@@ -234,8 +183,7 @@ static void arbitrary_table(void)
     bytes(&message, length);
     bytes(&t->slots, SLOT_BYTES * slots);
     t->slots.len -= t->slots.len % SLOT_BYTES;
-    length = byte();
-    bytes(&t->bytes, length | (size_t)byte() << 8);
+    bytes(&t->bytes, two_bytes());
     bytes(&t->elements, 4 * POOL_MAX_ELEMENTS);
     t->elements.len -= t->elements.len % 4;
     id = t->slots.len >= SLOT_BYTES ? slot_of(t, 0).id : 0;
@@ -250,8 +198,8 @@ static void arbitrary_table(void)
 /* Arbitrary bytes are stored by place and brought back, with a number and a length of messages that may not fit. */
 static void shelve(void)
 {
-    uint32_t messages = byte(), width = byte() | (uint32_t)byte() << 8, answer;
-    bytes(&message, input.left);
+    uint32_t messages = byte(), width = two_bytes(), answer;
+    bytes(&message, input_left());
     size_t room = messages % 4 == 3 ? message.len / 2 : message.len;
     answer = call_shelve(messages, width, &message, room, &out);
     note(8, 0, answer);
@@ -274,8 +222,7 @@ int LLVMFuzzerTestOneInput(const uint8_t *data, size_t size)
 {
     struct circuit_counts circuit;
     uint32_t lists, entries;
-    input.at = data;
-    input.left = size;
+    start_input(data, size);
     before = 8;
     seed_random(size);
     switch (byte() % 5) {
@@ -286,7 +233,7 @@ int LLVMFuzzerTestOneInput(const uint8_t *data, size_t size)
         note(7, 3, call_every_return(&sheet, POOL_MAX_EVERY_RETURN_BYTES, &lists, &out));
         break;
     case 1:
-        entries = byte() | (uint32_t)byte() << 8;
+        entries = two_bytes();
         bytes(&message, RUN_BYTES / 2);
         note(7, 2, call_read_circuit(entries, &message, &circuit));
         break;

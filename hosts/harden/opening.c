@@ -10,14 +10,33 @@ static struct rooms rooms(uint32_t returns)
                           POOL_ELEMENTS(pool.sizes.share_bytes)};
 }
 
-/* The greatest N opens, and one more does not. */
+/* A least count outside 1 to N. */
+static uint32_t bad_least(uint32_t returns)
+{
+    const uint32_t bad[] = {0, returns + 1, returns + 256, 65536 + 1 + random_below(returns), UINT32_MAX};
+    return bad[random_below(sizeof bad / sizeof bad[0])];
+}
+
+/* The greatest N opens with every least count from 1 to N, and one more does not. A least count out of range is found first. */
 static void greatest_returns(void)
 {
-    uint32_t most = pool.sizes.greatest_returns;
-    must(call_open(POOL_MIN_SERVERS, 0, &pool.sheet, most, rooms(most), &t), "the greatest N");
-    if (call_open(POOL_MIN_SERVERS, 0, &pool.sheet, most + 1, rooms(most + 1), &t) !=
+    uint32_t most = pool.sizes.greatest_returns, least = 1 + random_below(most);
+    must(call_open(POOL_MIN_SERVERS, 0, &pool.sheet, most, least, rooms(most), &t), "the greatest N");
+    must(call_open(POOL_MIN_SERVERS, 0, &pool.sheet, most, 1, rooms(most), &t), "the least of least counts");
+    must(call_open(POOL_MIN_SERVERS, 0, &pool.sheet, most, most, rooms(most), &t), "the greatest least count");
+    if (call_open(POOL_MIN_SERVERS, 0, &pool.sheet, most + 1, least, rooms(most + 1), &t) !=
         (most == POOL_MAX_RETURNS ? POOL_LIMIT : POOL_WRAP))
         fail("an N above the greatest");
+    if (call_open(POOL_MIN_SERVERS, 0, &pool.sheet, most + 1, bad_least(most + 1), rooms(most + 1), &t) != POOL_LIMIT)
+        fail("a least count out of range, with an N above the greatest");
+}
+
+void wide_sheet(void)
+{
+    pool.sheet.len = 0;
+    append(&pool.sheet, (const uint8_t[]){POOL_NUMBER, 24}, 2);
+    must(call_sizes(&pool.sheet, &pool.sizes), "a sound sheet is refused");
+    greatest_returns();
 }
 
 /* One of the parts is too short, or there are not eight slots. */
@@ -35,8 +54,10 @@ static void too_little_room(uint32_t i)
         r.elements = random_below((uint32_t)r.elements);
         break;
     }
-    if (call_open(pool.servers, i, &pool.sheet, pool.returns, r, &t) != POOL_ROOM)
+    if (call_open(pool.servers, i, &pool.sheet, pool.returns, pool.least, r, &t) != POOL_ROOM)
         fail("opening with too little room, or other than eight slots");
+    if (call_open(pool.servers, i, &pool.sheet, pool.returns, bad_least(pool.returns), r, &t) != POOL_LIMIT)
+        fail("opening with a least count out of range, in too little room");
 }
 
 void open_tables(void)
@@ -48,11 +69,13 @@ void open_tables(void)
         if (random64() % 2)
             wild(&a);
         r.bytes = wild_room(r.bytes);
-        call_open(wild32(pool.servers), wild32(i), &a, wild32(pool.returns), r, &t);
+        call_open(wild32(pool.servers), wild32(i), &a, wild32(pool.returns), wild32(pool.least), r, &t);
         too_little_room(i);
         r = rooms(pool.returns);
+        if (call_open(pool.servers, i, &pool.sheet, pool.returns, bad_least(pool.returns), r, &t) != POOL_LIMIT)
+            fail("opening with a least count out of range");
         r.bytes += some_extra();
         r.elements += some_extra();
-        must(call_open(pool.servers, i, &pool.sheet, pool.returns, r, &pool.tables[i]), "opening");
+        must(call_open(pool.servers, i, &pool.sheet, pool.returns, pool.least, r, &pool.tables[i]), "opening");
     }
 }

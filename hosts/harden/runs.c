@@ -4,8 +4,7 @@
 #include <stdbool.h>
 #include <string.h>
 
-/* Places in the bytes of a table. */
-enum { SERVERS_AT = 2, OWN_AT = 3 };
+#include "watch.h"
 
 void copy(struct run *to, const struct run *from)
 {
@@ -154,4 +153,45 @@ void check_round(const struct table *was, uint32_t id, uint8_t kind, const struc
     const uint8_t *mine = joined->at + message_by(joined, was->bytes.at[OWN_AT]);
     if (as_in_slot(was, id, mine) != (answer != POOL_JOINED))
         fail("sound messages are refused, or an own message is taken that was altered");
+}
+
+/* The least count */
+
+void check_opened(const struct table *now, uint32_t returns, uint32_t least)
+{
+    const uint8_t *at = now->bytes.at;
+    if (least < 1 || least > returns)
+        fail("a table is opened with a least count that is not from 1 to N");
+    if (get_u16(at + RETURNS_AT) != returns || get_u16(at + LEAST_AT) != least)
+        fail("another N or least count in a new table");
+}
+
+void check_least(const struct table *was, uint32_t answer)
+{
+    const uint8_t *at = was->bytes.at;
+    if (was->bytes.len < HEADER)
+        return;
+    uint32_t least = get_u16(at + LEAST_AT);
+    if ((least < 1 || least > get_u16(at + RETURNS_AT)) && answer != POOL_STAGE)
+        fail("a table is taken whose least count is not from 1 to N");
+}
+
+void check_close(const struct table *was, size_t room, uint32_t answer)
+{
+    const uint8_t *at = was->bytes.at;
+    struct sheet_sizes sizes;
+    uint32_t want = POOL_DONE;
+    if (answer == POOL_STAGE)
+        return;
+    if (sizes_of(at + HEADER, get_u16(at + SHEET_LEN_AT), &sizes) != 0)
+        fail("a table without a sheet was taken as sound");
+    for (size_t k = 0; k < POOL_SLOTS; k++)
+        if (slot_of(was, k).stage != POOL_FREE)
+            fail("a close while a return waits that is not refused 11");
+    if (get_u16(at + ACCEPTED_AT) < get_u16(at + LEAST_AT))
+        want = POOL_FEW;
+    else if (room < POOL_TOTALS_BYTES(sizes.published))
+        want = POOL_ROOM;
+    if (answer != want)
+        fail("a close with fewer accepted than the least count, or a refusal of one with enough");
 }

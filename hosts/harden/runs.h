@@ -1,6 +1,6 @@
 /*
  * runs.h: runs that the driver and the fuzzer hand in: copies, and the joined messages of a round, in any order and with
- * faults.
+ * faults. Also what a call must answer by what stands in a table.
  */
 #ifndef POOL_RUNS_H
 #define POOL_RUNS_H
@@ -9,6 +9,10 @@
 
 /* A round message: its kind in byte 0, the id, the server in byte 5, two elements: d and e, or sigma and tau. */
 enum { KIND_ONE = 34, KIND_TWO = 35, SERVER_AT = 5, D_AT = 6, E_AT = 10 };
+
+/* Places in the bytes of a table: the layout stands at the head of crates/rules/specs/Table.antt. */
+enum { STAGE_AT = 1, SERVERS_AT = 2, OWN_AT = 3, RETURNS_AT = 4, DECIDED_AT = 6, ACCEPTED_AT = 8, LEAST_AT = 10 };
+enum { SHEET_LEN_AT = 12, HEADER = 14 };
 
 void copy(struct run *to, const struct run *from);
 void copy_table(struct table *to, const struct table *from);
@@ -26,5 +30,14 @@ void spoil(struct run *joined, uint32_t servers, uint32_t own);
  * own message has not the d and e of the slot.
  */
 void check_round(const struct table *was, uint32_t id, uint8_t kind, const struct run *joined, uint32_t answer);
+
+/* A new table has this N and this least count, from 1 to N. */
+void check_opened(const struct table *now, uint32_t returns, uint32_t least);
+
+/* Every call refuses a table 11 whose least count is not from 1 to N. */
+void check_least(const struct table *was, uint32_t answer);
+
+/* A close that is not refused 11: none waits; it is refused 15 exactly where fewer than the least count are accepted, then 14. */
+void check_close(const struct table *was, size_t room, uint32_t answer);
 
 #endif

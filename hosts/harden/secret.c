@@ -51,8 +51,8 @@ static uint32_t prepare(void)
                              shares[id], sizeof shares[id], &written);
     for (uint32_t i = 0; i < SERVERS; i++) {
         struct table *t = &tables[i];
-        refused |= pool_open(SERVERS, i, sheet, sizeof sheet, RETURNS, t->bytes, sizeof t->bytes, t->slots, POOL_SLOTS,
-                             t->elements, POOL_MAX_ELEMENTS, &t->len);
+        refused |= pool_open(SERVERS, i, sheet, sizeof sheet, RETURNS, 1, t->bytes, sizeof t->bytes, t->slots,
+                             POOL_SLOTS, t->elements, POOL_MAX_ELEMENTS, &t->len);
     }
     return refused;
 }

@@ -18,9 +18,10 @@ static struct course {
     uint8_t ones[POOL_MAX_SERVERS * POOL_ROUND_BYTES], twos[POOL_MAX_SERVERS * POOL_ROUND_BYTES];
 } courses[MOST_RETURNS];
 static uint32_t course_count;
+static uint32_t decided_before, accepted_before; /* of earlier returns, at every server */
 
 static struct table t; /* for calls gone wild */
-static struct run a, b, out, message;
+static struct run b, out, message;
 
 /* Calls gone wild */
 
@@ -47,8 +48,8 @@ static size_t any_table(uint32_t i)
     return 0;
 }
 
-/* A call on a copy of a table, whatever its stage, with messages of any return. */
-static void wild_call(uint32_t i)
+/* Whatever the stage of the table, with messages of any return. */
+void wild_call(uint32_t i)
 {
     const struct course *c = &courses[course_count ? random_below(course_count) : 0];
     uint32_t accepted, id = random_below(4) ? c->id : wild32(courses[random_below(MOST_RETURNS)].id);
@@ -79,33 +80,35 @@ static void wild_call(uint32_t i)
     }
 }
 
-/* How many returns are in a stage at server i. */
-static uint32_t count_at(uint32_t i, uint8_t from, uint8_t to)
+/* Whether a return is accepted once it is decided. */
+static int accepts(const struct course *c) { return c->accepted && c->conduct != DROP_ONE && c->conduct != DROP_TWO; }
+
+struct counts counts_at(uint32_t i)
 {
-    uint32_t count = 0;
-    for (uint32_t k = 0; k < course_count; k++)
-        count += from <= courses[k].at[i] && courses[k].at[i] <= to;
-    return count;
+    struct counts n = {0, decided_before, accepted_before};
+    for (const struct course *c = courses; c < courses + course_count; c++) {
+        n.waiting += c->at[i] == AWAITS_ONE || c->at[i] == AWAITS_TWO;
+        n.decided += c->at[i] == ENDED;
+        n.accepted += c->at[i] == ENDED && accepts(c);
+    }
+    return n;
 }
 
 /* What a sound share comes to at server i: under an id that is new there, and under one that waits or was decided. */
 static void refused_shares(uint32_t i)
 {
-    uint32_t waiting = count_at(i, AWAITS_ONE, AWAITS_TWO), ended = count_at(i, ENDED, ENDED);
-    uint32_t early = waiting == POOL_SLOTS ? POOL_STAGE : waiting + ended >= pool.returns ? POOL_FULL : POOL_DONE;
+    struct counts n = counts_at(i);
+    uint32_t early = n.waiting == POOL_SLOTS ? POOL_STAGE : n.waiting + n.decided >= pool.returns ? POOL_FULL : POOL_DONE;
     const struct course *c = &courses[random_below(course_count)];
     uint32_t known = early ? early : c->at[i] == NOT_YET ? POOL_DONE : POOL_DECIDED;
     for (int fresh = 0; fresh < 2; fresh++) {
         message_of(c, i, 0);
         if (fresh)
-            put_u32(message.at + 1, courses[0].id - 1);
+            put_u32(message.at + 1, pool.first_id - 1);
         copy_table(&t, &pool.tables[i]);
         if (call_share(&t, 0, &message, c->r, c->s, POOL_ROUND_BYTES, &out) != (fresh ? early : known))
             fail("the refusal of a share: eight wait, N are decided or wait, or its id is used");
     }
-    copy_table(&t, &pool.tables[i]);
-    if (waiting > 0 && call_close(&t, 0, POOL_MAX_TOTALS_BYTES, &out) != POOL_STAGE)
-        fail("a close while returns wait");
 }
 
 /* The messages that the servers wrote last for a return, or all of them with another id. */
@@ -209,8 +212,10 @@ static void step(struct course *c, uint32_t i)
     }
     check_free(table);
     wild_call(i);
-    if (random_below(4) == 0 || count_at(i, AWAITS_ONE, AWAITS_TWO) == POOL_SLOTS)
+    if (random_below(4) == 0 || counts_at(i).waiting == POOL_SLOTS)
         refused_shares(i);
+    if (random_below(4) == 0 || counts_at(i).waiting == 0)
+        try_close(i);
     if (random_below(4) == 0)
         refused_rounds(i);
     if (random_below(2) == 0)
@@ -230,10 +235,12 @@ static uint32_t under_way(struct course *window[POOL_SLOTS])
 void play_returns(uint32_t count)
 {
     struct course *window[POOL_SLOTS];
-    uint32_t id = (uint32_t)random64(), wide;
+    uint32_t wide;
     course_count = count;
+    decided_before = pool.decided;
+    accepted_before = pool.accepted;
     for (uint32_t k = 0; k < count; k++)
-        new_course(&courses[k], id++);
+        new_course(&courses[k], pool.first_id + pool.decided++);
     /* now and then all shares first, so that eight wait */
     int shares_first = random_below(3) == 0;
     while ((wide = under_way(window)) > 0) {
@@ -246,50 +253,10 @@ void play_returns(uint32_t count)
     }
     for (uint32_t k = 0; k < count; k++) {
         const struct course *c = &courses[k];
-        if (!c->accepted || c->conduct == DROP_ONE || c->conduct == DROP_TWO)
-            continue;
-        pool.accepted++;
-        for (uint32_t e = 0; e < pool.sizes.published; e++)
+        pool.accepted += (uint32_t)accepts(c);
+        for (uint32_t e = 0; accepts(c) && e < pool.sizes.published; e++)
             pool.plain[e] += c->sums[e];
     }
     if (count > 0)
         refused_shares(random_below(pool.servers));
-}
-
-/* Closing */
-
-static void wild_join(const struct run *joined, size_t room)
-{
-    uint32_t accepted;
-    copy(&a, joined);
-    wild(&a);
-    copy(&b, &pool.sheet);
-    if (random_below(4) == 0)
-        wild(&b);
-    call_join(wild32(pool.servers), &b, wild32(pool.returns), &a, wild_room(room), &accepted, &out);
-}
-
-void close_and_join(void)
-{
-    static struct run joined;
-    size_t room = POOL_JOIN_BYTES(pool.sizes.published);
-    uint32_t accepted = 0;
-    joined.len = 0;
-    for (uint32_t i = 0; i < pool.servers; i++) {
-        wild_call(i);
-        must(call_close(&pool.tables[i], some_extra(), POOL_TOTALS_BYTES(pool.sizes.published), &out), "closing");
-        append(&joined, out.at, out.len);
-        check_free(&pool.tables[i]);
-        wild_call(i);
-    }
-    for (int k = 0; k < 4; k++) {
-        wild_join(&joined, room);
-        check_totals(&joined);
-    }
-    must(call_join(pool.servers, &pool.sheet, pool.returns, &joined, room, &accepted, &out), "joining");
-    if (accepted != pool.accepted || out.len != room)
-        fail("the count of accepted returns");
-    for (uint32_t k = 0; k < pool.sizes.published; k++)
-        if (get_u32(out.at + 4 * k) != pool.plain[k])
-            fail("a total is not the plain sum");
 }

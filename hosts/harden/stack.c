@@ -62,7 +62,7 @@ static void open_tables(void)
 {
     for (uint32_t i = 0; i < SERVERS; i++) {
         struct table *t = &tables[i];
-        refused |= pool_open(SERVERS, i, sheet, sheet_len, RETURNS, t->bytes, sizeof t->bytes, t->slots, POOL_SLOTS,
+        refused |= pool_open(SERVERS, i, sheet, sheet_len, RETURNS, 1, t->bytes, sizeof t->bytes, t->slots, POOL_SLOTS,
                              t->elements, POOL_MAX_ELEMENTS, &t->len);
     }
 }

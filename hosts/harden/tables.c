@@ -5,8 +5,7 @@
 #include "runs.h"
 #include "watch.h"
 
-/* Places in the bytes of a table: the layout stands at the head of crates/rules/specs/Table.antt. */
-enum { STAGE = 1, DECIDED = 6, ACCEPTED = 8, SHEET_LEN = 10, HEADER = 12 };
+/* Stages of a table. */
 enum { OPEN = 0, CLOSED = 1 };
 
 /* The parts of a table that a call may change. */
@@ -31,8 +30,6 @@ static struct lent_table lend_table(const struct table *table, size_t extra)
 
 /* Looking into a table */
 
-static uint32_t get_u16(const uint8_t *at) { return at[0] | (uint32_t)at[1] << 8; }
-
 static pool_slot slot_at(const uint8_t *slots, size_t k)
 {
     pool_slot slot;
@@ -54,7 +51,7 @@ static bool all_zero(const uint8_t *at, size_t len)
 static struct sheet_sizes sizes_in(const struct table *table)
 {
     struct sheet_sizes sizes;
-    if (sizes_of(table->bytes.at + HEADER, get_u16(table->bytes.at + SHEET_LEN), &sizes) != 0)
+    if (sizes_of(table->bytes.at + HEADER, get_u16(table->bytes.at + SHEET_LEN_AT), &sizes) != 0)
         fail("a table without a sheet was taken as sound");
     return sizes;
 }
@@ -110,15 +107,15 @@ static void decided(struct lent_table t, const struct table *was, uint32_t id, u
 {
     size_t k = slot_with(was, &id), place = place_bytes(was);
     const uint8_t *now = lents[t.bytes].at, *before = was->bytes.at;
-    uint32_t count = get_u16(before + DECIDED);
-    size_t totals = HEADER + get_u16(before + SHEET_LEN), ids = totals + 4 * sizes_in(was).published;
+    uint32_t count = get_u16(before + DECIDED_AT);
+    size_t totals = HEADER + get_u16(before + SHEET_LEN_AT), ids = totals + 4 * sizes_in(was).published;
     kept_others(t, was, k);
     if (!all_zero(lents[t.slots].at + k * SLOT_BYTES, SLOT_BYTES) || !all_zero(lents[t.elements].at + k * place, place))
         fail("something of a decided return stays in its slot or its place");
-    if (get_u16(now + DECIDED) != count + 1 || get_u32(now + ids + 4 * count) != id ||
-        get_u16(now + ACCEPTED) != get_u16(before + ACCEPTED) + accepted)
+    if (get_u16(now + DECIDED_AT) != count + 1 || get_u32(now + ids + 4 * count) != id ||
+        get_u16(now + ACCEPTED_AT) != get_u16(before + ACCEPTED_AT) + accepted)
         fail("the counts, or the id that was decided");
-    if (memcmp(now, before, DECIDED) != 0 || memcmp(now + SHEET_LEN, before + SHEET_LEN, totals - SHEET_LEN) != 0 ||
+    if (memcmp(now, before, DECIDED_AT) != 0 || memcmp(now + LEAST_AT, before + LEAST_AT, totals - LEAST_AT) != 0 ||
         (!accepted && memcmp(now + totals, before + totals, ids - totals) != 0) ||
         memcmp(now + ids, before + ids, 4 * count) != 0 ||
         memcmp(now + ids + 4 * count + 4, before + ids + 4 * count + 4, was->bytes.len - ids - 4 * count - 4) != 0)
@@ -139,6 +136,7 @@ static void take_part(int k, bool changes, struct run *part)
 
 static void take_table(struct lent_table t, uint32_t answer, unsigned changes, struct table *table)
 {
+    check_least(table, answer);
     take_part(t.bytes, answer == 0 && changes & BYTES, &table->bytes);
     take_part(t.slots, answer == 0 && changes & SLOTS, &table->slots);
     take_part(t.elements, answer == 0 && changes & ELEMENTS, &table->elements);
@@ -160,15 +158,15 @@ static void take_zeros(int k, uint32_t answer, size_t len, struct run *part)
     memset(part->at, 0, len);
 }
 
-uint32_t call_open(uint32_t servers, uint32_t own, const struct run *sheet, uint32_t returns, struct rooms rooms,
-                   struct table *table)
+uint32_t call_open(uint32_t servers, uint32_t own, const struct run *sheet, uint32_t returns, uint32_t least,
+                   struct rooms rooms, struct table *table)
 {
     start_call("pool_open");
     int s = lend(sheet);
     struct lent_table t = {lend_room(rooms.bytes), lend_room(SLOT_BYTES * rooms.slots), lend_room(4 * rooms.elements)};
     struct result_size w = RESULT_SIZE;
     struct sheet_sizes sizes = {0};
-    uint32_t answer = pool_open(servers, own, LENT(s), returns, LENT_TABLE(t), &w.value);
+    uint32_t answer = pool_open(servers, own, LENT(s), returns, least, LENT_TABLE(t), &w.value);
     answered(answer, SHEET | MAY(POOL_WRAP) | MAY(POOL_ROOM));
     kept(s);
     if (answer == 0 && sizes_of(sheet->at, sheet->len, &sizes) != 0)
@@ -176,9 +174,11 @@ uint32_t call_open(uint32_t servers, uint32_t own, const struct run *sheet, uint
     take(t.bytes, &w, answer, &table->bytes);
     take_zeros(t.slots, answer, SLOTS_BYTES, &table->slots);
     take_zeros(t.elements, answer, answer == 0 ? 4 * POOL_ELEMENTS(sizes.share_bytes) : 0, &table->elements);
-    if (answer == 0 && (table->bytes.at[STAGE] != OPEN || rooms.slots != POOL_SLOTS ||
+    if (answer == 0 && (table->bytes.at[STAGE_AT] != OPEN || rooms.slots != POOL_SLOTS ||
                         table->bytes.len != POOL_TABLE_BYTES(sheet->len, sizes.published, returns)))
         fail("a new table that is not open, or of another length");
+    if (answer == 0)
+        check_opened(table, returns, least);
     return end_call(answer);
 }
 
@@ -284,15 +284,13 @@ uint32_t call_close(struct table *table, size_t extra, size_t room, struct run *
     int o = lend_room(room);
     struct result_size w = RESULT_SIZE;
     uint32_t answer = pool_close(LENT_TABLE(t), LENT(o), &w.value);
-    answered(answer, MAY(POOL_STAGE) | MAY(POOL_ROOM));
+    answered(answer, MAY(POOL_STAGE) | MAY(POOL_FEW) | MAY(POOL_ROOM));
+    check_close(table, lents[o].len, answer);
     take(o, &w, answer, out);
     if (answer == 0) {
-        kept_around(t.bytes, STAGE, 1);
-        if (lents[t.bytes].at[STAGE] != CLOSED)
+        kept_around(t.bytes, STAGE_AT, 1);
+        if (lents[t.bytes].at[STAGE_AT] != CLOSED)
             fail("a table that is closed and not marked so");
-        for (size_t k = 0; k < POOL_SLOTS; k++)
-            if (slot_of(table, k).stage != POOL_FREE)
-                fail("a table is closed while a return waits");
     }
     take_table(t, answer, BYTES, table);
     return end_call(answer);

@@ -60,6 +60,14 @@ uint32_t get_u32(const uint8_t *at)
     return at[0] | (uint32_t)at[1] << 8 | (uint32_t)at[2] << 16 | (uint32_t)at[3] << 24;
 }
 
+void put_u16(uint8_t *at, uint32_t x)
+{
+    at[0] = (uint8_t)x;
+    at[1] = (uint8_t)(x >> 8);
+}
+
+uint32_t get_u16(const uint8_t *at) { return at[0] | (uint32_t)at[1] << 8; }
+
 /* Lending */
 
 static void touched(int signal_number)

@@ -116,9 +116,15 @@ static void wild_twice(struct table *table)
         memcpy(table->elements.at + to * place, table->elements.at + from * place, place);
 }
 
+uint32_t wild_least(void)
+{
+    const uint32_t odd[] = {0, 1, pool.returns, pool.returns + 1, pool.returns + 256, 65535, 1 + random_below(pool.returns)};
+    return odd[random_below(sizeof odd / sizeof odd[0])];
+}
+
 void wild_table(struct table *table)
 {
-    switch (random_below(5)) {
+    switch (random_below(6)) {
     case 0:
         wild(&table->slots);
         whole(&table->slots, SLOT_BYTES);
@@ -129,6 +135,9 @@ void wild_table(struct table *table)
         break;
     case 2:
         wild_twice(table);
+        break;
+    case 3:
+        put_u16(table->bytes.at + LEAST_AT, wild_least());
         break;
     default:
         wild(&table->bytes);

@@ -55,7 +55,7 @@ func sharedByTwo(t *testing.T, sheet *pool.Sheet, id uint32, values []uint32) (t
 		t.Fatal(err)
 	}
 	for own := range tables {
-		if tables[own], err = pool.Open(servers, uint32(own), sheet, 1); err != nil {
+		if tables[own], err = pool.Open(servers, uint32(own), sheet, 1, 1); err != nil {
 			t.Fatal(err)
 		}
 		if ones[own], err = tables[own].Share(shares[own], pool.Pair{R: 1000, S: 7}); err != nil {

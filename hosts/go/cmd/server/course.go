@@ -72,6 +72,10 @@ func (s *server) decide(c *course, messages [][]byte) error {
 	if err != nil {
 		return err
 	}
+	s.decided++
+	if accepted {
+		s.accepted++
+	}
 	s.end(c, fmt.Sprintf("accepted %v", accepted))
 	return nil
 }
@@ -85,6 +89,7 @@ func (s *server) abandon(c *course) error {
 		if err := s.table.Drop(c.id); err != nil {
 			return err
 		}
+		s.decided++
 		s.end(c, "dropped")
 	default:
 		s.end(c, "left, its share was refused")

@@ -1,13 +1,14 @@
 // Server is one of two servers of a pool, as an example of a keeper's program.
 //
-//	server -own 0 -sheet '17 19 8' -handle 3 -workshops 127.0.0.1:7000 -peer 127.0.0.1:7010
-//	server -own 1 -sheet '17 19 8' -handle 3 -workshops 127.0.0.1:7001 -peer 127.0.0.1:7010
+//	server -own 0 -sheet '17 19 8' -least 3 -handle 3 -workshops 127.0.0.1:7000 -peer 127.0.0.1:7010
+//	server -own 1 -sheet '17 19 8' -least 3 -handle 3 -workshops 127.0.0.1:7001 -peer 127.0.0.1:7010
 //
 // Server 0 awaits server 1 at the address -peer. Both take shares of workshops at -workshops; server 0 says which
 // return is next. Up to eight returns are under way at a time. After -handle returns they close, exchange totals messages
-// and print the joined totals, each line with column, option and total. With -distance 100ms each message to the other
-// server takes so long, as between two countries. The example sends in the clear, on one machine, and stores nothing: a pool
-// encrypts, knows who calls, and stores its table with each message before it is sent.
+// and print the joined totals, each line with column, option and total. With fewer than -least accepted they say so and take
+// more returns; once so many can not be accepted any more, they end without totals. With -distance 100ms each message to the
+// other server takes so long, as between two countries. The example sends in the clear, on one machine, and stores nothing: a
+// pool encrypts, knows who calls, and stores its table with each message before it is sent.
 package main
 
 import (
@@ -25,9 +26,10 @@ import (
 const servers = 2
 
 type options struct {
-	own       uint
+	own       frame.Number
 	sheet     string
-	returns   uint
+	returns   frame.Number
+	least     frame.Number
 	handle    int
 	workshops string
 	peer      string
@@ -37,10 +39,11 @@ type options struct {
 
 func main() {
 	log.SetFlags(0)
-	var o options
-	flag.UintVar(&o.own, "own", 0, "the server's own number, 0 or 1")
+	o := options{returns: 100}
+	flag.Var(&o.own, "own", "the server's own number, 0 or 1")
 	flag.StringVar(&o.sheet, "sheet", "", "the sheet's bytes, in decimal")
-	flag.UintVar(&o.returns, "returns", 100, "N, the most returns to decide")
+	flag.Var(&o.returns, "returns", "N, the most returns to decide")
+	flag.Var(&o.least, "least", "Q, how many returns must be accepted before there are totals, 1 to N; must be given")
 	flag.IntVar(&o.handle, "handle", 1, "how many returns to handle before closing")
 	flag.StringVar(&o.workshops, "workshops", "127.0.0.1:0", "where to take shares")
 	flag.StringVar(&o.peer, "peer", "127.0.0.1:0", "where server 0 awaits server 1")
@@ -62,7 +65,7 @@ func run(o options) error {
 	if err != nil {
 		return err
 	}
-	table, err := pool.Open(servers, uint32(o.own), sheet, uint32(o.returns))
+	table, err := pool.Open(servers, uint32(o.own), sheet, uint32(o.returns), uint32(o.least))
 	if err != nil {
 		return err
 	}
@@ -75,17 +78,14 @@ func run(o options) error {
 	shares := newInbox()
 	go shares.serve(listener)
 
-	conn, err := meet(o.own, o.peer)
+	conn, err := meet(uint(o.own), o.peer)
 	if err != nil {
 		return err
 	}
 	defer conn.Close()
-	s := &server{own: o.own, sheet: sheet, table: table, peer: newPeer(conn, o.distance), shares: shares, wait: o.wait,
-		handle: o.handle}
-	if err := s.run(); err != nil {
-		return err
-	}
-	totals, err := s.close(uint32(o.returns))
+	s := newServer(o, sheet, table)
+	s.peer, s.shares = newPeer(conn, o.distance), shares
+	totals, err := s.run()
 	if err != nil {
 		return err
 	}

@@ -2,6 +2,7 @@ package main
 
 import (
 	"encoding/binary"
+	"errors"
 	"fmt"
 	"log"
 	"time"
@@ -13,23 +14,62 @@ import (
 // arrive, and no ninth while eight are under way: so neither table is asked to hold a ninth, in whichever order shares are
 // taken. All is done by one goroutine, in run: only it uses the table.
 type server struct {
-	own    uint
-	sheet  *pool.Sheet
-	table  *pool.Table
-	peer   *peer
-	shares *inbox
-	wait   time.Duration // for the own share of a return
-	handle int           // returns to handle, whatever becomes of them
+	own     uint
+	sheet   *pool.Sheet
+	table   *pool.Table
+	peer    *peer
+	shares  *inbox
+	wait    time.Duration // for the own share of a return
+	returns int           // N
+	least   int           // Q
+	handle  int           // returns to handle before the table is closed, whatever becomes of them
 
-	begun, ended int
-	courses      map[uint32]*course // under way, by number
-	late         chan uint32        // numbers of returns that have waited for their share
+	begun, ended      int
+	decided, accepted int                // in the own table
+	courses           map[uint32]*course // under way, by number
+	late              chan uint32        // numbers of returns that have waited for their share
 }
 
-// run handles returns. An error means that the servers are apart and must not go on.
-func (s *server) run() error {
-	s.courses = map[uint32]*course{}
-	s.late = make(chan uint32, s.handle)
+func newServer(o options, sheet *pool.Sheet, table *pool.Table) *server {
+	return &server{own: uint(o.own), sheet: sheet, table: table, wait: o.wait, returns: int(o.returns), least: int(o.least),
+		handle: o.handle, courses: map[uint32]*course{}, late: make(chan uint32)}
+}
+
+// run handles returns, closes the table and joins both servers' totals. Where too few are accepted to close, it handles more.
+// Both accept the same returns, and server 1 hears of a further one after the messages that end those before: so both close
+// after the same one.
+func (s *server) run() (pool.Totals, error) {
+	for {
+		if err := s.handleAll(); err != nil {
+			return pool.Totals{}, err
+		}
+		mine, err := s.table.Close()
+		if err == nil {
+			return s.join(mine)
+		}
+		if !errors.Is(err, pool.Few) {
+			return pool.Totals{}, err
+		}
+		if err := s.more(err); err != nil {
+			return pool.Totals{}, err
+		}
+	}
+}
+
+// more has the server handle as many returns more as are missing. Where the table can not take so many, it never closes.
+func (s *server) more(few error) error {
+	log.Printf("%v (%d of %d accepted)", few, s.accepted, s.least)
+	missing, left := s.least-s.accepted, s.returns-s.decided
+	if missing > left {
+		s.peer.flush() // the other server may still need the last message to decide
+		return fmt.Errorf("%d are missing and %d can still be decided: this pool never closes, open a new one", missing, left)
+	}
+	s.handle = s.ended + missing
+	return nil
+}
+
+// handleAll handles returns. An error means that the servers are apart and must not go on.
+func (s *server) handleAll() error {
 	for s.ended < s.handle {
 		arrived := s.shares.arrived
 		if s.own == 0 && (len(s.courses) == pool.Slots || s.begun == s.handle) {
@@ -90,6 +130,9 @@ func (s *server) hear(m message) error {
 		time.AfterFunc(s.wait, func() { s.late <- c.number })
 		return nil
 	}
+	if m.step == totals {
+		return errors.New("the other server has closed before this one: -least or -handle is not the same at both")
+	}
 	c, other := s.courses[m.number], 1-s.own
 	if c == nil || m.step >= totals || c.came[m.step].has(other) {
 		return fmt.Errorf("a message out of turn for return %d", m.number)
@@ -123,13 +166,9 @@ func (s *server) end(c *course, how string) {
 	log.Printf("return %d: %s, %d others under way", c.id, how, len(s.courses))
 }
 
-// close closes the table and joins both servers' totals, which stand in server order.
-func (s *server) close(returns uint32) (pool.Totals, error) {
-	mine, err := s.table.Close()
-	if err != nil {
-		return pool.Totals{}, err
-	}
-	s.peer.send(uint32(s.handle), totals, mine)
+// join exchanges totals messages and joins them in server order.
+func (s *server) join(mine []byte) (pool.Totals, error) {
+	s.peer.send(uint32(s.ended), totals, mine)
 	s.peer.flush()
 	theirs, more := <-s.peer.in
 	if !more || theirs.step != totals {
@@ -139,5 +178,5 @@ func (s *server) close(returns uint32) (pool.Totals, error) {
 	if s.own == 1 {
 		messages = [][]byte{theirs.body, mine}
 	}
-	return pool.Join(servers, s.sheet, returns, messages)
+	return pool.Join(servers, s.sheet, uint32(s.returns), messages)
 }

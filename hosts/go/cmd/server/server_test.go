@@ -125,7 +125,7 @@ func honest([][]byte) {}
 func TestTwoProcesses(t *testing.T) {
 	ctx, cancel := context.WithTimeout(context.Background(), 20*time.Second)
 	defer cancel()
-	both, deliver := startTwo(ctx, t, []byte{17, 18, 3, 19, 8}, "-handle", "7", "-wait", "200ms")
+	both, deliver := startTwo(ctx, t, []byte{17, 18, 3, 19, 8}, "-least", "3", "-handle", "7", "-wait", "200ms")
 	deliver(1, []uint32{1, 0, 200}, honest)
 	deliver(2, []uint32{0, 2, 100}, honest)
 	deliver(3, []uint32{1, 1, 50}, func(shares [][]byte) { binary.LittleEndian.PutUint32(shares[0][6:], 12345) })
@@ -158,7 +158,7 @@ func TestTwoProcesses(t *testing.T) {
 func TestFarApart(t *testing.T) {
 	ctx, cancel := context.WithTimeout(context.Background(), 20*time.Second)
 	defer cancel()
-	both, deliver := startTwo(ctx, t, []byte{17, 19, 8}, "-handle", "13", "-wait", "10s", "-distance", "150ms")
+	both, deliver := startTwo(ctx, t, []byte{17, 19, 8}, "-least", "13", "-handle", "13", "-wait", "10s", "-distance", "150ms")
 	var late []byte
 	deliver(0, []uint32{1, 100}, func(shares [][]byte) { late, shares[1] = shares[1], nil })
 	for id := uint32(1); id < 13; id++ {

@@ -20,10 +20,11 @@ func main() {
 	log.SetFlags(0)
 	log.SetPrefix("workshop: ")
 	sheetText := flag.String("sheet", "", "the sheet's bytes, in decimal")
-	id := flag.Uint("id", 0, "the return's id, given to no other return")
+	var id frame.Number
+	flag.Var(&id, "id", "the return's id, given to no other return")
 	valueText := flag.String("values", "", "one value for each column")
 	flag.Parse()
-	if err := run(*sheetText, uint32(*id), *valueText, flag.Args()); err != nil {
+	if err := run(*sheetText, uint32(id), *valueText, flag.Args()); err != nil {
 		log.Fatal(err)
 	}
 }

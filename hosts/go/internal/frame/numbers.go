@@ -19,6 +19,20 @@ func Numbers(text string, bits int) ([]uint32, error) {
 	return numbers, nil
 }
 
+// Number is the value of a flag: a number that a call takes in 32 bits. A larger one is refused, not cut.
+type Number uint32
+
+func (n *Number) String() string { return strconv.FormatUint(uint64(*n), 10) }
+
+// Set reads the number from a text.
+func (n *Number) Set(text string) error {
+	x, err := strconv.ParseUint(text, 0, 32)
+	if err == nil {
+		*n = Number(x)
+	}
+	return err
+}
+
 // Bytes reads bytes that stand in a text.
 func Bytes(text string) ([]byte, error) {
 	numbers, err := Numbers(text, 8)

@@ -1,4 +1,4 @@
--- What a list of C calls hands over: the joined messages of its rounds and its closing message are those that the ledger
+-- What a list of C calls hands over: the messages of its rounds and its closing message are those that the ledger
 -- tells. The number that a call returned is the ledger's refusal, by the answers; a closed ledger stays as it is.
 -- Assumes that the answers are the ledger's.
 use mathlib.Core.Path.{_≡_, refl, sym, ap, ap₂, _∙_}
@@ -21,7 +21,7 @@ use Rattle.rules.specs.Ledger as ledger
 use Rattle.rules.specs.Ledger.{ledgerStage, ledgerState, refusalOf, ledgerAfter, ledgerStep, ledgerSays, closingMessage}
 use Rattle.rules.specs.Ledger.{runLedger, ledgerAnswers}
 use Rattle.rules.specs.Table.{Lent}
-use Rattle.rules.specs.WholeRun.{joinedIn, handedIn}
+use Rattle.rules.specs.Pools.{messagesIn, callMessages, handedIn}
 use Rattle.calls.specs.Calls.{CCall, pool-share, pool-round-one, pool-round-two, pool-drop, pool-close, callOf, answerOf}
 use Rattle.calls.specs.Servers.{roundsIn, closingsIn, over}
 
@@ -86,20 +86,22 @@ module _ (o : Opened) where
       ∙ ap refusalIn (first-same l c cs e)
       ∙ number-shown (refusalOf document01 o l (callOf c)) (ledger.answerOf document01 o l (callOf c)) (not-refused l (callOf c))
 
-  -- the joined messages of a call
+  -- the messages of a call
   nothing-else : (b : Bool) → _≡_ {A = List (List ℕ)} [] (cond b [] [])
   nothing-else true = refl
   nothing-else false = refl
 
-  rounds-by : (c : CCall) (f : ℕ) → returned c ≡ f → roundsIn c ≡ cond (eqb f 0) (joinedIn document01 o (callOf c)) []
-  unfolding joinedIn
+  rounds-by : (c : CCall) (f : ℕ) → returned c ≡ f → roundsIn (o .servers) c ≡ cond (eqb f 0) (callMessages document01 o (callOf c)) []
+  unfolding callMessages
   rounds-by (pool-share T m r s out w a T' out' w') f e = nothing-else (eqb f 0)
-  rounds-by (pool-round-one T id joined out w a T' out' w') f e = ap (λ (x : ℕ). cond (eqb x 0) (joined ∷ []) []) e
-  rounds-by (pool-round-two T id joined v a T' v') f e = ap (λ (x : ℕ). cond (eqb x 0) (joined ∷ []) []) e
+  rounds-by (pool-round-one T id joined out w a T' out' w') f e =
+      ap (λ (x : ℕ). cond (eqb x 0) (messagesIn document01 (o .servers) 34 joined) []) e
+  rounds-by (pool-round-two T id joined v a T' v') f e =
+      ap (λ (x : ℕ). cond (eqb x 0) (messagesIn document01 (o .servers) 35 joined) []) e
   rounds-by (pool-drop T id a T') f e = nothing-else (eqb f 0)
   rounds-by (pool-close T out w a T' out' w') f e = nothing-else (eqb f 0)
 
-  pub rounds-same : (l : Ledger) (cs : List CCall) → Same l cs → over roundsIn cs ≡ handedIn document01 o l (map callOf cs)
+  pub rounds-same : (l : Ledger) (cs : List CCall) → Same l cs → over (roundsIn (o .servers)) cs ≡ handedIn document01 o l (map callOf cs)
   unfolding over handedIn
   rounds-same l [] e = refl
   rounds-same l (c ∷ cs) e =

@@ -27,7 +27,7 @@ use Rattle.rules.specs.Table.{shareRefused, shareTable, shareBytes, oneRefused,
 use Rattle.rules.specs.Table.{dropRefused, closeRefused, closeTable, closeBytes}
 use Rattle.rules.specs.Ledger.{refused, judged, done}
 use Rattle.rules.specs.Runs.{tableRefusal, tableAfter, tableAnswer, tableStep, tableSays}
-use Rattle.rules.proofs.Histories.MessageBytes.{length-round}
+use Rattle.rules.proofs.Histories.MessageBytes.{length-message}
 use Rattle.rules.proofs.Histories.ClosingBytes.{length-totals}
 use Rattle.rules.proofs.Histories.Checks.{check-passed}
 use Rattle.calls.specs.Calls.{CCall, pool-share, pool-round-one, pool-round-two, pool-drop, pool-close, Kept, before, after}
@@ -35,13 +35,13 @@ use Rattle.calls.specs.Calls.{callOf, answerOf, LeavesRest}
 use Rattle.calls.proofs.Writing.{answer-same, table-kept, number-kept, number-done, hands, untouched}
 
 -- the messages have the length that is told
-share-long : (T : Lent) (m : List ℕ) (r s : ℕ) → length (shareBytes document01 T m r s) ≡ roundLength document01
+share-long : (T : Lent) (m : List ℕ) (r s : ℕ) → length (shareBytes document01 T m r s) ≡ roundLength document01 34
 unfolding shareBytes messageOne
-share-long T m r s = length-round document01 34 _ _ _ _
+share-long T m r s = length-message document01 34 _ _ _
 
-one-long : (T : Lent) (id : ℕ) (joined : List ℕ) → length (oneBytes document01 T id joined) ≡ roundLength document01
+one-long : (T : Lent) (id : ℕ) (joined : List ℕ) → length (oneBytes document01 T id joined) ≡ roundLength document01 35
 unfolding oneBytes messageTwo
-one-long T id joined = length-round document01 35 _ _ _ _
+one-long T id joined = length-message document01 35 _ _ _
 
 -- the totals of a table within the limits
 totals-long : (L : Lent) → tableFault document01 L ≡ 0
@@ -86,7 +86,7 @@ pub steps : (c : CCall) → Kept c → Steps c
 unfolding tableRefusal tableAfter tableAnswer unlessRefused ifDone
 steps (pool-share T m r s out w a T' out' w') (l, k) =
     let f = shareRefused document01 T m r s (length out) in
-    let long : f ≡ 0 → length (shareBytes document01 T m r s) ≡ roundLength document01 = λ z. share-long T m r s in
+    let long : f ≡ 0 → length (shareBytes document01 T m r s) ≡ roundLength document01 34 = λ z. share-long T m r s in
     record {
       says = hands f _ _ out w a out' w' k long;
       leaves = l;
@@ -94,7 +94,7 @@ steps (pool-share T m r s out w a T' out' w') (l, k) =
     }
 steps (pool-round-one T id joined out w a T' out' w') (l, k) =
     let f = oneRefused document01 T id joined (length out) in
-    let long : f ≡ 0 → length (oneBytes document01 T id joined) ≡ roundLength document01 = λ z. one-long T id joined in
+    let long : f ≡ 0 → length (oneBytes document01 T id joined) ≡ roundLength document01 35 = λ z. one-long T id joined in
     record {
       says = hands f _ _ out w a out' w' k long;
       leaves = l;

@@ -1,6 +1,6 @@
 -- Whatever a pool of the rules asks, C calls can ask: each promise is an equation for what the function leaves, so there are
 -- calls that keep it, one on the table of the other. Assumes nothing.
-use mathlib.Core.Path.{_≡_, refl, sym, ap, ap₂, _∙_, subst}
+use mathlib.Core.Path.{_≡_, refl, sym, ap, ap₂, subst}
 use mathlib.Core.Bool.{cond}
 use mathlib.Core.List.{List, [], _∷_, map}
 use Prim.Native.Nat.{ℕ, _<_}
@@ -15,7 +15,7 @@ use Rattle.waiting.specs.Changes.{unlessRefused}
 use Rattle.rules.specs.Table.{Lent, openedTable, openLength, openedIn, shareRefused, shareTable, shareBytes, oneRefused, oneTable, oneBytes}
 use Rattle.rules.specs.Table.{twoRefused, twoTable, twoVerdict, dropRefused, dropTable, closeRefused, closeTable, closeBytes}
 use Rattle.rules.specs.Ledger.{Call, share, roundOne, roundTwo, drop, close}
-use Rattle.rules.specs.WholeRun.{Pool, BytesIn}
+use Rattle.rules.specs.Pools.{Pool, BytesIn}
 use Rattle.calls.specs.Calls.{CCall, pool-share, pool-round-one, pool-round-two, pool-drop, pool-close, Kept, before, after, callOf}
 use Rattle.calls.specs.Calls.{Linked, none, next, Log, Serves}
 use Rattle.calls.specs.Servers.{Servers, AskedBy}
@@ -34,13 +34,13 @@ made T (share m r s room) =
     let out = buffer room in
     let f = shareRefused document01 T m r s (length out) in
     pool-share T m r s out 0 f (unlessRefused f (shareTable document01 T m r s) T) (wrote-in f (shareBytes document01 T m r s) out)
-    (ifDone f (roundLength document01) 0)
+    (ifDone f (roundLength document01 34) 0)
 made T (roundOne id joined room) =
     let out = buffer room in
     let f = oneRefused document01 T id joined (length out) in
     pool-round-one T id joined out 0 f (unlessRefused f (oneTable document01 T id joined) T)
     (wrote-in f (oneBytes document01 T id joined) out)
-    (ifDone f (roundLength document01) 0)
+    (ifDone f (roundLength document01 35) 0)
 made T (roundTwo id joined) =
     let f = twoRefused document01 T id joined in
     pool-round-two T id joined 0 f (unlessRefused f (twoTable document01 T id joined) T)

@@ -13,16 +13,17 @@ use Rattle.words.specs.Bytes.{bytesOfAll}
 use Rattle.words.proofs.Elements.{length-bytes-all}
 use Rattle.rules.specs.Settings.{document01}
 use Rattle.rules.specs.Columns.{publishedIn, columnsOf}
-use Rattle.rules.specs.Messages.{oneByOne, placeIn, serverAt}
+use Rattle.rules.specs.Messages.{serverIn, oneByOne}
 use Rattle.rules.specs.Joining.{joinRefusal, joinCount, joinTotals, joinBytes}
 use Rattle.rules.specs.Ledger.{Answer, wrote, isClosed, closingMessage, empty}
-use Rattle.rules.specs.WholeRun.{handedIn, openedAt, ledgerAt, Conditions, Closed, closings}
+use Rattle.rules.specs.Pools.{handedIn, openedAt, ledgerAt, Unaltered, Conditions}
+use Rattle.rules.specs.WholeRun.{Closed, closings}
 use Rattle.rules.proofs.Histories.Origins.{handed-named}
 use Rattle.rules.proofs.Runs.Agreement.{history-at}
 use Rattle.rules.proofs.Runs.WholeRuns.{document01-whole-run}
 use Rattle.pool_totals.specs.Calls.{Joins}
 use Rattle.calls.specs.Calls.{callOf, Tells}
-use Rattle.calls.specs.Servers.{Servers, over, roundsIn, closingsIn, poolOf, CConditions, Totals, WholeCalls}
+use Rattle.calls.specs.Servers.{Servers, over, roundsIn, closingsIn, poolOf, CUnaltered, CConditions, Totals, WholeCalls}
 use Rattle.calls.proofs.Writing.{reads, number-done}
 use Rattle.calls.proofs.ManyCalls.{calls-tell}
 use Rattle.calls.proofs.Handing.{closedIn, rounds-same, closings-same, closed-wrote}
@@ -43,32 +44,30 @@ module _ (𝓢 : Servers) where
       × (m ≡ closingMessage document01 (openedAt document01 (poolOf 𝓢) i) (ledgerAt document01 (poolOf 𝓢) i))
   closes i h m k = closings-same (openedAt document01 (poolOf 𝓢) i) empty (𝓢 .log i .calls) (told i h .by-ledger) m k
 
-  rounds : (i : ℕ) → i < 𝓢 .servers → over roundsIn (𝓢 .log i .calls)
+  rounds : (i : ℕ) → i < 𝓢 .servers → over (roundsIn (𝓢 .servers)) (𝓢 .log i .calls)
       ≡ handedIn document01 (openedAt document01 (poolOf 𝓢) i) empty (map callOf (𝓢 .log i .calls))
   rounds i h = rounds-same (openedAt document01 (poolOf 𝓢) i) empty (𝓢 .log i .calls) (told i h .by-ledger)
 
-  -- joined messages that are not refused name servers that there are
-  named : (i : ℕ) → i < 𝓢 .servers → (joined : List ℕ)
-      → In joined (handedIn document01 (openedAt document01 (poolOf 𝓢) i) empty (map callOf (𝓢 .log i .calls)))
-      → (j : ℕ) → j < 𝓢 .servers → serverAt document01 joined j < 𝓢 .servers
+  -- messages that are not refused name servers that there are
+  named : (i : ℕ) → i < 𝓢 .servers → (m : List ℕ)
+      → In m (handedIn document01 (openedAt document01 (poolOf 𝓢) i) empty (map callOf (𝓢 .log i .calls))) → serverIn m < 𝓢 .servers
   named i h = handed-named document01 (openedAt document01 (poolOf 𝓢) i) (history-at document01 (poolOf 𝓢) i h)
 
+  unaltered : CUnaltered 𝓢 → Unaltered document01 (poolOf 𝓢)
+  unaltered u i h m q =
+      subst (λ (xs : List Answer). In (wrote m) xs) (told (serverIn m) (named i h m q) .by-ledger)
+      (u i h m (subst (λ (xs : List (List ℕ)). In m xs) (sym (rounds i h)) q))
+
+  unaltered-back : Unaltered document01 (poolOf 𝓢) → CUnaltered 𝓢
+  unaltered-back u i h m q =
+      let handed = subst (λ (xs : List (List ℕ)). In m xs) (rounds i h) q in
+      subst (λ (xs : List Answer). In (wrote m) xs) (sym (told (serverIn m) (named i h m handed) .by-ledger)) (u i h m handed)
+
   conditions : CConditions 𝓢 → Conditions document01 (poolOf 𝓢)
-  conditions 𝓒 = record {
-    unaltered = λ i j h k joined q.
-        subst (λ (xs : List Answer). In (wrote (placeIn document01 joined j)) xs) (told _ (named i h joined q j k) .by-ledger)
-        (𝓒 .unaltered i j h k joined (subst (λ (xs : List (List ℕ)). In joined xs) (sym (rounds i h)) q));
-    same-drops = 𝓒 .same-drops;
-  }
+  conditions 𝓒 = record { unaltered = unaltered (𝓒 .unaltered); same-drops = 𝓒 .same-drops }
 
   conditions-back : Conditions document01 (poolOf 𝓢) → CConditions 𝓢
-  conditions-back 𝓒 = record {
-    unaltered = λ i j h k joined q. (
-        let handed = subst (λ (xs : List (List ℕ)). In joined xs) (rounds i h) q in
-        subst (λ (xs : List Answer). In (wrote (placeIn document01 joined j)) xs) (sym (told _ (named i h joined handed j k) .by-ledger))
-        (𝓒 .unaltered i j h k joined handed));
-    same-drops = 𝓒 .same-drops;
-  }
+  conditions-back 𝓒 = record { unaltered = unaltered-back (𝓒 .unaltered); same-drops = 𝓒 .same-drops }
 
   module _ (𝓒 : CConditions 𝓢) (m : ℕ → List ℕ)
       (written-by : (i : ℕ) → i < 𝓢 .servers → In (m i) (over closingsIn (𝓢 .log i .calls))) where
@@ -114,6 +113,8 @@ module _ (𝓢 : Servers) where
     tells = told;
     whole = document01-whole-run (poolOf 𝓢);
     rounds = rounds;
+    unaltered = unaltered;
+    unaltered-back = unaltered-back;
     conditions = conditions;
     conditions-back = conditions-back;
     closed-wrote = λ i h e. closed-wrote (openedAt document01 (poolOf 𝓢) i) empty (𝓢 .log i .calls) (told i h .by-ledger) refl

@@ -16,7 +16,7 @@ use Rattle.rules.specs.Ledger.{Call, share, roundOne, roundTwo, drop, close, An
 use Rattle.rules.specs.Ledger.{empty, ledgerAnswers}
 use Rattle.rules.specs.Table.{Lent, openedTable}
 use Rattle.rules.specs.Runs.{runTable, tableAnswers}
-use Rattle.rules.specs.WholeRun.{Bytes, BytesIn}
+use Rattle.rules.specs.Pools.{Bytes, BytesIn}
 use Rattle.pool_server.specs.Calls.{Opens, TakesShare, TakesOne, Decides, Drops, Closes}
 
 -- A call of a C function on a table: the table T in its three parts, the arguments, the buffer and the number behind the pointer

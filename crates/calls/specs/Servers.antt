@@ -11,10 +11,11 @@ use Rattle.algebra.specs.Lists.{In, Distinct, Rearranged, sumOver}
 use Rattle.words.specs.Bytes.{bytesOfAll}
 use Rattle.rules.specs.Settings.{document01}
 use Rattle.rules.specs.Columns.{check, publishedIn, publishedFrom}
-use Rattle.rules.specs.Messages.{oneByOne, placeIn, serverAt}
+use Rattle.rules.specs.Messages.{serverIn, oneByOne}
 use Rattle.rules.specs.Ledger.{wrote, isClosed, empty, closingMessage}
-use Rattle.rules.specs.WholeRun.{Bytes, Pool, columns, openedAt, ledgerAt, acceptedAt, droppedAt, addedEntry, KeepsForm}
-use Rattle.rules.specs.WholeRun.{handedIn, Conditions, WholeRun}
+use Rattle.rules.specs.Pools.{Bytes, Pool, columns, openedAt, ledgerAt, acceptedAt, droppedAt, addedEntry, KeepsForm, messagesIn}
+use Rattle.rules.specs.Pools.{handedIn, Unaltered, Conditions}
+use Rattle.rules.specs.WholeRun.{WholeRun}
 use Rattle.pool_totals.specs.Calls.{Joins}
 use Rattle.calls.specs.Calls.{CCall, pool-share, pool-round-one, pool-round-two, pool-drop, pool-close, callOf, answerOf}
 use Rattle.calls.specs.Calls.{Log, Serves, Tells}
@@ -31,13 +32,13 @@ pub record Servers : Type 0 where
   pub sheet-bytes : Bytes sheet
   pub serves : (i : ℕ) → i < servers → Serves servers i sheet returns least (log i)
 
--- the joined messages of the round calls that returned 0
-abbrev pub roundsIn : CCall → List (List ℕ)
-roundsIn (pool-share T m r s out w a T' out' w') = []
-roundsIn (pool-round-one T id joined out w a T' out' w') = cond (eqb a 0) (joined ∷ []) []
-roundsIn (pool-round-two T id joined v a T' v') = cond (eqb a 0) (joined ∷ []) []
-roundsIn (pool-drop T id a T') = []
-roundsIn (pool-close T out w a T' out' w') = []
+-- the messages that stand in the round calls that returned 0, `servers` of them in each
+abbrev pub roundsIn : ℕ → CCall → List (List ℕ)
+roundsIn servers (pool-share T m r s out w a T' out' w') = []
+roundsIn servers (pool-round-one T id joined out w a T' out' w') = cond (eqb a 0) (messagesIn document01 servers 34 joined) []
+roundsIn servers (pool-round-two T id joined v a T' v') = cond (eqb a 0) (messagesIn document01 servers 35 joined) []
+roundsIn servers (pool-drop T id a T') = []
+roundsIn servers (pool-close T out w a T' out' w') = []
 
 -- the bytes that pool_close wrote where it returned 0
 abbrev pub closingsIn : CCall → List (List ℕ)
@@ -69,11 +70,15 @@ module _ (𝓢 : Servers) where
   }
 
   -- "Round messages are unaltered when each one in a round call that is not refused is the one that the named server wrote
-  -- for that id and round." "Drops are in the same order when no id dropped at one server is accepted at another."
+  -- for that id and round."
+  abbrev pub CUnaltered : Type 0
+  CUnaltered =
+      (i : ℕ) → i < 𝓢 .servers → (m : List ℕ) → In m (over (roundsIn (𝓢 .servers)) (𝓢 .log i .calls))
+      → In (wrote m) (map answerOf (𝓢 .log (serverIn m) .calls))
+
+  -- "Drops are in the same order when no id dropped at one server is accepted at another."
   pub record CConditions : Type 0 where
-    pub unaltered : (i place : ℕ) → i < 𝓢 .servers → place < 𝓢 .servers → (joined : List ℕ)
-        → In joined (over roundsIn (𝓢 .log i .calls))
-        → In (wrote (placeIn document01 joined place)) (map answerOf (𝓢 .log (serverAt document01 joined place) .calls))
+    pub unaltered : CUnaltered
     pub same-drops : (i j : ℕ) → i < 𝓢 .servers → j < 𝓢 .servers → (id : ℕ) → In id (droppedAt document01 poolOf i)
         → In id (acceptedAt document01 poolOf j) → ⊥
 
@@ -104,7 +109,10 @@ module _ (𝓢 : Servers) where
     -- that the rules do not refuse
     pub whole : WholeRun document01 poolOf
     pub rounds : (i : ℕ) → i < 𝓢 .servers
-        → over roundsIn (𝓢 .log i .calls) ≡ handedIn document01 (openedAt document01 poolOf i) empty (map callOf (𝓢 .log i .calls))
+        → over (roundsIn (𝓢 .servers)) (𝓢 .log i .calls)
+        ≡ handedIn document01 (openedAt document01 poolOf i) empty (map callOf (𝓢 .log i .calls))
+    pub unaltered : CUnaltered → Unaltered document01 poolOf
+    pub unaltered-back : Unaltered document01 poolOf → CUnaltered
     pub conditions : CConditions → Conditions document01 poolOf
     pub conditions-back : Conditions document01 poolOf → CConditions
     -- a server is closed exactly where its pool_close returned 0, and the bytes that it wrote are the closing message

@@ -20,7 +20,7 @@ use Rattle.rules.specs.Columns.{Column}
 use Rattle.rules.specs.Judging.{shareSize}
 use Rattle.rules.specs.Making.{shareOf, shareMessage, madeShare, madeFrom}
 use Rattle.rules.proofs.Returns.Whole.{length-whole}
-use Rattle.rules.proofs.Histories.ShareBytes.{length-share}
+use Rattle.rules.proofs.Histories.MessageBytes.{length-message}
 use Rattle.share_message.specs.Shares.{headerBytes}
 use Rattle.steps.proofs.Parts.{part-of-part}
 use Rattle.client.specs.Pieces.{Random, restOf, firstShare, messageBytes, otherMessage, otherMessages, wholeOf}
@@ -115,7 +115,7 @@ module _ (cs : List Column) (servers : ℕ) (vs random : List ℕ) (r : Random r
         ≡ splice out 0 (madeFrom document01 cs servers vs zs id 0 servers)
     return-written out id some h =
         let l : length (messageOf cs servers vs zs id 0) ≡ messageBytes size
-        = length-share document01 id 0 (made 0) ∙ ap (λ (n : ℕ). 6 + 4 * n) (length-tabulate _ size) in
+        = length-message document01 33 id 0 (made 0) ∙ ap (λ (n : ℕ). 6 + 4 * n) (length-tabulate _ size) in
         ap₂ (λ (a b : List ℕ). splice (splice out 0 a) (messageBytes size) b)
         (ap (shareMessage document01 id 0) first-share) (others-are id others (omega arith))
         ∙ on out (messageOf cs servers vs zs id 0) (messagesFrom cs servers vs zs id 1 others) (messageBytes size) l h

@@ -1,7 +1,7 @@
 -- Messages written piece after piece, each where the one before ends: the whole is put there as one run (`grow`).
 -- Assumes that the run lies within the buffer.
 use mathlib.Core.Path.{_≡_, sym, ap, _∙_}
-use mathlib.Core.List.{List, _++_, append-assoc}
+use mathlib.Core.List.{List, _++_}
 use Prim.Native.Nat.{ℕ, zero, suc, _+_, _-_, _*_, _≤_, _<_}
 use native.Mathlib.Nat.{mul-zero, mul-le-mul-left}
 use native.Mathlib.Numerals.{add-one}
@@ -14,13 +14,13 @@ use Rattle.rules.specs.Settings.{document01}
 use Rattle.rules.specs.Making.{shareMessage}
 use Rattle.share_message.specs.Shares.{headerBytes}
 use Rattle.steps.proofs.Parts.{span}
+use Rattle.share_message.proofs.Shares.{message-is}
 use Rattle.share_message.proofs.Writing.{length-header}
 use Rattle.client.specs.Pieces.{Random, messageBytes, otherMessage, otherMessages, Other}
 
 -- header and elements
 pub share-message : (id server : ℕ) (xs : List ℕ) → headerBytes 33 id server ++ bytesOfAll 4 xs ≡ shareMessage document01 id server xs
-unfolding headerBytes shareMessage
-share-message id server xs = simp append-assoc
+share-message id server xs = sym (message-is 33 id server xs)
 
 pub first-written : (s : List ℕ) (id : ℕ) (xs : List ℕ) → 6 ≤ length s
     → splice (splice s 0 (headerBytes 33 id 0)) 6 (bytesOfAll 4 xs) ≡ splice s 0 (shareMessage document01 id 0 xs)

@@ -14,13 +14,13 @@ use Rattle.slots.specs.declared.Slot.{Slot}
 use Rattle.slots.specs.declared.Change.{Change}
 use Rattle.slots.specs.Slots.{freeSlot, eightOf, applied, cleared}
 use Rattle.rules.specs.Settings.{document01}
-use Rattle.rules.specs.Columns.{check, columnsOf}
-use Rattle.rules.specs.Server.{openFault, totalsLength, shareRefusal, oneRefusal, twoRefusal, dropRefusal, closeRefusal}
+use Rattle.rules.specs.Columns.{columnsOf}
+use Rattle.rules.specs.Messages.{roundLength}
+use Rattle.rules.specs.Server.{totalsLength, shareRefusal, oneRefusal, twoRefusal, dropRefusal, closeRefusal}
 use Rattle.rules.specs.WaitingList.{runSize}
 use Rattle.rules.specs.Table.{Lent, tableState, tableSound, shareRefused, shareTable, shareBytes, oneRefused, oneTable, oneBytes}
 use Rattle.rules.specs.Table.{twoRefused, twoTable, twoVerdict, dropRefused, dropTable, closeRefused, closeTable, closeBytes, openedIn}
-use Rattle.rules.specs.Table.{openRefusal, openRoom, openLength, openBytes, openedTable}
-use Rattle.rules.specs.WholeRun.{opensIn}
+use Rattle.rules.specs.Table.{openRoom, openLength, openBytes, openedTable}
 use Rattle.rules.proofs.Histories.Opening.{opening}
 use Rattle.waiting.specs.Changes.{lent, unlessRefused}
 use Rattle.opening.specs.Calls.{Opens, refusalOf}
@@ -56,7 +56,7 @@ shares ys {t} {es} {m} {r} {s} {out} {w} {c} {ys'} {es'} {out'} {w'} h e =
       record {
         answer-is = answer-is fault refuses t ys es new c t es' (h .changes);
         out-is = h .out-is ∙ left-same fault refuses t ys es (λ T. splice out 0 (shareBytes document01 T m r s)) out;
-        written-is = h .written-is ∙ left-same fault refuses t ys es (λ T. 14) w;
+        written-is = h .written-is ∙ left-same fault refuses t ys es (λ T. roundLength document01 34) w;
       },
     )
 
@@ -84,7 +84,7 @@ ones ys {t} {es} {id} {joined} {out} {w} {c} {ys'} {out'} {w'} h e =
       record {
         answer-is = answer-is fault refuses t ys es new c t es (h .changes);
         out-is = h .out-is ∙ left-same fault refuses t ys es (λ T. splice out 0 (oneBytes document01 T id joined)) out;
-        written-is = h .written-is ∙ left-same fault refuses t ys es (λ T. 14) w;
+        written-is = h .written-is ∙ left-same fault refuses t ys es (λ T. roundLength document01 35) w;
       },
     )
 

@@ -14,7 +14,7 @@ use Rattle.rules.specs.Server.{totalsLength}
 use Rattle.rules.specs.Table.{Lent, openLength, openedTable, shareRefused, shareTable, shareBytes}
 use Rattle.rules.specs.Table.{oneRefused, oneTable, oneBytes, twoRefused, twoVerdict, twoTable}
 use Rattle.rules.specs.Table.{dropRefused, dropTable, closeRefused, closeTable, closeBytes, openedIn}
-use Rattle.rules.specs.WholeRun.{opensIn}
+use Rattle.rules.specs.Pools.{opensIn}
 use Rattle.waiting.specs.Changes.{unlessRefused}
 
 -- a call on the table T, which is `new` afterwards unless the call is refused
@@ -33,14 +33,14 @@ abbrev pub TakesShare : Lent → List ℕ → ℕ → ℕ → List ℕ → ℕ �
 TakesShare T m r s out written a T' out' written' =
     let refusal = shareRefused document01 T m r s (length out) in
     Leaves refusal (shareTable document01 T m r s) T T'
-    × Writes refusal (shareBytes document01 T m r s) (roundLength document01) out written a out' written'
+    × Writes refusal (shareBytes document01 T m r s) (roundLength document01 34) out written a out' written'
 
 -- pool_round_one
 abbrev pub TakesOne : Lent → ℕ → List ℕ → List ℕ → ℕ → ℕ → Lent → List ℕ → ℕ → Type 0
 TakesOne T id joined out written a T' out' written' =
     let refusal = oneRefused document01 T id joined (length out) in
     Leaves refusal (oneTable document01 T id joined) T T'
-    × Writes refusal (oneBytes document01 T id joined) (roundLength document01) out written a out' written'
+    × Writes refusal (oneBytes document01 T id joined) (roundLength document01 35) out written a out' written'
 
 -- pool_round_two: the verdict is 1 or 0
 pub record Decides (T : Lent) (id : ℕ) (joined : List ℕ) (accepted a : ℕ) (T' : Lent) (accepted' : ℕ) : Type 0 where

@@ -9,6 +9,7 @@ use Rattle.words.specs.Bytes.{splice}
 use Rattle.records.specs.Answers.{onlyIf, ifDone}
 use Rattle.slots.specs.declared.Change.{Change}
 use Rattle.rules.specs.Settings.{document01}
+use Rattle.rules.specs.Messages.{roundLength}
 use Rattle.rules.specs.Table.{Lent, oneRefused, oneTable, oneBytes}
 use Rattle.waiting.specs.Changes.{Changes}
 
@@ -16,4 +17,4 @@ pub record RoundOne (T : Lent) (id : ℕ) (joined out : List ℕ) (written : ℕ
     : Type 0 where
   pub changes : Changes (oneRefused document01 T id joined (length out)) (oneTable document01 T id joined) T c (T .bytes) (T .elements)
   pub out-is : out' ≡ onlyIf (oneRefused document01 T id joined (length out)) (splice out 0 (oneBytes document01 T id joined)) out
-  pub written-is : written' ≡ ifDone (oneRefused document01 T id joined (length out)) 14 written
+  pub written-is : written' ≡ ifDone (oneRefused document01 T id joined (length out)) (roundLength document01 35) written

@@ -2,17 +2,20 @@
 // of round two. The definitions that the contracts cite are those of the crate rules, at document 01's setting, and of specs/.
 // A refusal leaves the table and the buffer as they were.
 ghost use mathlib.Core.Path.{_≡_};
+ghost use Prim.Native.Nat.{_<_};
 ghost use lib.ListN.{length};
 ghost use Rattle.words.specs.Bytes.{splice};
+ghost use Rattle.field.specs.Residues.{prime};
 ghost use Rattle.layout.specs.Numbers.{Limited};
 ghost use Rattle.waiting.specs.Changes.{lent};
 ghost use Rattle.round_one.specs.One.{oneFaultAt, summedSlot, messageAt, OneReady};
 ghost use Rattle.round_one.specs.Calls.{RoundOne};
 use layout::Table;
+use round_message::LENGTH_ONE;
+use round_message::LENGTH_TWO;
 use rounds::named::Named;
 use rounds::named::find;
 use rounds::named::numbers_at;
-use rounds::own::own_refusal;
 use rounds::own::sigma_of;
 use slots::Change;
 use slots::Slot;
@@ -22,16 +25,30 @@ use waiting::Waiting;
 use waiting::writing::records;
 use waiting::writing::refused;
 
-// The refusal by the joined messages and by the room for the message that is written: 12, 14, or 0 for none.
+// The refusal by the joined messages, their challenges and the room for the message that is written: 12, 16, 14, or 0 for none.
 fn one_refusal(joined: &[u8], k: Table, w: Waiting, room: usize) -> u32
-    requires { ⌜ Limited k ⌝ }
+    requires { ⌜ Limited k × (w .r < prime) × (w .s < prime) ⌝ }
     ensures { λ r. ⌜ r ≡ oneFaultAt k w (now (joined .entry)) room ⌝ }
 {
-    let fault = own_refusal(joined, k.servers, 34, w.id, k.own, w.d, w.e);
+    let mut mine = [0u8; LENGTH_ONE];
+    round_message::write_one(
+        &mut mine,
+        w.id,
+        k.own as u8,
+        w.d,
+        w.e,
+        w.r as u32,
+        w.s as u32,
+    );
+    let fault = round_message::round_refusal(joined, k.servers, 34, w.id, k.own, &mine);
     if fault != 0 {
         return fault;
     }
-    if room < 14 {
+    let differ = round_message::challenge_refusal(joined, k.servers);
+    if differ != 0 {
+        return differ;
+    }
+    if room < LENGTH_TWO {
         return 14;
     }
     0
@@ -43,10 +60,10 @@ fn take_one(joined: &[u8], k: Table, w: Waiting, ns: &[u32], out: &mut [u8]) -> 
     ensures { λ r. ⌜ (r ≡ summedSlot k w (now (joined .entry)))
         × (now (out .exit) ≡ splice (now (out .entry)) 0 (messageAt k w (now (ns .entry)) (now (joined .entry)))) ⌝ }
 {
-    let d = round_message::first_sum(joined, k.servers);
-    let e = round_message::second_sum(joined, k.servers);
+    let d = round_message::element_sum(joined, k.servers, 34, 0);
+    let e = round_message::element_sum(joined, k.servers, 34, 1);
     let sigma = sigma_of(k, ns, w.rh, d, e);
-    round_message::write_round(out, 35, w.id, k.own as u8, sigma, w.tau);
+    round_message::write_two(out, w.id, k.own as u8, sigma, w.tau);
     Slot {
         id: w.id,
         stage: AWAITS_TWO,
@@ -79,7 +96,7 @@ pub fn round_one(
             }
             let ns = numbers_at(numbers, k, at);
             let slot = take_one(joined, k, w, ns, out);
-            *written = 14;
+            *written = LENGTH_TWO;
             records(at, slot)
         }
     }

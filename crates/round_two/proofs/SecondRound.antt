@@ -2,7 +2,7 @@
 -- A call that names none is refused 11 (`two-refusal` of the crate rounds). Assumes nothing.
 use mathlib.Core.Path.{_≡_, refl, sym, ap, _∙_}
 use mathlib.Core.Bool.{Bool, true, false, cond, _&&_}
-use mathlib.Core.List.{List}
+use mathlib.Core.List.{List, [], _∷_}
 use Prim.Native.Nat.{ℕ, _≤_}
 use native.Mathlib.Omega.{arith}
 use borrow.Author.Tests.{ne-eqb}
@@ -11,7 +11,8 @@ use Rattle.records.specs.Answers.{ifDone}
 use Rattle.slots.specs.declared.Change.{Change}
 use Rattle.slots.specs.Slots.{freeSlot, applied}
 use Rattle.rules.specs.Settings.{document01}
-use Rattle.rules.specs.Messages.{roundFault, roundMessage, firstSum, secondSum, bothZero}
+use Rattle.rules.specs.Making.{message}
+use Rattle.rules.specs.Messages.{roundFault, firstSum, secondSum, bothZero}
 use Rattle.rules.specs.Server as rules
 use Rattle.rules.specs.Server.{twoRefusal, messageTwo}
 use Rattle.rules.specs.WaitingList.{waitingAt, placeOf}
@@ -38,12 +39,12 @@ use Rattle.round_two.specs.Two.{twoFaultAt, Settles, addedIf}
 use Rattle.round_two.specs.Calls.{RoundTwo}
 
 -- ---- the verdict
-module _ (servers : ℕ) (joined : List ℕ) (x : ℕ) (e : x ≡ firstSum document01 servers joined) where
+module _ (servers : ℕ) (joined : List ℕ) (x : ℕ) (e : x ≡ firstSum document01 35 servers joined) where
   pub first-not : (x ≡ 0 → ⊥) → _≡_ {A = ℕ} 0 (cond (bothZero document01 servers joined) 1 0)
   unfolding bothZero
   first-not n = rw (← e, ne-eqb x 0 n)
 
-  module _ (z : x ≡ 0) (y : ℕ) (g : y ≡ secondSum document01 servers joined) where
+  module _ (z : x ≡ 0) (y : ℕ) (g : y ≡ secondSum document01 35 servers joined) where
     pub second-not : (y ≡ 0 → ⊥) → _≡_ {A = ℕ} 0 (cond (bothZero document01 servers joined) 1 0)
     unfolding bothZero
     second-not n = rw (← e, ← g, z, ne-eqb y 0 n)
@@ -81,7 +82,7 @@ module _ (T : Lent) (id : ℕ) (joined : List ℕ) where
       let u = waitingUnder document01 T id in
       rw e
       (ap (λ (x : ℕ). roundFault document01 (serversIn document01 (T .bytes)) 35 (u .id) (ownIn document01 (T .bytes))
-      (roundMessage document01 35 (u .id) (ownIn document01 (T .bytes)) x (u .tau)) joined)
+      (message document01 35 (u .id) (ownIn document01 (T .bytes)) (x ∷ u .tau ∷ [])) joined)
       (sym (sigma-is (T .bytes) (numbersIn T (placeOf id (T .slots))) (tableOf (T .bytes)) u refl refl)))
 
   -- ---- the verdict, and what it does to the table
@@ -151,7 +152,7 @@ module _ (T : Lent) (id : ℕ) (joined : List ℕ) where
       second-refused = refused-by f fault-is
 
       module _ (z : f ≡ 0) where
-        pub second-summable : Summable (k .servers) joined
+        pub second-summable : Summable (k .servers) 35 joined
         unfolding twoFaultAt
         second-summable = rounds-summable (k .servers) 35 (w .id) (k .own) _ joined (sym e ∙ z)
 

@@ -11,12 +11,12 @@ ghost use Rattle.rounds.specs.Waits.{Sharing};
 ghost use Rattle.round_two.specs.Two.{twoFaultAt, Settles, addedIf};
 ghost use Rattle.round_two.specs.Calls.{RoundTwo};
 use layout::Table;
+use round_message::LENGTH_TWO;
 use rounds::adding::add_published;
 use rounds::named::Named;
 use rounds::named::find;
 use rounds::named::numbers_at;
 use rounds::named::share_at;
-use rounds::own::own_refusal;
 use rounds::own::sigma_of;
 use slots::Change;
 use slots::Slot;
@@ -31,18 +31,20 @@ fn two_refusal(joined: &[u8], k: Table, w: Waiting, ns: &[u32]) -> u32
     ensures { λ r. ⌜ r ≡ twoFaultAt k w (now (ns .entry)) (now (joined .entry)) ⌝ }
 {
     let sigma = sigma_of(k, ns, w.rh, w.d, w.e);
-    own_refusal(joined, k.servers, 35, w.id, k.own, sigma, w.tau)
+    let mut mine = [0u8; LENGTH_TWO];
+    round_message::write_two(&mut mine, w.id, k.own as u8, sigma, w.tau);
+    round_message::round_refusal(joined, k.servers, 35, w.id, k.own, &mine)
 }
 
 // The verdict on a return: 1 where both sums are 0, else 0.
 fn verdict(joined: &[u8], servers: u32) -> u32
-    requires { ⌜ Summable servers (now joined) ⌝ }
+    requires { ⌜ Summable servers 35 (now joined) ⌝ }
     ensures { λ r. ⌜ r ≡ cond (bothZero document01 servers (now (joined .entry))) 1 0 ⌝ }
 {
-    if round_message::first_sum(joined, servers) != 0 {
+    if round_message::element_sum(joined, servers, 35, 0) != 0 {
         return 0;
     }
-    if round_message::second_sum(joined, servers) != 0 {
+    if round_message::element_sum(joined, servers, 35, 1) != 0 {
         return 0;
     }
     1

@@ -8,8 +8,8 @@ use native.Mathlib.Omega.{arith}
 use lib.ListN.{length, getD, take, drop}
 use lib.Seq.{getD-take, take-take}
 use Rattle.algebra.proofs.Members.{and-left, and-right}
-use Rattle.words.specs.Bytes.{splice, allBelow}
-use Rattle.words.proofs.Splice.{splice-all, length-part}
+use Rattle.words.specs.Bytes.{allBelow}
+use Rattle.words.proofs.Splice.{length-part}
 use Rattle.words.proofs.Below.{all-of-below, below-of-all, all-take}
 use Rattle.field.specs.Residues.{prime, Elements}
 use Rattle.field.proofs.Below.{member-below}
@@ -17,13 +17,12 @@ use Rattle.rules.specs.Settings.{document01}
 use Rattle.rules.specs.Columns.{entriesIn}
 use Rattle.rules.specs.Circuit.{gatesIn}
 use Rattle.rules.specs.Judging.{aOf, bOf, cOf, shareSize}
-use Rattle.rules.specs.Messages.{roundMessage}
 use Rattle.rules.specs.Server as rules
 use Rattle.rules.specs.Server.{sigmaIn}
 use Rattle.rules.specs.WaitingList.{isFree, waitingCount, waitingSound}
 use Rattle.rules.specs.Table.{Lent, columnsIn, columnsAt, totalsIn, openedIn, headerSound, countsSound, tableSound}
-use Rattle.round_message.proofs.Writing.{length-round}
 use Rattle.limits.specs.Sheets.{sizeOf}
+use Rattle.rules.proofs.Histories.OwnMessages.{pair-below}
 use Rattle.layout.specs.Places.{placeSizeOf}
 use Rattle.layout.specs.declared.Table.{Table}
 use Rattle.layout.specs.Numbers.{tableOf}
@@ -36,12 +35,6 @@ use Rattle.table.proofs.Waiting as table
 use Rattle.table.proofs.Waiting.{numbers-are}
 use Rattle.rounds.specs.Waits.{slotIn, numbersIn, heldIn, Waits, placeIn, shareIn, InRun, Sharing, sigmaAt}
 use Rattle.rounds.specs.Totals.{Adds}
-
--- ---- a message written into a buffer of just its length
-pub message-alone : (s m : List ℕ) (kind id own x y : ℕ) → length s ≡ 14 → m ≡ splice s 0 (roundMessage document01 kind id own x y)
-    → m ≡ roundMessage document01 kind id own x y
-message-alone s m kind id own x y h e =
-    e ∙ splice-all s (roundMessage document01 kind id own x y) (length-round kind id own x y ∙ sym h)
 
 -- ---- the numbers of a place lie within the run
 pub run-fits : (es : List ℕ) (k : Table) (j : ℕ) → InRun es k j → (z : ℕ) → z ≡ placeSizeOf (k .entries) (k .gates)
@@ -90,10 +83,15 @@ sigma-is t ns k w e x = rw e (sigma-at t ns w x)
 pub waits-at : (T : Lent) (k : Table) → Sound T k → (j : ℕ) → j < 8 → isFree (slotIn T j) ≡ false → Waits T k j
 waits-at T k s j h f =
     let w = table.waits-at T k s j h f in
+    let x = slotIn T j in
+    let cs = columnsAt document01 T in
+    let pair = pair-below document01 cs (x .r) (x .s) (w .pair) in
     record {
       sound = s;
       within = h;
       not-free = f;
+      r-below = pair .0;
+      s-below = pair .1;
       d-below = w .d-below;
       e-below = w .e-below;
       numbers-below = w .numbers-below;

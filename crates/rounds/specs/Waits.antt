@@ -36,6 +36,8 @@ pub record Waits (T : Lent) (k : Table) (j : ℕ) : Type 0 where
   pub sound : Sound T k
   pub within : j < 8
   pub not-free : isFree (slotIn T j) ≡ false
+  pub r-below : slotIn T j .r < prime
+  pub s-below : slotIn T j .s < prime
   pub d-below : slotIn T j .d < prime
   pub e-below : slotIn T j .e < prime
   pub numbers-below : allBelow prime (numbersIn T j) ≡ true

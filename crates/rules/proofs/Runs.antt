@@ -1,6 +1,7 @@
 -- Demand 3: verdicts, the same ids, totals; a sound return is handled; calls on different returns mixed; refusals; the whole
 -- claim; returns that making wrote.
 pub mod Agreement
+pub mod OneChallenge
 pub mod Verdicts
 pub mod FewReturns
 pub mod SameIds

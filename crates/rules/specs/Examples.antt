@@ -73,7 +73,7 @@ opened i sheet returns = openedTable σ 2 i sheet returns 1 (record { bytes = []
 abbrev toShare : ℕ → ℕ → ℕ
 toShare r s =
     shareRefused σ (opened 0 (17 ∷ []) 10)
-    (shareMessage σ 77 0 (madeShare σ yesSheet 2 (1 ∷ []) random 0)) r s 14
+    (shareMessage σ 77 0 (madeShare σ yesSheet 2 (1 ∷ []) random 0)) r s 22
 
 -- opening for two servers, with Q = 1 and room enough
 abbrev pub toOpen : List ℕ → ℕ → ℕ

@@ -53,13 +53,13 @@ smallPools =
     ∷ row "Q = 65,537: 2" (eqb (withLeast 65537) 2)
     ∷ row "a table holds Q = 300" (eqb (leastIn σ (openWith 1024 300 0 .bytes)) 300)
     ∷ row "Q - 1 accepted: 15" (eqb (closeRefused σ (oneAccepted 2) 10) 15)
-    ∷ row "then another is taken" (eqb (shareRefused σ (afterClose 2) (shareIn honest 78 0) 4 9 14) 0)
+    ∷ row "then another is taken" (eqb (shareRefused σ (afterClose 2) (shareIn honest 78 0) 4 9 22) 0)
     ∷ row "Q accepted: closed" (eqb (closeRefused σ (oneAccepted 1) 10) 0 && eqb (closeRefused σ (twoAccepted 2) 10) 0)
     ∷ row "their count is 2" (eqb (acceptedCount (closeBytes σ (twoAccepted 2))) 2)
     ∷ row "Q + 1 accepted: closed" (eqb (closeRefused σ (twoAccepted 1) 10) 0)
     ∷ row "a rejected or dropped return does not count: 15"
     (eqb (closeRefused σ (oneRejected 2) 10) 15 && eqb (closeRefused σ (oneDropped 2) 10) 15)
-    ∷ row "and with N decided every share is 13" (eqb (shareRefused σ (oneRejected 2) broken 4 9 14) 13)
+    ∷ row "and with N decided every share is 13" (eqb (shareRefused σ (oneRejected 2) broken 4 9 22) 13)
     ∷ row "15 before 14" (eqb (closeRefused σ (oneAccepted 2) 0) 15)
     ∷ row "11 before 15: one waits; closed; Q = N + 1, which no opening gives"
     (eqb (closeRefused σ (oneWaits 2) 0) 11

@@ -9,7 +9,7 @@ use lib.ListN.{length, getD}
 use Rattle.algebra.specs.Lists.{sumOver}
 use Rattle.rules.specs.Settings.{Setting}
 use Rattle.rules.specs.Columns.{publishedFrom}
-use Rattle.rules.specs.Messages.{idIn, shareElements, firstSum, secondSum, bothZero}
+use Rattle.rules.specs.Messages.{idIn, elementsIn, firstSum, secondSum, bothZero}
 use Rattle.rules.specs.Keyed.{find, without, changed}
 use Rattle.rules.specs.Server.{Opened, Waiting, Wait, awaitsOne, awaitsTwo, Stage, takes, closed, ServerState, waitingOf}
 use Rattle.rules.specs.Server.{withSums, messageOne, messageTwo, totalsMessage}
@@ -150,7 +150,7 @@ module _ (σ : Setting) (o : Opened) where
   decideWaiting l id d = decideAs id (find pendingId id (waiting (l .progress))) (waiting (l .progress)) (l .decided) d
 
   abbrev pub noteOf : List ℕ → ℕ → ℕ → Note
-  noteOf m r s = record { id = idIn m; elements = shareElements σ m; r = r; s = s }
+  noteOf m r s = record { id = idIn m; elements = elementsIn σ m; r = r; s = s }
 
   unfoldable pub sumsNoted : ℕ → ℕ → Pending → Pending
   sumsNoted d e (waitsOne n) = waitsTwo n d e
@@ -165,7 +165,7 @@ module _ (σ : Setting) (o : Opened) where
   ledgerAfter l (roundOne id joined room) = record {
     progress =
         isOpen
-        (changed pendingId id (sumsNoted (firstSum σ (o .servers) joined) (secondSum σ (o .servers) joined)) (waiting (l .progress)));
+        (changed pendingId id (sumsNoted (firstSum σ 34 (o .servers) joined) (secondSum σ 34 (o .servers) joined)) (waiting (l .progress)));
     decided = l .decided;
   }
   ledgerAfter l (roundTwo id joined) = decideWaiting l id (cond (bothZero σ (o .servers) joined) accepted rejected)
@@ -174,7 +174,7 @@ module _ (σ : Setting) (o : Opened) where
 
   -- what it hands back: the messages are those that Judging works out from what is noted
   abbrev pub secondAnswer : Note → List ℕ → List ℕ
-  secondAnswer n joined = messageTwo σ o (withSums (noted n) (firstSum σ (o .servers) joined) (secondSum σ (o .servers) joined))
+  secondAnswer n joined = messageTwo σ o (withSums (noted n) (firstSum σ 34 (o .servers) joined) (secondSum σ 34 (o .servers) joined))
 
   unfoldable pub secondMessage : Option Pending → List ℕ → List ℕ
   secondMessage none joined = []

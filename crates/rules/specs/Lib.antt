@@ -1,6 +1,7 @@
 -- Document 01 as definitions, in the order of the paper: settings, columns, circuit, run, values, a return, judging,
 -- messages, one server, its waiting list and its table, joining, recount; the ledger of whole runs, joined messages in any
--- order, calls on several returns mixed, and what is promised of whole runs and of returns that making wrote; the examples.
+-- order and with one challenge, calls on several returns mixed, and what is promised of whole runs and of returns that making
+-- wrote; the examples.
 -- (Making names the size of a share from Judging; Keyed has lists whose members have an id.) Of document 02: columns with a top
 -- stand among the others, and returns that wait and the least count in the rules of a server; behind the values every legal
 -- return of a small sheet; behind recount room told from the sheet, and messages stored by place.
@@ -26,7 +27,9 @@ pub mod Shelf
 pub mod Ledger
 pub mod Runs
 pub mod AnyOrder
+pub mod SameChallenge
 pub mod Mixing
+pub mod Pools
 pub mod WholeRun
 pub mod Made
 pub mod Examples
@@ -36,4 +39,5 @@ pub mod SoundExamples
 pub mod TableExamples
 pub mod WaitingExamples
 pub mod OrderExamples
+pub mod ChallengeExamples
 pub mod LeastExamples

@@ -16,14 +16,14 @@ use Rattle.rules.specs.Circuit.{gatesIn, testsIn}
 use Rattle.rules.specs.Values.{encoding}
 use Rattle.rules.specs.Judging.{shareSize, addedUp, letsIn, allowedPair}
 use Rattle.rules.specs.Making.{madeWhole, madeShare, shareMessage, shareLength, makeRefusal, makeBytes}
-use Rattle.rules.specs.Messages.{idIn, shareElements, headerFault, elementsFault, roundLength}
+use Rattle.rules.specs.Messages.{idIn, elementsIn, headerFault, elementsFault, roundLength}
 use Rattle.rules.specs.Server.{mostWaiting, messageOne, messageTwo}
 use Rattle.rules.specs.Joining.{joinTotals}
 use Rattle.rules.specs.Ledger.{Call, share, wrote, judged, Pending, isOpen, empty, idsOf}
 use Rattle.rules.specs.Ledger.{noteOf, refusalOf, runLedger, ledgerAnswers}
-use Rattle.rules.specs.WholeRun.{Pool, columns, openedAt, ledgerAt, acceptedAt, notesAt, returnOf, KeepsForm, Conditions}
-use Rattle.rules.specs.WholeRun.{DeliveredWhole, AllClosed, closings}
-use Rattle.rules.specs.WholeRun.{bothRounds, firstWait, firsts, secondWait, seconds}
+use Rattle.rules.specs.Pools.{Pool, columns, openedAt, ledgerAt, acceptedAt, notesAt, returnOf, KeepsForm, Conditions}
+use Rattle.rules.specs.Pools.{DeliveredWhole, AllClosed}
+use Rattle.rules.specs.WholeRun.{closings, bothRounds, firstWait, firsts, secondWait, seconds}
 
 -- ---- a return that making wrote, where making is not refused
 module _ (σ : Setting) (sheet : List ℕ) (servers id : ℕ) (values random : List ℕ) where
@@ -38,7 +38,7 @@ module _ (σ : Setting) (sheet : List ℕ) (servers id : ℕ) (values random : L
 
   -- element e of what server i reads
   abbrev pub elementRead : ℕ → ℕ → ℕ
-  elementRead i e = getD (shareElements σ (madePart i)) e 0
+  elementRead i e = getD (elementsIn σ (madePart i)) e 0
 
   pub record MadeReturn : Type 0 where
     -- "Making writes the S share messages one after another in server order, all with the id it is given."
@@ -49,11 +49,11 @@ module _ (σ : Setting) (sheet : List ℕ) (servers id : ℕ) (values random : L
     -- server. 8: share element not below p."
     pub header-sound : (i : ℕ) → i < servers → headerFault σ (columnsOf sheet) i (madePart i) ≡ 0
     pub elements-sound : (i : ℕ) → i < servers → elementsFault σ (madePart i) ≡ 0
-    pub share-is : (i : ℕ) → i < servers → shareElements σ (madePart i) ≡ shareMade i
+    pub share-is : (i : ℕ) → i < servers → elementsIn σ (madePart i) ≡ shareMade i
     -- "Random elements come in this order: u_0, v_0, a, b, then the whole shares of servers 1 to S - 1." Each of these is
     -- its own part of the random elements as they were handed to making
     pub drawn : (i : ℕ) → suc i < servers
-        → shareElements σ (madePart (suc i))
+        → elementsIn σ (madePart (suc i))
         ≡ part (4 + i * shareSize (columnsOf sheet)) (shareSize (columnsOf sheet)) (elementsOf (σ .width) random)
     -- "Server 0's share is what remains." "Shares of S servers (2 to 8) add up modulo p": to the entries, which are the
     -- encoding of the values, and their proof
@@ -91,7 +91,7 @@ module _ (σ : Setting) (𝓟 : Pool σ) where
   MadeOf id vs = (w : DeliveredWhole σ 𝓟 id) × (w .values ≡ vs)
 
   -- servers that can take a return under the id with the pair r and s: as in `Ready`, with no word of its shares
-  pub record CanTake (id r s room : ℕ) : Type 0 where
+  pub record CanTake (id r s room roundRoom : ℕ) : Type 0 where
     pub waits : ℕ → List Pending
     pub open-all : (i : ℕ) → i < 𝓟 .servers → ledgerAt σ 𝓟 i .progress ≡ isOpen (waits i)
     pub below-eight : (i : ℕ) → i < 𝓟 .servers → length (waits i) < mostWaiting
@@ -99,17 +99,18 @@ module _ (σ : Setting) (𝓟 : Pool σ) where
     pub unused : (i : ℕ) → i < 𝓟 .servers → In id (idsOf (notesAt σ 𝓟 i)) → ⊥
     pub id-fits : id < 4294967296
     pub pair : allowedPair σ (columns σ 𝓟) r s ≡ true
-    pub enough : roundLength σ ≤ room
+    pub enough : roundLength σ 34 ≤ room
+    pub enough-one : roundLength σ 35 ≤ roundRoom
 
   -- such servers accept a return that making wrote: each is handed its part of the bytes, and both rounds' messages as they
   -- were written, in any order; it writes two messages and accepts
-  abbrev pub MadeAccepted : ℕ → List ℕ → List ℕ → ℕ → ℕ → ℕ → Type 0
-  MadeAccepted id values random r s room =
+  abbrev pub MadeAccepted : ℕ → List ℕ → List ℕ → ℕ → ℕ → ℕ → ℕ → Type 0
+  MadeAccepted id values random r s room roundRoom =
       let shares = shareMade σ (𝓟 .sheet) (𝓟 .servers) id values random in
       (i : ℕ) → i < 𝓟 .servers → (ones twos : List (List ℕ))
       → Rearranged ones (firsts σ 𝓟 id shares r s) → Rearranged twos (seconds σ 𝓟 id shares r s)
       → ledgerAnswers σ (openedAt σ 𝓟 i) (ledgerAt σ 𝓟 i)
-      (share (madePart σ (𝓟 .sheet) (𝓟 .servers) id values random i) r s room ∷ bothRounds id ones twos room)
+      (share (madePart σ (𝓟 .sheet) (𝓟 .servers) id values random i) r s room ∷ bothRounds id ones twos roundRoom)
       ≡ wrote (messageOne σ (openedAt σ 𝓟 i) (firstWait σ 𝓟 id shares r s i))
       ∷ wrote (messageTwo σ (openedAt σ 𝓟 i) (secondWait σ 𝓟 id shares r s i))
       ∷ judged true
@@ -149,7 +150,7 @@ pub record MadeRun (σ : Setting) (𝓟 : Pool σ) : Type 0 where
   -- 3. Servers that can take a return refuse nothing of one that making wrote, and accept it
   pub accepted : (id : ℕ) (values random : List ℕ) (room : ℕ)
       → makeRefusal σ (𝓟 .sheet) (𝓟 .servers) values random room ≡ 0
-      → (r s lent : ℕ) → CanTake σ 𝓟 id r s lent → MadeAccepted σ 𝓟 id values random r s lent
+      → (r s lent roundLent : ℕ) → CanTake σ 𝓟 id r s lent roundLent → MadeAccepted σ 𝓟 id values random r s lent roundLent
   -- 4. When all servers have closed, and each return that server i accepted is delivered whole: the joined totals are sums of
   -- encodings, and column by column numbers of returns or sums of values
   pub totals : Conditions σ 𝓟 → AllClosed σ 𝓟 → (i : ℕ) → i < 𝓟 .servers

@@ -1,6 +1,6 @@
 -- Document 01, "A return": making a return from values and random elements.
 -- Assumes nothing.
-use mathlib.Core.Bool.{Bool, _&&_}
+use mathlib.Core.Bool.{_&&_}
 use mathlib.Core.List.{List, [], _∷_, _++_}
 use Prim.Native.Nat.{ℕ, zero, suc, _+_, _-_, _*_}
 use lib.Dec.{eqb, leb}
@@ -15,7 +15,7 @@ use Rattle.records.specs.Outcome.{orElse}
 use Rattle.rules.specs.Settings.{Setting}
 use Rattle.rules.specs.Columns.{Column, entriesIn, check, sheetFault, columnsOf, serversFault}
 use Rattle.rules.specs.Circuit.{gatesIn, circuitOf}
-use Rattle.rules.specs.Run.{Trace, run, onList}
+use Rattle.rules.specs.Run.{run, onList}
 use Rattle.rules.specs.Values.{legalValues, encoding}
 use Rattle.rules.specs.Judging.{shareSize, zeroThen}
 
@@ -46,9 +46,13 @@ module _ (O : Ops) where
   shareOf servers w z zero e = minus O (w e) (sum O (servers - 1) (λ i. z i e))
   shareOf servers w z (suc i) e = z i e
 
+-- every message but totals: its kind byte, an id, a server number, then elements
+unfoldable pub message : Setting → ℕ → ℕ → ℕ → List ℕ → List ℕ
+message σ kind id server xs = kind ∷ bytesOf 4 id ++ (server ∷ bytesOfAll (σ .width) xs)
+
 -- "Share message: byte 33, id (4 bytes, any), server number (1), the elements."
-unfoldable pub shareMessage : Setting → ℕ → ℕ → List ℕ → List ℕ
-shareMessage σ id server xs = 33 ∷ bytesOf 4 id ++ (server ∷ bytesOfAll (σ .width) xs)
+abbrev pub shareMessage : Setting → ℕ → ℕ → List ℕ → List ℕ
+shareMessage σ id server xs = message σ 33 id server xs
 
 unfoldable pub shareLength : Setting → List Column → ℕ
 shareLength σ cs = 6 + σ .width * shareSize cs

@@ -8,21 +8,22 @@ use lib.Dec.{eqb}
 use lib.ListN.{length, set, take, drop}
 use Rattle.algebra.specs.Lists.{every}
 use Rattle.slots.specs.declared.Slot.{Slot}
-use Rattle.rules.specs.Messages.{roundMessage, roundFault, firstSum, secondSum}
+use Rattle.rules.specs.Making.{message}
+use Rattle.rules.specs.Messages.{roundLength, roundFault, firstSum, secondSum}
 use Rattle.rules.specs.Table.{Lent, oneRefused, oneTable, oneBytes, twoRefused, twoVerdict, twoTable}
 use Rattle.rules.specs.Examples.{Row, row, σ, same, honest}
 use Rattle.rules.specs.SoundExamples.{fresh}
 use Rattle.rules.specs.TableExamples.{waiting, messages, summedUp, twos}
 
--- the messages of three servers for round one of the return 77: server j wrote 10 + j and 20 + j
-abbrev from : ℕ → List ℕ
-from j = roundMessage σ 34 77 j (10 + j) (20 + j)
+-- the messages of three servers for round one of the return 77: server j wrote 10 + j and 20 + j, with the challenges 4 and 9
+abbrev pub from : ℕ → List ℕ
+from j = message σ 34 77 j ((10 + j) ∷ (20 + j) ∷ 4 ∷ 9 ∷ [])
 
--- the refusal at server 1, whose own message is the one that it wrote
-abbrev toOne : List (List ℕ) → ℕ
+-- whether 12 is given at server 1, whose own message is the one that it wrote
+abbrev pub toOne : List (List ℕ) → ℕ
 toOne ms = roundFault σ 3 34 77 1 (from 1) (flatten ms)
 
-abbrev sixOrders : List (List (List ℕ))
+abbrev pub sixOrders : List (List (List ℕ))
 sixOrders =
     (from 0 ∷ from 1 ∷ from 2 ∷ [])
     ∷ (from 0 ∷ from 2 ∷ from 1 ∷ [])
@@ -40,7 +41,7 @@ unfoldable pub threeServers : List Row
 threeServers =
     row "each of the six orders is taken" (every (λ ms. eqb (toOne ms) 0) sixOrders)
     ∷ row "with the same sums"
-    (every (λ ms. eqb (firstSum σ 3 (flatten ms)) 33 && eqb (secondSum σ 3 (flatten ms)) 63) sixOrders)
+    (every (λ ms. eqb (firstSum σ 34 3 (flatten ms)) 33 && eqb (secondSum σ 34 3 (flatten ms)) 63) sixOrders)
     ∷ row "server 0 twice, server 2 missing: 12, wherever they stand"
     (eqb (toOne (from 0 ∷ from 0 ∷ from 1 ∷ [])) 12
     && (eqb (toOne (from 0 ∷ from 1 ∷ from 0 ∷ [])) 12 && eqb (toOne (from 1 ∷ from 0 ∷ from 0 ∷ [])) 12))
@@ -66,12 +67,12 @@ sameSlots [] ys = eqb (length ys) 0
 sameSlots (x ∷ xs) [] = eqb 0 1
 sameSlots (x ∷ xs) (y ∷ ys) = sameSlot x y && sameSlots xs ys
 
-abbrev sameTable : Lent → Lent → Bool
+abbrev pub sameTable : Lent → Lent → Bool
 sameTable T U = same (T .bytes) (U .bytes) && (sameSlots (T .slots) (U .slots) && same (T .elements) (U .elements))
 
 -- the messages of two servers, the second before the first
-abbrev turned : List ℕ → List ℕ
-turned joined = drop 14 joined ++ take 14 joined
+abbrev turned : ℕ → List ℕ → List ℕ
+turned kind joined = drop (roundLength σ kind) joined ++ take (roundLength σ kind) joined
 
 abbrev awaitsTwo : ℕ → Lent
 awaitsTwo = summedUp fresh honest 77 4
@@ -82,17 +83,17 @@ lastMessages = twos fresh honest 77 4
 unfoldable pub reversed : List Row
 reversed =
     row "reversed in round one: taken at both servers"
-    (eqb (oneRefused σ (waiting 0) 77 (turned messages) 14) 0 && eqb (oneRefused σ (waiting 1) 77 (turned messages) 14) 0)
-    ∷ row "the message is that of server order" (same (oneBytes σ (waiting 0) 77 (turned messages)) (oneBytes σ (waiting 0) 77 messages))
-    ∷ row "and the table" (sameTable (oneTable σ (waiting 0) 77 (turned messages)) (oneTable σ (waiting 0) 77 messages))
+    (eqb (oneRefused σ (waiting 0) 77 (turned 34 messages) 14) 0 && eqb (oneRefused σ (waiting 1) 77 (turned 34 messages) 14) 0)
+    ∷ row "the message is that of server order" (same (oneBytes σ (waiting 0) 77 (turned 34 messages)) (oneBytes σ (waiting 0) 77 messages))
+    ∷ row "and the table" (sameTable (oneTable σ (waiting 0) 77 (turned 34 messages)) (oneTable σ (waiting 0) 77 messages))
     ∷ row "reversed in round two: taken at both servers"
-    (eqb (twoRefused σ (awaitsTwo 0) 77 (turned lastMessages)) 0 && eqb (twoRefused σ (awaitsTwo 1) 77 (turned lastMessages)) 0)
-    ∷ row "the verdict is that of server order" (twoVerdict σ (awaitsTwo 1) (turned lastMessages))
-    ∷ row "and the table" (sameTable (twoTable σ (awaitsTwo 1) 77 (turned lastMessages)) (twoTable σ (awaitsTwo 1) 77 lastMessages))
-    ∷ row "own message altered at the other's place: 12" (eqb (oneRefused σ (waiting 0) 77 (set (turned messages) 20 255) 14) 12)
+    (eqb (twoRefused σ (awaitsTwo 0) 77 (turned 35 lastMessages)) 0 && eqb (twoRefused σ (awaitsTwo 1) 77 (turned 35 lastMessages)) 0)
+    ∷ row "the verdict is that of server order" (twoVerdict σ (awaitsTwo 1) (turned 35 lastMessages))
+    ∷ row "and the table" (sameTable (twoTable σ (awaitsTwo 1) 77 (turned 35 lastMessages)) (twoTable σ (awaitsTwo 1) 77 lastMessages))
+    ∷ row "own message altered at the other's place: 12" (eqb (oneRefused σ (waiting 0) 77 (set (turned 34 messages) 28 255) 14) 12)
     ∷ row "another's sound message is not compared at the own number's place"
-    (eqb (oneRefused σ (waiting 0) 77 (set (turned messages) 6 7) 14) 0)
+    (eqb (oneRefused σ (waiting 0) 77 (set (turned 34 messages) 6 7) 14) 0)
     ∷ row "another sum makes another table"
-    (not (sameTable (oneTable σ (waiting 0) 77 (set messages 20 7)) (oneTable σ (waiting 0) 77 messages)))
-    ∷ row "12 before 14" (eqb (oneRefused σ (waiting 0) 77 (take 14 messages ++ take 14 messages) 13) 12)
+    (not (sameTable (oneTable σ (waiting 0) 77 (set messages 28 7)) (oneTable σ (waiting 0) 77 messages)))
+    ∷ row "12 before 14" (eqb (oneRefused σ (waiting 0) 77 (take 22 messages ++ take 22 messages) 13) 12)
     ∷ []

@@ -1,5 +1,6 @@
--- Document 01, "Judging" and "Who can cause which refusal", and document 02, eight returns waiting and small pools stay shut: the
--- rules of one server, as functions of what it knows. A table says what a server knows (Table), and so does the ledger (Ledger).
+-- Document 01, "Judging" and "Who can cause which refusal", and document 02, eight returns waiting, small pools stay shut and same
+-- challenge: the rules of one server, as functions of what it knows. A table says what a server knows (Table), and so does the
+-- ledger (Ledger).
 -- Assumes nothing.
 use mathlib.Core.Bool.{Bool, false, not, _||_}
 use mathlib.Core.List.{List, [], _∷_, _++_, map}
@@ -14,8 +15,8 @@ use Rattle.rules.specs.Settings.{Setting}
 use Rattle.rules.specs.Columns.{Column, check, publishedIn, publishedFrom, columnsOf, sheetFault}
 use Rattle.rules.specs.Columns.{serversFault, ownFault, returnsFault, leastFault, totalsFault}
 use Rattle.rules.specs.Judging.{firstOnly, aOf, bOf, cOf, hAt, dOf, eOf, sigmaFrom, tauOf, allowedPair}
-use Rattle.rules.specs.Messages.{idIn, headerFault, elementsFault, roundMessage, roundLength, roundFault}
-use Rattle.rules.specs.Messages.{firstSum, secondSum}
+use Rattle.rules.specs.Making.{message}
+use Rattle.rules.specs.Messages.{idIn, headerFault, elementsFault, roundLength, roundFault, challengeFault, firstSum, secondSum}
 use Rattle.rules.specs.Keyed.{find}
 
 -- "A server's table opens with S, its own number, a sheet and N." "A table now opens with a least count Q."
@@ -111,16 +112,16 @@ module _ (σ : Setting) (o : Opened) where
       let cs = o .columns in
       sigmaFrom O (firstOnly O (o .own)) (w .d) (w .e) (aOf O σ cs x) (bOf O σ cs x) (cOf O σ cs x) (w .rh)
 
-  -- the messages that the server writes in the two rounds
+  -- the messages that the server writes in the two rounds. "Round-one messages now carry r and s after e_i"
   unfoldable pub messageOne : Waiting → List ℕ
-  messageOne w = roundMessage σ 34 (w .id) (o .own) (w .d) (w .e)
+  messageOne w = message σ 34 (w .id) (o .own) (w .d ∷ w .e ∷ w .r ∷ w .s ∷ [])
 
   unfoldable pub messageTwo : Waiting → List ℕ
-  messageTwo w = roundMessage σ 35 (w .id) (o .own) (sigmaIn w) (w .tau)
+  messageTwo w = message σ 35 (w .id) (o .own) (sigmaIn w ∷ w .tau ∷ [])
 
   -- the return after round one: with the sums of the joined messages
   unfoldable pub summed : Waiting → List ℕ → Waiting
-  summed w joined = withSums w (firstSum σ (o .servers) joined) (secondSum σ (o .servers) joined)
+  summed w joined = withSums w (firstSum σ 34 (o .servers) joined) (secondSum σ 34 (o .servers) joined)
 
   -- the shares of the published entries
   unfoldable pub publishedShares : List ℕ → List ℕ
@@ -164,15 +165,17 @@ shareRefusal σ k m r s room =
     (orElse (headerFault σ (k .opened .columns) (k .opened .own) m)
     (orElse (elementsFault σ m)
     (orElse (check (not (isMember (idIn m) (k .used ++ map heldId ws))) 10)
-    (orElse (check (allowedPair σ (k .opened .columns) r s) 9) (check (leb (roundLength σ) room) 14)))))))
+    (orElse (check (allowedPair σ (k .opened .columns) r s) 9) (check (leb (roundLength σ 34) room) 14)))))))
 
--- "Round one: 11, 12, 14." "Both rounds and drop name an id .. an id not waiting .. is refused 11."
+-- "Round one: 11, 12, 14." "challenges that differ among round-one messages without a fault of 12 are refused 16, right after it."
+-- "Both rounds and drop name an id .. an id not waiting .. is refused 11." The message that is written is of round two
 unfoldable pub oneRefusal : Setting → ServerState → ℕ → List ℕ → ℕ → ℕ
 oneRefusal σ k id joined room =
     let o = k .opened in
     whileOpen (k .stage)
     (λ ws. whileOne (find heldId id ws)
-    (λ w. orElse (roundFault σ (o .servers) 34 (w .id) (o .own) (messageOne σ o w) joined) (check (leb (roundLength σ) room) 14)))
+    (λ w. orElse (roundFault σ (o .servers) 34 (w .id) (o .own) (messageOne σ o w) joined)
+    (orElse (challengeFault σ (o .servers) joined) (check (leb (roundLength σ 35) room) 14))))
 
 -- "Round two, which writes no message: 11, 12."
 unfoldable pub twoRefusal : Setting → ServerState → ℕ → List ℕ → ℕ

@@ -1,7 +1,7 @@
 -- Document 01, "Judging", "Whole runs" and "Who can cause which refusal": calls on a server's table by rows that compute: on the
 -- tables of two servers, the orders of refusals, and what is kept of a return. SoundExamples has the tables within the limits,
--- WaitingExamples the rows about several returns that wait, OrderExamples those about joined messages in any order, LeastExamples
--- those about the least count.
+-- WaitingExamples the rows about several returns that wait, OrderExamples those about joined messages in any order,
+-- ChallengeExamples those about r and s in them, LeastExamples those about the least count.
 -- Assumes nothing.
 use mathlib.Core.Bool.{Bool, _&&_, _||_, not}
 use mathlib.Core.List.{List, [], _∷_, _++_}
@@ -74,22 +74,23 @@ onTables =
     (eqb (oneRefused σ (waiting 0) 77 messages 14) 0
     && eqb (twoRefused σ (summedUp fresh honest 77 4 0) 77 (twos fresh honest 77 4)) 0)
     ∷ row "a false return is rejected" (not (twoVerdict σ (summedUp first cheat 78 3 1) (twos first cheat 78 3)))
-    ∷ row "the first return decided: a second is taken" (eqb (shareRefused σ (first 0) (shareIn cheat 78 0) 3 9 14) 0)
-    ∷ row "N decided: every share is 13, however broken" (eqb (shareRefused σ (second 0) broken 3 9 14) 13)
-    ∷ row "below N a broken share is 7" (eqb (shareRefused σ (first 0) broken 3 9 14) 7)
+    ∷ row "the first return decided: a second is taken" (eqb (shareRefused σ (first 0) (shareIn cheat 78 0) 3 9 22) 0)
+    ∷ row "N decided: every share is 13, however broken" (eqb (shareRefused σ (second 0) broken 3 9 22) 13)
+    ∷ row "below N a broken share is 7" (eqb (shareRefused σ (first 0) broken 3 9 22) 7)
     ∷ row "closing is not refused" (eqb (closeRefused σ (second 0) 10) 0)
     ∷ row "joining is not refused" (eqb (joinRefusal σ 2 (17 ∷ []) 2 joinedTotals 4) 0)
     ∷ row "one return was accepted" (eqb (joinCount joinedTotals) 1)
     ∷ row "the total is 1" (same (joinTotals σ 2 (17 ∷ []) joinedTotals) (1 ∷ []))
-    ∷ row "an accepted id used again: 10" (eqb (shareRefused σ (first 0) shareOf77 4 9 14) 10)
-    ∷ row "a dropped id used again: 10" (eqb (shareRefused σ (afterDrop 0) shareOf77 4 9 14) 10)
+    ∷ row "an accepted id used again: 10" (eqb (shareRefused σ (first 0) shareOf77 4 9 22) 10)
+    ∷ row "a dropped id used again: 10" (eqb (shareRefused σ (afterDrop 0) shareOf77 4 9 22) 10)
     ∷ row "a dropped return is not added" (same (totalsIn σ (afterDrop 0 .bytes)) (0 ∷ []) && eqb (acceptedIn σ (afterDrop 0 .bytes)) 0)
     ∷ row "own round message altered: 12" (eqb (oneRefused σ (waiting 0) 77 (set messages 6 255) 14) 12)
-    ∷ row "another's sound message is not compared" (eqb (oneRefused σ (waiting 0) 77 (set messages 20 7) 14) 0)
+    ∷ row "another's sound message is not compared" (eqb (oneRefused σ (waiting 0) 77 (set messages 28 7) 14) 0)
     ∷ row "messages of another id: 12" (eqb (oneRefused σ (waiting 0) 77 (ones fresh honest 78 4) 14) 12)
     ∷ row "messages of the other round: 12" (eqb (oneRefused σ (waiting 0) 77 (twos fresh honest 77 4) 14) 12)
-    ∷ row "another's element that is p: 12" (eqb (oneRefused σ (waiting 0) 77 (take 20 messages ++ bytesOfAll 4 (P ∷ 0 ∷ [])) 14) 12)
-    ∷ row "one message missing: 12" (eqb (oneRefused σ (waiting 0) 77 (take 14 messages) 14) 12)
+    ∷ row "another's element that is p: 12"
+    (eqb (oneRefused σ (waiting 0) 77 (take 28 messages ++ bytesOfAll 4 (P ∷ 0 ∷ 4 ∷ 9 ∷ [])) 14) 12)
+    ∷ row "one message missing: 12" (eqb (oneRefused σ (waiting 0) 77 (take 22 messages) 14) 12)
     ∷ row "room for 13 bytes: 14" (eqb (oneRefused σ (waiting 0) 77 messages 13) 14)
     ∷ row "a close while one waits: 11" (eqb (closeRefused σ (waiting 0) 100) 11)
     ∷ row "a close while the eighth record alone waits: 11" (eqb (closeRefused σ (slotAt 7 (waitsAt 1)) 100) 11)
@@ -99,10 +100,10 @@ onTables =
     ∷ row "a drop while awaiting round two: 0" (eqb (dropRefused σ (summedUp fresh honest 77 4 0) 77) 0)
     ∷ row "closed: a drop and a round are 11, though a return waits"
     (eqb (dropRefused σ (closeTable σ (waiting 0)) 77) 11 && eqb (oneRefused σ (closeTable σ (waiting 0)) 77 messages 14) 11)
-    ∷ row "closed: a share is 11" (eqb (shareRefused σ (closeTable σ (first 0)) broken 3 9 14) 11)
+    ∷ row "closed: a share is 11" (eqb (shareRefused σ (closeTable σ (first 0)) broken 3 9 22) 11)
     ∷ row "closed: a close is 11" (eqb (closeRefused σ (closeTable σ (first 0)) 100) 11)
-    ∷ row "a share for another server: 7" (eqb (shareRefused σ (fresh 1) shareOf77 4 9 14) 7)
-    ∷ row "an element that is p: 8" (eqb (shareRefused σ (fresh 0) (take 6 shareOf77 ++ bytesOfAll 4 (P ∷ replicate 8 0)) 4 9 14) 8)
+    ∷ row "a share for another server: 7" (eqb (shareRefused σ (fresh 1) shareOf77 4 9 22) 7)
+    ∷ row "an element that is p: 8" (eqb (shareRefused σ (fresh 0) (take 6 shareOf77 ++ bytesOfAll 4 (P ∷ replicate 8 0)) 4 9 22) 8)
     ∷ row "a table cut by a byte: 11" (eqb (closeRefused σ (sized 26) 100) 11)
     ∷ row "totals counts unequal: 12" (eqb (joinRefusal σ 2 (17 ∷ []) 2 (set joinedTotals 2 0) 4) 12)
     ∷ row "totals counts over N: 12" (eqb (joinRefusal σ 2 (17 ∷ []) 2 (set (set joinedTotals 2 3) 12 3) 4) 12)
@@ -119,17 +120,17 @@ withP m = splice m 6 (bytesOf 4 P)
 abbrev share79 : List ℕ
 share79 = shareIn honest 79 0
 
--- "A share: 11, 13, 7, 8, 10, 9, 14." With r = M, and room for 13 bytes
+-- "A share: 11, 13, 7, 8, 10, 9, 14." With r = M, and room for 21 bytes
 unfoldable pub inOrder : List Row
 inOrder =
-    row "11: closed, with N decided" (eqb (shareRefused σ (closeTable σ (second 0)) (kind34 (withP shareOf77)) 1 9 13) 11)
-    ∷ row "13: N decided" (eqb (shareRefused σ (second 0) (kind34 (withP shareOf77)) 1 9 13) 13)
-    ∷ row "7: wrong kind" (eqb (shareRefused σ (first 0) (kind34 (withP shareOf77)) 1 9 13) 7)
-    ∷ row "8: an element p" (eqb (shareRefused σ (first 0) (withP shareOf77) 1 9 13) 8)
-    ∷ row "10: id decided" (eqb (shareRefused σ (first 0) shareOf77 1 9 13) 10)
-    ∷ row "9: r = M" (eqb (shareRefused σ (first 0) share79 1 9 13) 9)
-    ∷ row "14: room for 13 bytes" (eqb (shareRefused σ (first 0) share79 2 9 13) 14)
-    ∷ row "taken" (eqb (shareRefused σ (first 0) share79 2 9 14) 0)
+    row "11: closed, with N decided" (eqb (shareRefused σ (closeTable σ (second 0)) (kind34 (withP shareOf77)) 1 9 21) 11)
+    ∷ row "13: N decided" (eqb (shareRefused σ (second 0) (kind34 (withP shareOf77)) 1 9 21) 13)
+    ∷ row "7: wrong kind" (eqb (shareRefused σ (first 0) (kind34 (withP shareOf77)) 1 9 21) 7)
+    ∷ row "8: an element p" (eqb (shareRefused σ (first 0) (withP shareOf77) 1 9 21) 8)
+    ∷ row "10: id decided" (eqb (shareRefused σ (first 0) shareOf77 1 9 21) 10)
+    ∷ row "9: r = M" (eqb (shareRefused σ (first 0) share79 1 9 21) 9)
+    ∷ row "14: room for 21 bytes" (eqb (shareRefused σ (first 0) share79 2 9 21) 14)
+    ∷ row "taken" (eqb (shareRefused σ (first 0) share79 2 9 22) 0)
     ∷ []
 
 -- The other calls, each at fault in every way that it can be, and then in one way fewer each time
@@ -166,9 +167,10 @@ otherOrders =
     (eqb (openRefusal σ 2 1 sheet24 128 1 532 7 648) 14 && eqb (openRefusal σ 2 1 sheet24 128 1 532 9 648) 14)
     ∷ row "opening: 14, 647 numbers" (eqb (openRefusal σ 2 1 sheet24 128 1 532 8 647) 14)
     ∷ row "opened" (eqb (openRefusal σ 2 1 sheet24 128 1 532 8 648) 0)
-    -- "Round one: 11, 12, 14." "Round two, which writes no message: 11, 12." "Close: 11, 14", 15 between
+    -- "Round one: 11, 12, 14", 16 after 12. "Round two, which writes no message: 11, 12." "Close: 11, 14", 15 between
     ∷ row "round one: 11, nothing waits" (eqb (oneRefused σ (fresh 0) 77 broken 13) 11)
-    ∷ row "round one: 12" (eqb (oneRefused σ (waiting 0) 77 broken 13) 12)
+    ∷ row "round one: 12, wrong kind and another r" (eqb (oneRefused σ (waiting 0) 77 (set (set messages 36 5) 22 0) 13) 12)
+    ∷ row "round one: 16" (eqb (oneRefused σ (waiting 0) 77 (set messages 36 5) 13) 16)
     ∷ row "round one: 14, room for 13 bytes" (eqb (oneRefused σ (waiting 0) 77 messages 13) 14)
     ∷ row "round two: 11, awaits round one" (eqb (twoRefused σ (waiting 0) 77 broken) 11)
     ∷ row "round two: 12" (eqb (twoRefused σ (summedUp fresh honest 77 4 0) 77 broken) 12)

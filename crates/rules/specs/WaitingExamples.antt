@@ -2,7 +2,7 @@
 -- Assumes nothing.
 use mathlib.Core.Bool.{_&&_, not}
 use mathlib.Core.List.{List, [], _∷_, _++_}
-use Prim.Native.Nat.{ℕ, zero, suc, _+_}
+use Prim.Native.Nat.{ℕ, zero, suc}
 use lib.Dec.{eqb}
 use lib.ListN.{getD, take, drop}
 use Rattle.slots.specs.Slots.{freeSlot}
@@ -22,7 +22,7 @@ manyWait returns zero i = openFor returns i
 manyWait returns (suc n) i = shareTable σ (manyWait returns n i) (shareIn honest (suc n) i) 4 9
 
 abbrev shareAt : Lent → ℕ → ℕ
-shareAt T id = shareRefused σ T (shareIn honest id 0) 4 9 14
+shareAt T id = shareRefused σ T (shareIn honest id 0) 4 9 22
 
 -- the stage of a record
 abbrev stageAt : Lent → ℕ → ℕ
@@ -109,14 +109,14 @@ eight =
     row "the eighth share is taken" (eqb (shareAt (manyWait 9 7 0) 8) 0 && eqb (waitingCount (manyWait 9 8 0 .slots)) 8)
     ∷ row "eight wait: the table is sound" (tableSound σ (manyWait 9 8 0))
     ∷ row "the ninth is 11, below N and at N" (eqb (shareAt (manyWait 9 8 0) 9) 11 && eqb (shareAt (manyWait 8 8 0) 9) 11)
-    ∷ row "11 comes before 7" (eqb (shareRefused σ (manyWait 9 8 0) broken 1 9 13) 11)
+    ∷ row "11 comes before 7" (eqb (shareRefused σ (manyWait 9 8 0) broken 1 9 21) 11)
     ∷ row "seven waiting and one decided of N = 8: 13" (eqb (shareAt (dropTable σ (manyWait 8 8 0) 3) 9) 13)
     ∷ row "of N = 9: taken" (eqb (shareAt (dropTable σ (manyWait 9 8 0) 3) 9) 0)
-    ∷ row "two waiting of N = 2: 13" (eqb (shareRefused σ (manyWait 2 2 0) broken 1 9 13) 13)
+    ∷ row "two waiting of N = 2: 13" (eqb (shareRefused σ (manyWait 2 2 0) broken 1 9 21) 13)
     ∷ row "an id that waits used again: 10" (eqb (shareAt (manyWait 9 7 0) 7) 10 && eqb (shareAt (manyWait 9 7 0) 1) 10)
     ∷ row "10 before 9, 8 before 10"
-    (eqb (shareRefused σ (manyWait 9 2 0) (shareIn honest 1 0) 1 9 13) 10
-    && eqb (shareRefused σ (manyWait 9 2 0) (withP (shareIn honest 1 0)) 1 9 13) 8)
+    (eqb (shareRefused σ (manyWait 9 2 0) (shareIn honest 1 0) 1 9 21) 10
+    && eqb (shareRefused σ (manyWait 9 2 0) (withP (shareIn honest 1 0)) 1 9 21) 8)
     ∷ row "a close while the eighth waits: 11" (eqb (closeRefused σ (manyWait 9 8 0) 100) 11)
     ∷ row "a close while one of eight records waits: 11"
     (eqb (closeRefused σ (dropTable σ (dropTable σ (manyWait 9 3 0) 1) 2) 100) 11)

@@ -2,6 +2,7 @@
 pub mod Tests
 pub mod TwoServers
 pub mod Premises
+pub mod TypingSlip
 pub mod ThreeServers
 pub mod MixedReturns
 pub mod MixedPremises

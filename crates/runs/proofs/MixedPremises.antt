@@ -19,23 +19,15 @@ use Rattle.rules.specs.Server.{mostWaiting, messageOne}
 use Rattle.rules.specs.Ledger.{Call, accepted, rejected, Decided, waiting, empty, runLedger, ledgerAnswers}
 use Rattle.rules.specs.Runs.{tableAnswers}
 use Rattle.rules.specs.Mixing.{on, decidedId, callsOn, answersOn, answersTo}
-use Rattle.rules.specs.WholeRun.{Pool, openedAt, tableAt, ledgerAt, returnOf, OnePair, Ready}
-use Rattle.rules.specs.WholeRun.{firstWait, firsts, seconds, bothRounds}
+use Rattle.rules.specs.Pools.{Pool, openedAt, tableAt, ledgerAt, returnOf}
+use Rattle.rules.specs.WholeRun.{Ready, firstWait, firsts, seconds, bothRounds}
 use Rattle.rules.proofs.Computed.Computing.{everything}
 use Rattle.rules.proofs.Runs.WholeRuns.{document01-whole-run}
-use Rattle.runs.proofs.Tests.{bytesCall, opensAt, isPool, poolOf, onePair, one-pair, isEnded, isReady, is-ready}
+use Rattle.runs.proofs.Tests.{bytesCall, opensAt, isPool, poolOf, isEnded, isReady, is-ready}
 use Rattle.runs.proofs.TwoServers.{ones, twos, short, lent, sheet, honest, false-return}
 use Rattle.runs.proofs.MixedReturns.{sharesOf, takes, calls, pool, meets-them}
 
 -- ---- verdicts: the fifth return is let in by its pair, the sixth is not
-pair-5 : OnePair document01 pool 5 4 9
-unfolding everything onePair calls ones twos
-pair-5 = one-pair document01 pool 5 4 9 refl
-
-pair-6 : OnePair document01 pool 6 3 9
-unfolding everything onePair calls ones twos
-pair-6 = one-pair document01 pool 6 3 9 refl
-
 abbrev accepted-5 : Decided
 accepted-5 = record { note = record { id = 5; elements = honest 0; r = 4; s = 9 }; decision = accepted }
 
@@ -52,10 +44,10 @@ unfolding everything calls ones twos
 in-6 = inr (inr (inr (inr (inr (inl refl)))))
 
 lets-5 : letsIn document01 (columnsOf sheet) 2 (returnOf document01 pool 5) 4 9 ≡ true
-lets-5 = sym (document01-whole-run pool .verdict meets-them 0 (lit< tt) accepted-5 in-5 refl 4 9 pair-5)
+lets-5 = sym (document01-whole-run pool .verdict (meets-them .unaltered) 0 (lit< tt) accepted-5 in-5 refl .verdict)
 
 lets-6 : letsIn document01 (columnsOf sheet) 2 (returnOf document01 pool 6) 3 9 ≡ false
-lets-6 = sym (document01-whole-run pool .verdict meets-them 1 (lit< tt) rejected-6 in-6 refl 3 9 pair-6)
+lets-6 = sym (document01-whole-run pool .verdict (meets-them .unaltered) 1 (lit< tt) rejected-6 in-6 refl .verdict)
 
 -- ---- the calls on one return alone: three of server 0's calls on the fifth are not refused
 abbrev alone : ℕ → List Call
@@ -116,9 +108,9 @@ is-early = refl
 abbrev earlyPool : Pool document01
 earlyPool = poolOf document01 2 sheet 9 7 (λ i. lent 55 88) early is-early
 
-ready-9 : Ready document01 earlyPool 9 (sharesOf 9) 4 9 14
+ready-9 : Ready document01 earlyPool 9 (sharesOf 9) 4 9 22 14
 unfolding everything isReady isEnded calls ones twos
-ready-9 = is-ready document01 earlyPool 9 (sharesOf 9) 4 9 14 refl
+ready-9 = is-ready document01 earlyPool 9 (sharesOf 9) 4 9 22 14 refl
 
 let-in-9 : letsIn document01 (columnsOf sheet) 2 (λ j e. getD (sharesOf 9 j) e 0) 4 9 ≡ true
 unfolding everything
@@ -153,7 +145,7 @@ handled-9 : (i : ℕ) → i < 2 → (more : List Call) → those (on 9) more ≡
     ≡ 100 ∷ 100 ∷ 200 ∷ []
 unfolding short
 handled-9 i l more among =
-    ap (map short) (document01-whole-run earlyPool .handled-mixed 9 (sharesOf 9) 4 9 14 ready-9 i l ones-9 twos-9 turned-9
+    ap (map short) (document01-whole-run earlyPool .handled-mixed 9 (sharesOf 9) 4 9 22 14 ready-9 i l ones-9 twos-9 turned-9
     (rearranged-refl twos-9) more among)
     ∙ ap (λ (b : Bool). 100 ∷ 100 ∷ cond b 200 300 ∷ []) let-in-9
 

@@ -13,7 +13,8 @@ use Rattle.rules.specs.Making.{madeShare}
 use Rattle.rules.specs.WaitingList.{freeList}
 use Rattle.rules.specs.Ledger.{Call, roundOne, roundTwo, drop, close}
 use Rattle.rules.specs.Runs.{runTable, tableAnswers}
-use Rattle.rules.specs.WholeRun.{Pool, tableAt, answersAt, acceptedAt, droppedAt, Conditions, AllClosed, closings, Closed}
+use Rattle.rules.specs.Pools.{Pool, tableAt, answersAt, acceptedAt, droppedAt, Conditions, AllClosed}
+use Rattle.rules.specs.WholeRun.{closings, Closed}
 use Rattle.rules.proofs.Computed.Computing.{everything}
 use Rattle.rules.proofs.Computed.Facts.{document01-facts}
 use Rattle.rules.proofs.Runs.WholeTotals.{closed-together}

@@ -20,7 +20,8 @@ use Rattle.rules.specs.Circuit.{gatesIn, testsIn}
 use Rattle.rules.specs.Judging.{letsIn}
 use Rattle.rules.specs.Making.{shareMessage, madeShare, makeRefusal}
 use Rattle.rules.specs.Ledger.{Call, share, empty, accepted, rejected, Decided, isAccepted, refusalOf, runLedger, ledgerAnswers}
-use Rattle.rules.specs.WholeRun.{Pool, openedAt, ledgerAt, acceptedAt, returnOf, KeepsForm, Ready, firsts, seconds, bothRounds, WholeRun}
+use Rattle.rules.specs.Pools.{Pool, openedAt, ledgerAt, acceptedAt, returnOf, KeepsForm, OnePair, JudgedByPair}
+use Rattle.rules.specs.WholeRun.{Ready, firsts, seconds, bothRounds, WholeRun}
 use Rattle.rules.specs.Made.{madePart, MadeReturn, Took, MadeOf, CanTake, MadeAccepted, joinedTotals, howMany, EncodedTotals}
 use Rattle.rules.proofs.Computed.Computing.{everything}
 use Rattle.rules.proofs.Histories.Checks.{every-at}
@@ -28,7 +29,7 @@ use Rattle.rules.proofs.Runs.WholeRuns.{document01-whole-run}
 use Rattle.rules.proofs.Runs.MadeRuns.{document01-made-run}
 use Rattle.runs.proofs.Tests.{bytesCall, opensAt, isPool, poolOf, isEnded, isReady, is-ready}
 use Rattle.runs.proofs.TwoServers.{ones, twos, give, short, lent, sheet, random, honest, false-return, calls}
-use Rattle.runs.proofs.TwoServers.{pool, meets-them, ended, pair-77, pair-78}
+use Rattle.runs.proofs.TwoServers.{pool, meets-them, ended}
 
 -- ---- making: yes, and the random elements, as bytes
 abbrev valueBytes : List ℕ
@@ -64,7 +65,7 @@ part-is i l =
 
 -- taken as the first call
 abbrev taken : ℕ → Bool
-taken i = eqb (refusalOf document01 (openedAt document01 pool i) empty (share (shareMessage document01 77 i (honest i)) 4 9 14)) 0
+taken i = eqb (refusalOf document01 (openedAt document01 pool i) empty (share (shareMessage document01 77 i (honest i)) 4 9 22)) 0
 
 both-taken : every taken (countFrom 0 2) ≡ true
 unfolding everything
@@ -77,10 +78,10 @@ took i l = record {
   after = drop 1 (calls i);
   r = 4;
   s = 9;
-  room = 14;
-  among = ap (λ (m : List ℕ). share m 4 9 14 ∷ drop 1 (calls i)) (part-is i l);
+  room = 22;
+  among = ap (λ (m : List ℕ). share m 4 9 22 ∷ drop 1 (calls i)) (part-is i l);
   not-refused =
-      ap (λ (m : List ℕ). refusalOf document01 (openedAt document01 pool i) empty (share m 4 9 14)) (sym (part-is i l))
+      ap (λ (m : List ℕ). refusalOf document01 (openedAt document01 pool i) empty (share m 4 9 22)) (sym (part-is i l))
       ∙ eqb-true _ 0 (every-at taken 2 both-taken i l);
 }
 
@@ -105,14 +106,20 @@ in-78 : In rejected-78 (ledgerAt document01 pool 1 .decided)
 unfolding everything calls ones twos
 in-78 = inr (inl refl)
 
+judged-77 : JudgedByPair document01 pool accepted-77
+judged-77 = whole-run .verdict (meets-them .unaltered) 1 (lit< tt) accepted-77 in-77 refl
+
+pair-77 : OnePair document01 pool 77 4 9
+pair-77 = judged-77 .one-pair
+
 lets-77 : letsIn document01 (columnsOf sheet) 2 (returnOf document01 pool 77) 4 9 ≡ true
-lets-77 = sym (whole-run .verdict meets-them 1 (lit< tt) accepted-77 in-77 refl 4 9 pair-77)
+lets-77 = sym (judged-77 .verdict)
 
 lets-78 : letsIn document01 (columnsOf sheet) 2 (returnOf document01 pool 78) 3 9 ≡ false
-lets-78 = sym (whole-run .verdict meets-them 1 (lit< tt) rejected-78 in-78 refl 3 9 pair-78)
+lets-78 = sym (whole-run .verdict (meets-them .unaltered) 1 (lit< tt) rejected-78 in-78 refl .verdict)
 
 honest-77 : isAccepted (accepted-77 .decision) ≡ true
-honest-77 = whole-run .honest meets-them 1 (lit< tt) accepted-77 in-77 refl 4 9 pair-77 (whole-77 .0)
+honest-77 = whole-run .honest (meets-them .unaltered) 1 (lit< tt) accepted-77 in-77 refl (whole-77 .0)
 
 -- the false return does not keep its form, so at most p × 3 pairs let it in
 broken-78 : KeepsForm document01 pool 78 → ⊥
@@ -156,16 +163,16 @@ is-early = refl
 abbrev earlyPool : Pool document01
 earlyPool = poolOf document01 2 sheet 3 1 (λ i. lent 31 88) early is-early
 
-ready-honest : Ready document01 earlyPool 78 honest 4 9 14
+ready-honest : Ready document01 earlyPool 78 honest 4 9 22 14
 unfolding everything isReady isEnded calls ones twos
-ready-honest = is-ready document01 earlyPool 78 honest 4 9 14 refl
+ready-honest = is-ready document01 earlyPool 78 honest 4 9 22 14 refl
 
-ready-false : Ready document01 earlyPool 78 false-return 3 9 14
+ready-false : Ready document01 earlyPool 78 false-return 3 9 22 14
 unfolding everything isReady isEnded calls ones twos
-ready-false = is-ready document01 earlyPool 78 false-return 3 9 14 refl
+ready-false = is-ready document01 earlyPool 78 false-return 3 9 22 14 refl
 
 -- they accept a return that making wrote
-can-take : CanTake document01 earlyPool 78 4 9 14
+can-take : CanTake document01 earlyPool 78 4 9 22 14
 can-take = record {
   waits = ready-honest .waits;
   open-all = ready-honest .open-all;
@@ -175,11 +182,12 @@ can-take = record {
   id-fits = ready-honest .id-fits;
   pair = ready-honest .pair;
   enough = ready-honest .enough;
+  enough-one = ready-honest .enough-one;
 }
 
-accepted-78 : MadeAccepted document01 earlyPool 78 valueBytes randomBytes 4 9 14
+accepted-78 : MadeAccepted document01 earlyPool 78 valueBytes randomBytes 4 9 22 14
 accepted-78 =
-    document01-made-run earlyPool .accepted 78 valueBytes randomBytes 84 not-refused 4 9 14 can-take
+    document01-made-run earlyPool .accepted 78 valueBytes randomBytes 84 not-refused 4 9 22 14 can-take
 
 -- the answers of each server to the three calls, in short
 answered : (ℕ → List ℕ) → ℕ → ℕ → ℕ → List ℕ
@@ -189,12 +197,12 @@ answered shares r s i =
     ∷ bothRounds 78 (firsts document01 earlyPool 78 shares r s) (seconds document01 earlyPool 78 shares r s) 14))
 
 -- from what the pair says
-answers-are : (shares : ℕ → List ℕ) (r s : ℕ) → Ready document01 earlyPool 78 shares r s 14 → (b : Bool)
+answers-are : (shares : ℕ → List ℕ) (r s : ℕ) → Ready document01 earlyPool 78 shares r s 22 14 → (b : Bool)
     → letsIn document01 (columnsOf sheet) 2 (λ j e. getD (shares j) e 0) r s ≡ b
     → (i : ℕ) → i < 2 → answered shares r s i ≡ 100 ∷ 100 ∷ cond b 200 300 ∷ []
 unfolding answered short
 answers-are shares r s ready b e i l =
-    ap (map short) (document01-whole-run earlyPool .handled 78 shares r s 14 ready i l _ _
+    ap (map short) (document01-whole-run earlyPool .handled 78 shares r s 22 14 ready i l _ _
     (rearranged-refl (firsts document01 earlyPool 78 shares r s)) (rearranged-refl (seconds document01 earlyPool 78 shares r s)))
     ∙ ap (λ (v : Bool). 100 ∷ 100 ∷ cond v 200 300 ∷ []) e
 

@@ -1,12 +1,12 @@
 -- Tests that compute, for runs that are given: whether numbers make a pool, whether it meets the conditions of whole runs,
--- whether an id has one pair, whether all servers have closed, whether a return is delivered whole, whether servers are
--- ready for one. Each is proved to say what it tests. Assumes nothing.
+-- whether all servers have closed, whether a return is delivered whole, whether servers are ready for one. Each is proved to
+-- say what it tests. Assumes nothing.
 use mathlib.Core.Path.{_≡_, refl, ap}
 use mathlib.Core.Logic.{_⊎_, ⊎-elim, inl, inr}
 use mathlib.Core.Bool.{Bool, true, false, not, _&&_, _||_, false≢true}
 use mathlib.Core.List.{List, [], _∷_}
 use Prim.Native.Nat.{ℕ, _+_, _<_}
-use borrow.Author.Tests.{eqb-true, eqb-false, ltb-true, leb-true, not-true}
+use borrow.Author.Tests.{eqb-true, ltb-true, leb-true, not-true}
 use lib.Dec.{eqb, ltb, leb}
 use lib.ListN.{length}
 use Rattle.algebra.specs.Lists.{In, every, countFrom}
@@ -18,13 +18,14 @@ use Rattle.rules.specs.Settings.{Setting}
 use Rattle.rules.specs.Values.{legalValues}
 use Rattle.rules.specs.Judging.{shareSize, allowedPair}
 use Rattle.rules.specs.Making.{madeShare, randomCount}
-use Rattle.rules.specs.Messages.{placeIn, serverAt, roundLength}
+use Rattle.rules.specs.Messages.{serverIn, roundLength}
 use Rattle.rules.specs.Server.{isMember, mostWaiting}
 use Rattle.rules.specs.Table.{Lent}
-use Rattle.rules.specs.Ledger.{Call, share, roundOne, roundTwo, drop, close, Answer, refused, wrote, judged, done, Note}
+use Rattle.rules.specs.Ledger.{Call, share, roundOne, roundTwo, drop, close, Answer, refused, wrote, judged, done}
 use Rattle.rules.specs.Ledger.{Pending, Progress, isOpen, isClosed, waiting, empty, idsOf}
-use Rattle.rules.specs.WholeRun.{BytesIn, opensIn, Pool, columns, openedAt, ledgerAt, answersAt, acceptedAt, droppedAt, handedIn}
-use Rattle.rules.specs.WholeRun.{notesAt, noteUnder, OnePair, Conditions, AllClosed, Ready}
+use Rattle.rules.specs.Pools.{BytesIn, opensIn, Pool, columns, openedAt, ledgerAt, answersAt, acceptedAt, droppedAt, handedIn, notesAt}
+use Rattle.rules.specs.Pools.{noteUnder, Conditions, AllClosed}
+use Rattle.rules.specs.WholeRun.{Ready}
 use Rattle.rules.specs.Made.{MadeOf}
 use Rattle.rules.proofs.Histories.Checks.{every-at}
 use Rattle.rules.proofs.Histories.Keyed.{no-member-in}
@@ -127,47 +128,29 @@ module _ (σ : Setting) (𝓟 : Pool σ) where
   each-at t e i j l b =
       every-at (t i) (𝓟 .servers) (every-at (λ i. every (t i) (countFrom 0 (𝓟 .servers))) (𝓟 .servers) e i l) j b
 
-  abbrev unalteredAt : ℕ → ℕ → Bool
-  unalteredAt i j =
-      every (λ joined. hasWritten (placeIn σ joined j) (answersAt σ 𝓟 (serverAt σ joined j)))
-      (handedIn σ (openedAt σ 𝓟 i) empty (𝓟 .calls i))
+  abbrev unalteredAt : ℕ → Bool
+  unalteredAt i =
+      every (λ m. hasWritten m (answersAt σ 𝓟 (serverIn m))) (handedIn σ (openedAt σ 𝓟 i) empty (𝓟 .calls i))
+
+  abbrev unalteredAll : Bool
+  unalteredAll = every unalteredAt (countFrom 0 (𝓟 .servers))
 
   abbrev dropsAt : ℕ → ℕ → Bool
   dropsAt i j = every (λ id. not (isMember id (acceptedAt σ 𝓟 j))) (droppedAt σ 𝓟 i)
 
   unfoldable pub meets : Bool
-  meets = each unalteredAt && each dropsAt
+  meets = unalteredAll && each dropsAt
 
   pub meets-conditions : meets ≡ true → Conditions σ 𝓟
   unfolding meets
   meets-conditions e = record {
-    unaltered = λ i j l b joined h. written-in (placeIn σ joined j) (answersAt σ 𝓟 (serverAt σ joined j))
+    unaltered = λ i l m h. written-in m (answersAt σ 𝓟 (serverIn m))
         (every-in _ (handedIn σ (openedAt σ 𝓟 i) empty (𝓟 .calls i))
-        (each-at unalteredAt (and-left (each unalteredAt) (each dropsAt) e) i j l b) joined h);
+        (every-at unalteredAt (𝓟 .servers) (and-left unalteredAll (each dropsAt) e) i l) m h);
     same-drops = λ i j l b id h k. no-member-in id (acceptedAt σ 𝓟 j)
         (not-true _ (every-in _ (droppedAt σ 𝓟 i)
-        (each-at dropsAt (and-right (each unalteredAt) (each dropsAt) e) i j l b) id h)) k;
+        (each-at dropsAt (and-right unalteredAll (each dropsAt) e) i j l b) id h)) k;
   }
-
-  -- every share noted under the id has the pair r, s
-  abbrev pairTest : ℕ → ℕ → ℕ → Note → Bool
-  pairTest id r s n = not (eqb (n .id) id) || (eqb (n .r) r && eqb (n .s) s)
-
-  unfoldable pub onePair : ℕ → ℕ → ℕ → Bool
-  onePair id r s = every (λ i. every (pairTest id r s) (notesAt σ 𝓟 i)) (countFrom 0 (𝓟 .servers))
-
-  pub one-pair : (id r s : ℕ) → onePair id r s ≡ true → OnePair σ 𝓟 id r s
-  unfolding onePair
-  one-pair id r s e i l n h q =
-      ⊎-elim
-      (λ (a : not (eqb (n .id) id) ≡ true). absurd (eqb-false (n .id) id (not-true _ a) q))
-      (λ (b : (eqb (n .r) r && eqb (n .s) s) ≡ true). (
-        eqb-true (n .r) r (and-left (eqb (n .r) r) (eqb (n .s) s) b),
-        eqb-true (n .s) s (and-right (eqb (n .r) r) (eqb (n .s) s) b),
-      ))
-      (or-split (not (eqb (n .id) id)) (eqb (n .r) r && eqb (n .s) s)
-      (every-in (pairTest id r s) (notesAt σ 𝓟 i)
-      (every-at (λ i. every (pairTest id r s) (notesAt σ 𝓟 i)) (𝓟 .servers) e i l) n h))
 
   unfoldable pub isEnded : Progress → Bool
   isEnded (isOpen ws) = false
@@ -225,7 +208,7 @@ module _ (σ : Setting) (𝓟 : Pool σ) where
   is-open (isOpen ws) e = refl
   is-open isClosed e = absurd (false≢true e)
 
-  module _ (id : ℕ) (shares : ℕ → List ℕ) (r s room : ℕ) where
+  module _ (id : ℕ) (shares : ℕ → List ℕ) (r s room roundRoom : ℕ) where
     abbrev waitingAt : ℕ → List Pending
     waitingAt i = waiting (ledgerAt σ 𝓟 i .progress)
 
@@ -242,8 +225,11 @@ module _ (σ : Setting) (𝓟 : Pool σ) where
     abbrev soundAt : ℕ → Bool
     soundAt i = eqb (length (shares i)) (shareSize (columns σ 𝓟)) && allBelow (σ .modulus) (shares i)
 
+    abbrev rooms : Bool
+    rooms = leb (roundLength σ 34) room && leb (roundLength σ 35) roundRoom
+
     abbrev given : Bool
-    given = ltb id 4294967296 && (allowedPair σ (columns σ 𝓟) r s && leb (roundLength σ) room)
+    given = ltb id 4294967296 && (allowedPair σ (columns σ 𝓟) r s && rooms)
 
     abbrev readyAt : ℕ → Bool
     readyAt i = freeAt i && (newAt i && soundAt i)
@@ -251,12 +237,13 @@ module _ (σ : Setting) (𝓟 : Pool σ) where
     unfoldable pub isReady : Bool
     isReady = given && every readyAt (countFrom 0 (𝓟 .servers))
 
-    pub is-ready : isReady ≡ true → Ready σ 𝓟 id shares r s room
+    pub is-ready : isReady ≡ true → Ready σ 𝓟 id shares r s room roundRoom
     unfolding isReady
     is-ready e =
-        let rest : Bool = allowedPair σ (columns σ 𝓟) r s && leb (roundLength σ) room in
+        let rest : Bool = allowedPair σ (columns σ 𝓟) r s && rooms in
         let g : given ≡ true = and-left given (every readyAt (countFrom 0 (𝓟 .servers))) e in
         let g₂ : rest ≡ true = and-right (ltb id 4294967296) rest g in
+        let g₃ : rooms ≡ true = and-right (allowedPair σ (columns σ 𝓟) r s) rooms g₂ in
         let at : (i : ℕ) → i < 𝓟 .servers → readyAt i ≡ true =
         every-at readyAt (𝓟 .servers) (and-right given (every readyAt (countFrom 0 (𝓟 .servers))) e) in
         let free : (i : ℕ) → i < 𝓟 .servers → freeAt i ≡ true = λ i l. and-left (freeAt i) _ (at i l) in
@@ -275,6 +262,7 @@ module _ (σ : Setting) (𝓟 : Pool σ) where
           sized = λ i l. eqb-true _ _ (and-left _ (allBelow (σ .modulus) (shares i)) (sound i l));
           below = λ i l. all-of-below (σ .modulus) (shares i)
               (and-right (eqb (length (shares i)) (shareSize (columns σ 𝓟))) _ (sound i l));
-          pair = and-left (allowedPair σ (columns σ 𝓟) r s) (leb (roundLength σ) room) g₂;
-          enough = leb-true _ _ (and-right (allowedPair σ (columns σ 𝓟) r s) (leb (roundLength σ) room) g₂);
+          pair = and-left (allowedPair σ (columns σ 𝓟) r s) rooms g₂;
+          enough = leb-true _ _ (and-left (leb (roundLength σ 34) room) (leb (roundLength σ 35) roundRoom) g₃);
+          enough-one = leb-true _ _ (and-right (leb (roundLength σ 34) room) (leb (roundLength σ 35) roundRoom) g₃);
         }

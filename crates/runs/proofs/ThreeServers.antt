@@ -13,7 +13,8 @@ use Rattle.rules.specs.Settings.{document01}
 use Rattle.rules.specs.Columns.{yesNo, choice, number, columnsOf}
 use Rattle.rules.specs.Making.{madeShare}
 use Rattle.rules.specs.Ledger.{Call, roundOne, roundTwo, drop, close}
-use Rattle.rules.specs.WholeRun.{Pool, answersAt, acceptedAt, Conditions, AllClosed, closings, Closed}
+use Rattle.rules.specs.Pools.{Pool, answersAt, acceptedAt, Conditions, AllClosed}
+use Rattle.rules.specs.WholeRun.{closings, Closed}
 use Rattle.rules.specs.Made.{MadeOf, joinedTotals, howMany, EncodedTotals}
 use Rattle.rules.proofs.Computed.Computing.{everything}
 use Rattle.rules.proofs.Computed.Facts.{document01-facts}

@@ -15,10 +15,11 @@ use Rattle.rules.specs.WaitingList.{freeList}
 use Rattle.rules.specs.Table.{Lent}
 use Rattle.rules.specs.Joining.{joinRefusal, joinCount, joinTotals}
 use Rattle.rules.specs.Ledger.{Call, share, roundOne, roundTwo, drop, close, Answer, refused, wrote, judged, done}
-use Rattle.rules.specs.WholeRun.{Pool, answersAt, acceptedAt, droppedAt, Conditions, OnePair, AllClosed, closings, Closed}
+use Rattle.rules.specs.Pools.{Pool, answersAt, acceptedAt, droppedAt, Conditions, AllClosed}
+use Rattle.rules.specs.WholeRun.{closings, Closed}
 use Rattle.rules.proofs.Computed.Computing.{everything}
 use Rattle.rules.proofs.Computed.Facts.{document01-facts}
-use Rattle.runs.proofs.Tests.{bytesCall, opensAt, isPool, poolOf, hasWritten, meets, meets-conditions, onePair, one-pair}
+use Rattle.runs.proofs.Tests.{bytesCall, opensAt, isPool, poolOf, hasWritten, meets, meets-conditions}
 use Rattle.runs.proofs.Tests.{isEnded, allEnded, all-closed}
 use Rattle.rules.proofs.Runs.WholeTotals.{closed-together}
 
@@ -41,7 +42,7 @@ module _ (servers : ℕ) (sheet : List ℕ) (returns : ℕ) where
       flatten (map (λ i. messageTwo document01 (openedAs i) (summed document01 (openedAs i) (taken id shares r s i) joined)) order)
 
 abbrev pub give : ℕ → (ℕ → List ℕ) → ℕ → ℕ → ℕ → Call
-give id shares r s i = share (shareMessage document01 id i (shares i)) r s 14
+give id shares r s i = share (shareMessage document01 id i (shares i)) r s 22
 
 -- the answers in short: a refusal's number; 100 for a message; 200 for accepted, 300 for rejected; 400 for a drop
 unfoldable pub short : Answer → ℕ
@@ -92,14 +93,14 @@ calls i =
     ∷ roundOne 77 (ones 2 sheet 3 (ownFirst i) 78 honest 4 9) 14
     ∷ roundOne 77 (ones 2 sheet 3 (ownFirst i) 77 honest 5 9) 14
     ∷ roundOne 77 (ones 2 sheet 3 (i ∷ i ∷ []) 77 honest 4 9) 14
-    ∷ roundOne 77 (take 27 (ones 2 sheet 3 (ownFirst i) 77 honest 4 9)) 14
+    ∷ roundOne 77 (take 43 (ones 2 sheet 3 (ownFirst i) 77 honest 4 9)) 14
     ∷ roundOne 77 (ones 2 sheet 3 (ownFirst i) 77 honest 4 9) 13
     ∷ roundOne 77 (ones 2 sheet 3 (ownFirst i) 77 honest 4 9) 14
     ∷ roundTwo 77 (ones 2 sheet 3 (ownFirst i) 77 honest 4 9)
     ∷ roundTwo 77 (twos 2 sheet 3 (ownFirst i) 77 honest 4 9)
     -- refused: another server's share, an element p, an id decided, r = M
-    ∷ share (shareMessage document01 78 (1 - i) (false-return i)) 3 9 14
-    ∷ share (shareMessage document01 78 i (set (false-return i) 0 2147483647)) 3 9 14
+    ∷ share (shareMessage document01 78 (1 - i) (false-return i)) 3 9 22
+    ∷ share (shareMessage document01 78 i (set (false-return i) 0 2147483647)) 3 9 22
     ∷ give 77 honest 4 9 i
     ∷ give 78 false-return 1 9 i
     ∷ give 78 false-return 3 9 i
@@ -134,15 +135,6 @@ meets-them = meets-conditions document01 pool refl
 pub ended : AllClosed document01 pool
 unfolding everything allEnded isEnded calls ones twos
 ended = all-closed document01 pool refl
-
--- ids 77 and 78 have one pair each
-pub pair-77 : OnePair document01 pool 77 4 9
-unfolding everything onePair calls ones twos
-pair-77 = one-pair document01 pool 77 4 9 refl
-
-pub pair-78 : OnePair document01 pool 78 3 9
-unfolding everything onePair calls ones twos
-pair-78 = one-pair document01 pool 78 3 9 refl
 
 -- what is promised of it
 pub joined : Closed document01 pool

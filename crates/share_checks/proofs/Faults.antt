@@ -95,10 +95,10 @@ module _ (T : List ℕ) (k : Table) (list : List Slot) (m : List ℕ) (r s room 
         unfolding lastFault isTaken orElse
         last-pair n = rw (used-is, e, place-is, le-ltb i 8 w, ← eq, not-true p n)
 
-        pub last-short : not p ≡ false → room < 14 → 14 ≡ lastFault T k list m r s room
+        pub last-short : not p ≡ false → room < 22 → 14 ≡ lastFault T k list m r s room
         unfolding lastFault isTaken orElse
-        last-short n l = rw (used-is, e, place-is, le-ltb i 8 w, ← eq, not-false p n, lt-leb 14 room l)
+        last-short n l = rw (used-is, e, place-is, le-ltb i 8 w, ← eq, not-false p n, lt-leb 22 room l)
 
-        pub last-none : not p ≡ false → 14 ≤ room → 0 ≡ lastFault T k list m r s room
+        pub last-none : not p ≡ false → 22 ≤ room → 0 ≡ lastFault T k list m r s room
         unfolding lastFault isTaken orElse
-        last-none n l = rw (used-is, e, place-is, le-ltb i 8 w, ← eq, not-false p n, le-leb 14 room l)
+        last-none n l = rw (used-is, e, place-is, le-ltb i 8 w, ← eq, not-false p n, le-leb 22 room l)

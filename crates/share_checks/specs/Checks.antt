@@ -11,7 +11,7 @@ use Rattle.records.specs.Outcome.{orElse}
 use Rattle.slots.specs.declared.Slot.{Slot}
 use Rattle.rules.specs.Settings.{document01}
 use Rattle.rules.specs.Columns.{check}
-use Rattle.rules.specs.Messages.{idIn, elementsFault}
+use Rattle.rules.specs.Messages.{idIn, elementsFault, roundLength}
 use Rattle.rules.specs.Server.{isMember}
 use Rattle.rules.specs.WaitingList.{placeOf, waitingCount}
 use Rattle.share_message.specs.Shares.{headerFaultAt}
@@ -39,7 +39,7 @@ isTaken t k list id =
 unfoldable pub lastFault : List ℕ → Table → List Slot → List ℕ → ℕ → ℕ → ℕ → ℕ
 lastFault t k list m r s room =
     orElse (check (not (isTaken t k list (idIn m))) 10)
-    (orElse (check (pairSound (k .gates) r s) 9) (check (leb 14 room) 14))
+    (orElse (check (pairSound (k .gates) r s) 9) (check (leb (roundLength document01 34) room) 14))
 
 -- a table that is sound, as far as a refusal goes by it
 pub record Standing (t : List ℕ) (k : Table) (list : List Slot) : Type 0 where

@@ -13,6 +13,7 @@ ghost use Rattle.share_checks.specs.Checks.{startFault, messageFault, la
 use layout::OPEN;
 use layout::Table;
 use records::or_else;
+use round_message::LENGTH_ONE;
 use slots::Slot;
 use table::has_id;
 
@@ -67,7 +68,7 @@ fn last_refusal(t: &[u8], k: Table, list: [Slot; 8], m: &[u8], r: u64, s: u64, r
     if !limits::pair_sound(k.gates, r, s) {
         return 9;
     }
-    if room < 14 {
+    if room < LENGTH_ONE {
         return 14;
     }
     0

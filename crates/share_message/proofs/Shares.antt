@@ -9,7 +9,7 @@ use Rattle.words.specs.Bytes.{bytesOfAll}
 use Rattle.rules.specs.Settings.{document01}
 use Rattle.rules.specs.Columns.{Column}
 use Rattle.rules.specs.Judging.{shareSize}
-use Rattle.rules.specs.Making.{shareLength, shareMessage}
+use Rattle.rules.specs.Making.{shareLength, message}
 use Rattle.rules.specs.Messages.{headerFault}
 use Rattle.share_message.specs.Shares.{headerFaultAt, sharePart, headerBytes}
 use Rattle.steps.proofs.Parts.{check-holds}
@@ -18,10 +18,10 @@ pub header-fault : (cs : List Column) (own : ℕ) (m : List ℕ) → headerFault
 unfolding headerFault headerFaultAt shareLength
 header-fault cs own m = refl
 
-pub share-message : (id server : ℕ) (xs : List ℕ)
-    → shareMessage document01 id server xs ≡ headerBytes 33 id server ++ bytesOfAll 4 xs
-unfolding shareMessage headerBytes
-share-message id server xs = rw append-assoc
+pub message-is : (kind id server : ℕ) (xs : List ℕ)
+    → message document01 kind id server xs ≡ headerBytes kind id server ++ bytesOfAll 4 xs
+unfolding message headerBytes
+message-is kind id server xs = rw append-assoc
 
 module _ (size own : ℕ) (m : List ℕ) where
   -- a header that is not refused

@@ -2,14 +2,13 @@
 -- (`share-done`). One that no check refuses keeps to the limits that taking asks for, and a record is free for it, since fewer
 -- than eight wait (`takable`). Assumes nothing.
 use mathlib.Core.Path.{_≡_, sym, ap, _∙_}
-use mathlib.Core.Bool.{true, not, _&&_}
+use mathlib.Core.Bool.{true, not}
 use mathlib.Core.List.{List}
 use Prim.Native.Nat.{ℕ, _+_, _*_, _≤_, _<_}
 use native.Mathlib.Omega.{arith}
-use borrow.Author.Tests.{ne-eqb, ltb-true, leb-true}
-use lib.Dec.{ltb, leb}
+use borrow.Author.Tests.{ne-eqb, leb-true}
+use lib.Dec.{leb}
 use lib.ListN.{length, drop, length-drop}
-use Rattle.algebra.proofs.Members.{and-left, and-right}
 use Rattle.words.specs.Bytes.{allBelow}
 use Rattle.records.specs.Answers.{onlyIf, ifDone}
 use Rattle.records.proofs.Outcome.{or-none, or-first, or-zero}
@@ -17,7 +16,7 @@ use Rattle.slots.specs.Slots.{applied}
 use Rattle.slots.specs.declared.Change.{Change}
 use Rattle.rules.specs.Settings.{document01}
 use Rattle.rules.specs.Columns.{Column, check}
-use Rattle.rules.specs.Messages.{idIn, shareElements, elementsFault}
+use Rattle.rules.specs.Messages.{idIn, elementsIn, elementsFault, roundLength}
 use Rattle.rules.specs.Server.{shareRefusal}
 use Rattle.rules.specs.WaitingList.{stageOne, freePlace, waitingCount, slotOf, numbersOf, putNumbers}
 use Rattle.rules.specs.Table.{Lent, columnsAt, tableState, shareTaken, shareRefused, shareTable}
@@ -26,6 +25,7 @@ use Rattle.share_message.specs.Shares.{headerFaultAt, sharePart}
 use Rattle.share_message.proofs.Shares.{header-long, part-sound}
 use Rattle.steps.proofs.Parts.{check-holds}
 use Rattle.limits.specs.Sheets.{sizeOf, pairSound}
+use Rattle.limits.proofs.Sheets.{pair-below}
 use Rattle.layout.specs.declared.Table.{Table}
 use Rattle.waiting.specs.Changes.{lent, refusedBy, recordsAt}
 use Rattle.waiting.proofs.Changes.{refused-changes, done-changes}
@@ -47,15 +47,6 @@ standing T k h = record {
   eight = h .eight;
   decided-few = h .decided-few;
 }
-
--- ---- a pair that is allowed
-pair-below : (gates r s : ℕ) → pairSound gates r s ≡ true → (r < 2147483647) × (s < 2147483647)
-unfolding pairSound
-pair-below gates r s b =
-    let c = and-right (ltb gates r) (ltb r 2147483647 && ltb s 2147483647) b in (
-      ltb-true r 2147483647 (and-left (ltb r 2147483647) (ltb s 2147483647) c),
-      ltb-true s 2147483647 (and-right (ltb r 2147483647) (ltb s 2147483647) c),
-    )
 
 module _ (T : Lent) (m : List ℕ) (r s : ℕ) (out : List ℕ) (written : ℕ) where
   -- ---- a refusal
@@ -113,15 +104,15 @@ module _ (T : Lent) (m : List ℕ) (r s : ℕ) (out : List ℕ) (written : ℕ) 
           omega (arith, free-place (T .slots) l, h .eight)
 
       -- the pair and the room
-      last-holds : (pairSound (k .gates) r s ≡ true) × (14 ≤ length out)
+      last-holds : (pairSound (k .gates) r s ≡ true) × (roundLength document01 34 ≤ length out)
       unfolding lastFault
       last-holds =
           let b = or-zero (check (not (isTaken (T .bytes) k (T .slots) (idIn m))) 10) _ (checks .3) in
-          let d = or-zero (check (pairSound (k .gates) r s) 9) (check (leb 14 (length out)) 14) (b .1) in
-          (check-holds (pairSound (k .gates) r s) 8 (d .0), leb-true 14 (length out) (check-holds (leb 14 (length out)) 13 (d .1)))
+          let d = or-zero (check (pairSound (k .gates) r s) 9) (check (leb 22 (length out)) 14) (b .1) in
+          (check-holds (pairSound (k .gates) r s) 8 (d .0), leb-true 22 (length out) (check-holds (leb 22 (length out)) 13 (d .1)))
 
       -- x is the part that the check of the header hands back
-      pub takable : (x : List ℕ) → x ≡ sharePart size (k .own) m → Takable T k m x r s × (14 ≤ length out)
+      pub takable : (x : List ℕ) → x ≡ sharePart size (k .own) m → Takable T k m x r s × (roundLength document01 34 ≤ length out)
       unfolding elementsFault
       takable x ex =
           let f = pair-below (k .gates) r s (last-holds .0) in
@@ -133,7 +124,7 @@ module _ (T : Lent) (m : List ℕ) (r s : ℕ) (out : List ℕ) (written : ℕ) 
               header = omega arith;
               part = q;
               long = ap length q ∙ length-drop 6 m ∙ omega arith;
-              elements = rw q (check-holds (allBelow 2147483647 (shareElements document01 m)) 7 (checks .2));
+              elements = rw q (check-holds (allBelow 2147483647 (elementsIn document01 m)) 7 (checks .2));
               r-below = f .0;
               s-below = f .1;
             },
@@ -147,7 +138,8 @@ module _ (T : Lent) (m : List ℕ) (r s : ℕ) (out : List ℕ) (written : ℕ) 
       unfolding applied shareTable
       table-is es e = rw e
 
-      pub share-done : (c : Change) (es out' : List ℕ) → Takes T m r s out c es out' → Shares T m r s out written c es out' 14
+      pub share-done : (c : Change) (es out' : List ℕ) → Takes T m r s out c es out'
+          → Shares T m r s out written c es out' (roundLength document01 34)
       unfolding onlyIf ifDone
       share-done c es out' t =
           let z : shareRefused document01 T m r s (length out) ≡ 0 = refusal-is ∙ none in

@@ -12,7 +12,8 @@ use Rattle.slots.specs.declared.Slot.{Slot}
 use Rattle.slots.specs.declared.Change.{Change}
 use Rattle.rules.specs.Settings.{document01}
 use Rattle.rules.specs.Judging.{shareSize}
-use Rattle.rules.specs.Messages.{idIn, shareElements, roundMessage}
+use Rattle.rules.specs.Making.{message}
+use Rattle.rules.specs.Messages.{idIn, elementsIn}
 use Rattle.rules.specs.Server.{waitingOf, messageOne}
 use Rattle.rules.specs.WaitingList.{stageOne, freePlace, slotOf, numbersOf, putNumbers}
 use Rattle.rules.specs.Table.{Lent, columnsAt, shareTaken, shareBytes}
@@ -32,10 +33,14 @@ slotWith id r s j = record { id = id; stage = 1; r = r; s = s; d = j .d; e = j .
 abbrev numbersWith : List ℕ → Judged → List ℕ
 numbersWith xs j = xs ++ (j .rh ∷ j .tau ∷ [])
 
+-- the message of round one
+abbrev messageWith : ℕ → ℕ → ℕ → ℕ → Judged → List ℕ
+messageWith id own r s j = message document01 34 id own (j .d ∷ j .e ∷ r ∷ s ∷ [])
+
 -- what rules write, by the numbers of code
 module _ (T : Lent) (m : List ℕ) (r s : ℕ) where
   abbrev noted : Table → Judged
-  noted k = judgedOf (columnsAt document01 T) (k .own) (shareElements document01 m) r s
+  noted k = judgedOf (columnsAt document01 T) (k .own) (elementsIn document01 m) r s
 
   abbrev k₀ : Table
   k₀ = tableOf (T .bytes)
@@ -45,13 +50,13 @@ module _ (T : Lent) (m : List ℕ) (r s : ℕ) where
   record-at = refl
 
   numbers-at : splice (T .elements) (placeSizeOf (k₀ .entries) (k₀ .gates) * freePlace (T .slots))
-      (numbersWith (shareElements document01 m) (noted k₀))
+      (numbersWith (elementsIn document01 m) (noted k₀))
       ≡ putNumbers (columnsAt document01 T) (T .elements) (freePlace (T .slots))
       (numbersOf (shareTaken document01 T m r s))
   unfolding waitingOf tableOf shareSize
   numbers-at = refl
 
-  message-at : roundMessage document01 34 (idIn m) (k₀ .own) (noted k₀ .d) (noted k₀ .e) ≡ shareBytes document01 T m r s
+  message-at : messageWith (idIn m) (k₀ .own) r s (noted k₀) ≡ shareBytes document01 T m r s
   unfolding shareBytes messageOne waitingOf tableOf
   message-at = refl
 
@@ -76,11 +81,11 @@ module _ (T : Lent) (k : Table) (m x : List ℕ) (r s : ℕ) (h : Takable T k m 
       ∙ grow (T .elements) (z * i) (elementsOf 4 x) (j .rh ∷ j .tau ∷ []) n l (omega (arith, within T k m x r s h q))
       ∙ rw (q .place-is, q .record-is, h .part, judged-is, h .table .says) (numbers-at T m r s)
 
-  message-written : roundMessage document01 34 id (k .own) (j .d) (j .e) ≡ shareBytes document01 T m r s
+  message-written : messageWith id (k .own) r s j ≡ shareBytes document01 T m r s
   message-written = rw (ei, judged-is, h .table .says) (message-at T m r s)
 
   pub taken : (out es' out' : List ℕ) (c : Change) → es' ≡ splice es (z * i + n) (j .rh ∷ j .tau ∷ [])
-      → out' ≡ splice out 0 (roundMessage document01 34 id (k .own) (j .d) (j .e)) → c ≡ recordsAt i (slotWith id r s j)
+      → out' ≡ splice out 0 (messageWith id (k .own) r s j) → c ≡ recordsAt i (slotWith id r s j)
       → Takes T m r s out c es' out'
   taken out es' out' c a b d = record {
     record-is = d ∙ record-written;

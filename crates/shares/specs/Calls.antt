@@ -9,6 +9,7 @@ use Rattle.words.specs.Bytes.{splice}
 use Rattle.records.specs.Answers.{onlyIf, ifDone}
 use Rattle.slots.specs.declared.Change.{Change}
 use Rattle.rules.specs.Settings.{document01}
+use Rattle.rules.specs.Messages.{roundLength}
 use Rattle.rules.specs.Table.{Lent, shareRefused, shareTable, shareBytes}
 use Rattle.waiting.specs.Changes.{Changes}
 
@@ -18,4 +19,4 @@ pub record Shares (T : Lent) (m : List ℕ) (r s : ℕ) (out : List ℕ) (writte
     : Type 0 where
   pub changes : Changes (shareRefused document01 T m r s (length out)) (shareTable document01 T m r s) T c (T .bytes) es'
   pub out-is : out' ≡ onlyIf (shareRefused document01 T m r s (length out)) (splice out 0 (shareBytes document01 T m r s)) out
-  pub written-is : written' ≡ ifDone (shareRefused document01 T m r s (length out)) 14 written
+  pub written-is : written' ≡ ifDone (shareRefused document01 T m r s (length out)) (roundLength document01 34) written

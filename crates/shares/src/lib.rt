@@ -4,6 +4,7 @@ ghost use mathlib.Core.Path.{_≡_};
 ghost use Prim.Native.Nat.{_≤_};
 ghost use lib.ListN.{length};
 ghost use Rattle.rules.specs.Settings.{document01};
+ghost use Rattle.rules.specs.Messages.{roundLength};
 ghost use Rattle.rules.specs.Table.{columnsIn};
 ghost use Rattle.snip.specs.Judged.{judgedOf};
 ghost use Rattle.waiting.specs.Changes.{lent};
@@ -11,6 +12,7 @@ ghost use Rattle.shares.specs.Calls.{Shares};
 ghost use Rattle.shares.specs.Taking.{Judgeable, Takable, Takes};
 use layout::Table;
 use layout::places::sheet_part;
+use round_message::LENGTH_ONE;
 use share_checks::share_refusal;
 use slots::Change;
 use slots::Slot;
@@ -51,7 +53,7 @@ fn take(
     s: u64,
     out: &mut [u8],
 ) -> Change
-    requires { ⌜ Takable (lent (now table) list (now numbers)) k (now m) (now x) r s × (14 ≤ length (now out)) ⌝ }
+    requires { ⌜ Takable (lent (now table) list (now numbers)) k (now m) (now x) r s × (roundLength document01 34 ≤ length (now out)) ⌝ }
     ensures { λ c. ⌜ Takes (lent (now (table .entry)) list (now (numbers .entry))) (now (m .entry)) r s (now (out .entry))
         c (now (numbers .exit)) (now (out .exit)) ⌝ }
 {
@@ -63,7 +65,7 @@ fn take(
     let j = judged(table, k, &numbers[start..end], r as u32, s as u32);
     write_last(numbers, end, j.rh, j.tau);
     let id = share_message::id_of(m);
-    round_message::write_round(out, 34, id, k.own as u8, j.d, j.e);
+    round_message::write_one(out, id, k.own as u8, j.d, j.e, r as u32, s as u32);
     let slot = Slot {
         id,
         stage: AWAITS_ONE,
@@ -97,7 +99,7 @@ pub fn share(
             if refusal != 0 {
                 return refused(refusal);
             }
-            *written = 14;
+            *written = LENGTH_ONE;
             take(table, list, numbers, k, m, x, r, s, out)
         }
     }

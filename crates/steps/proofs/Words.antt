@@ -29,11 +29,15 @@ module _ (s : List ℕ) (step at : ℕ) where
   unfolding sumOf
   sum-element i = sum-below i (wordOf s step at)
 
+-- a place before place n ends where place n starts, or earlier
+pub place-behind : (size i n : ℕ) → i < n → size * i + size ≤ size * n
+place-behind size i n h = let k : size * suc i ≤ size * n = mul-le-mul-left size h in omega arith
+
 -- joined messages of `size` bytes
 module _ (size servers : ℕ) (joined : List ℕ) (long : length joined ≡ size * servers) where
   -- message i lies within them
   pub message-within : (i : ℕ) → i < servers → size * i + size ≤ length joined
-  message-within i h = let k : size * suc i ≤ size * servers = mul-le-mul-left size h in omega arith
+  message-within i h = omega (arith, place-behind size i servers h)
 
   -- the words g that stand at a place of each message
   module _ (at : ℕ) (fits : at + 4 ≤ size) (g : ℕ → ℕ)

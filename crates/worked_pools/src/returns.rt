@@ -1,20 +1,24 @@
 // Returns of sheet 17 at two servers, through the calls that the C functions of a server hand everything to. Server 1's share is
 // all zeros, so what server 0 writes are the sums: d, e and sigma of the whole return.
 ghost use Prim.Native.Nat.{_+_, _≤_};
+ghost use lib.ListN.{length};
 use printing::fill;
 use printing::item;
 use printing::refused;
 use printing::write;
+use round_message::LENGTH_ONE;
+use round_message::LENGTH_TWO;
 use slots::Change;
 use slots::Slot;
 
-// A server: the three parts of its table, and the answer and the message of its last call.
+// A server: the three parts of its table, the answer of its last call, and its messages of the two rounds.
 struct Server {
     table: [u8; 59],
     list: [Slot; 8],
     numbers: [u32; 88],
     number: u32,
-    message: [u8; 14],
+    one: [u8; LENGTH_ONE],
+    two: [u8; LENGTH_TWO],
 }
 
 // Eight free records.
@@ -64,7 +68,8 @@ fn open(own: u32) -> Server {
         list: none(),
         numbers: numbers,
         number: number,
-        message: [0u8; 14],
+        one: [0u8; LENGTH_ONE],
+        two: [0u8; LENGTH_TWO],
     }
 }
 
@@ -73,54 +78,41 @@ fn share(server: Server, m: [u8; 42], r: u64) -> Server {
     let table = server.table;
     let list = server.list;
     let mut numbers = server.numbers;
-    let mut message = [0u8; 14];
+    let mut one = [0u8; LENGTH_ONE];
+    let two = server.two;
     let mut written: usize = 0;
-    let change = shares::share(
-        &table,
-        list,
-        &mut numbers,
-        &m,
-        r,
-        0,
-        &mut message,
-        &mut written,
-    );
+    let change = shares::share(&table, list, &mut numbers, &m, r, 0, &mut one, &mut written);
     Server {
         table: table,
         list: after(list, change),
         numbers: numbers,
         number: change.refusal,
-        message: message,
+        one: one,
+        two: two,
     }
 }
 
 // Round one, with the messages of both servers.
-fn round_one(server: Server, joined: [u8; 28]) -> Server {
+fn round_one(server: Server, joined: [u8; 2 * LENGTH_ONE]) -> Server {
     let table = server.table;
     let list = server.list;
     let numbers = server.numbers;
-    let mut message = [0u8; 14];
+    let one = server.one;
+    let mut two = [0u8; LENGTH_TWO];
     let mut written: usize = 0;
-    let change = round_one::round_one(
-        &table,
-        list,
-        &numbers,
-        9,
-        &joined,
-        &mut message,
-        &mut written,
-    );
+    let change = round_one::round_one(&table, list, &numbers, 9, &joined, &mut two, &mut written);
     Server {
         table: table,
         list: after(list, change),
         numbers: numbers,
         number: change.refusal,
-        message: message,
+        one: one,
+        two: two,
     }
 }
 
 // Round two.
-fn verdict(server: Server, joined: [u8; 28]) {
+fn verdict(server: Server, joined: [u8; 2 * LENGTH_TWO]) {
     let mut table = server.table;
     let list = server.list;
     let mut numbers = server.numbers;
@@ -138,26 +130,43 @@ fn verdict(server: Server, joined: [u8; 28]) {
     write(b", rejected\n");
 }
 
-// The messages of both servers, one behind the other.
-fn join(first: [u8; 14], second: [u8; 14]) -> [u8; 28] {
-    let mut joined = [0u8; 28];
+// The messages of both servers, one behind the other: of round one, and of round two.
+fn ones(first: [u8; LENGTH_ONE], second: [u8; LENGTH_ONE]) -> [u8; 2 * LENGTH_ONE] {
+    let mut joined = [0u8; 2 * LENGTH_ONE];
     words::copy(&mut joined, 0, &first);
-    words::copy(&mut joined, 14, &second);
+    words::copy(&mut joined, LENGTH_ONE, &second);
     joined
 }
 
-// The two numbers of a message.
-fn pair(text: &[u8], m: [u8; 14]) {
+fn twos(first: [u8; LENGTH_TWO], second: [u8; LENGTH_TWO]) -> [u8; 2 * LENGTH_TWO] {
+    let mut joined = [0u8; 2 * LENGTH_TWO];
+    words::copy(&mut joined, 0, &first);
+    words::copy(&mut joined, LENGTH_TWO, &second);
+    joined
+}
+
+// The first two numbers of a message.
+fn pair(text: &[u8], m: &[u8])
+    requires { ⌜ 14 ≤ length (now m) ⌝ }
+{
     fill(
         text,
         [
-            words::read_u32(&m, 6) as u64,
-            words::read_u32(&m, 10) as u64,
+            words::read_u32(m, 6) as u64,
+            words::read_u32(m, 10) as u64,
             0,
             0,
             0,
         ],
     );
+}
+
+fn pair_one(m: [u8; LENGTH_ONE]) {
+    pair(b": d #, e #", &m);
+}
+
+fn pair_two(m: [u8; LENGTH_TWO]) {
+    pair(b", sigma #, tau #", &m);
 }
 
 // Server 1's share: zeros.
@@ -178,16 +187,16 @@ pub fn judge(first: [u8; 42], r: u64) {
         refused(here.number);
         return;
     }
-    let own = here.message;
-    let other = there.message;
-    pair(b": d #, e #", own);
-    let ones = join(own, other);
-    let here = round_one(here, ones);
-    let there = round_one(there, ones);
-    let own = here.message;
-    let other = there.message;
-    pair(b", sigma #, tau #", own);
-    verdict(here, join(own, other));
+    let own = here.one;
+    let other = there.one;
+    pair_one(own);
+    let joined = ones(own, other);
+    let here = round_one(here, joined);
+    let there = round_one(there, joined);
+    let own = here.two;
+    let other = there.two;
+    pair_two(own);
+    verdict(here, twos(own, other));
 }
 
 // One element of a share message.

@@ -10,6 +10,7 @@ use Rattle.rules.specs.Settings.{document01}
 use Rattle.rules.specs.Messages.{placeSound}
 use Rattle.round_message.specs.Rounds.{allSound}
 use Rattle.steps.proofs.Every.{from, every-start, every-next, every-not, every-end}
+use Rattle.round_message.proofs.Rounds.{whole-place}
 use Rattle.round_message.proofs.all_sound.Statement.{statement}
 use Rattle.round_message.proofs.all_sound.Tie as tie
 
@@ -30,7 +31,9 @@ loop-holds c =
     (search needs, every-start (sound (a .servers) (a .kind) (a .id) (a .own) (a .mine .now) (a .joined .now)) (a .servers))
 
 place-sound-requires : tie.Need-place-sound-requires Inv-loop μ-loop
-place-sound-requires c κs = search needs
+place-sound-requires c κs =
+    let s = c .before .before .before .before in
+    whole-place (s .args .servers) (s .args .kind) (s .args .joined .now) (c .before .loop .i) (s .pre) (c .loop-test .taken)
 
 returns : tie.Need-returns Inv-loop μ-loop
 returns c =

@@ -1,11 +1,16 @@
 -- `round_message::round_sound` meets its contract. Each test that led to a return is put into the definition, which then
--- computes. Assumes nothing.
-use mathlib.Core.Path.{_≡_}
+-- computes; the part that is tested goes to the end of the message (`to-end`). Assumes nothing.
+use mathlib.Core.Path.{_≡_, ap, _∙_}
 use mathlib.Core.Bool.{false}
-use lib.Dec.{eqb}
-use borrow.Author.Tests.{eq-eqb, ne-eqb, lt-ltb, le-ltb}
-use Rattle.rules.specs.Messages.{idIn, roundSound}
+use mathlib.Core.List.{List}
+use Prim.Native.Nat.{ℕ}
 use borrow.Author.Needs.{needs}
+use borrow.Author.Tests.{eq-eqb, ne-eqb, lt-ltb, le-ltb}
+use lib.Dec.{eqb}
+use Rattle.words.specs.Bytes.{elementsOf, allBelow}
+use Rattle.rules.specs.Messages.{idIn, roundSound}
+use Rattle.field.specs.Residues.{prime}
+use Rattle.steps.proofs.Parts.{to-end}
 use Rattle.round_message.proofs.round_sound.Statement.{statement}
 use Rattle.round_message.proofs.round_sound.Tie as tie
 
@@ -38,34 +43,31 @@ returns-3 c =
       le-ltb _ _ (c .if3 .taken),
     )
 
-read-u32-requires : tie.Need-read-u32-requires
-read-u32-requires c κs = search needs
+sub-below : tie.Need-sub-below
+sub-below c = search needs
+
+part-below-start : tie.Need-part-below-start
+part-below-start c = search needs
+
+part-below-end : tie.Need-part-below-end
+part-below-end c = search needs
+
+below-requires : tie.Need-below-requires
+below-requires c κs = search needs
 
 returns-4 : tie.Need-returns-4
 unfolding roundSound
 returns-4 c =
-    let i = c .before .before .before .before in
-    simp (
-      eq-eqb _ _ (c .before .before .before .before .before .before .if1 .left),
+    let b = c .before .before in
+    let i = b .before .before in
+    let a = i .before .before .before .before .before .args in
+    let rest = ap (λ (l : List ℕ). allBelow prime (elementsOf 4 l)) (to-end 6 (a .m .now)) in
+    rw (
+      eq-eqb _ _ (i .before .before .if1 .left),
       eq-eqb _ _ (rw (i .before .id-of .ensures) at (i .if2 .left)),
-      lt-ltb _ _ (c .before .before .if3 .left),
-      le-ltb _ _ (rw (c .before .read-u32 .ensures) at (c .if4 .taken)),
+      lt-ltb _ _ (b .if3 .left),
     )
-
-read-u32-requires-2 : tie.Need-read-u32-requires-2
-read-u32-requires-2 c κs = search needs
-
-returns-5 : tie.Need-returns-5
-unfolding roundSound
-returns-5 c =
-    let i = c .before .before .before .before .before in
-    simp (
-      eq-eqb _ _ (c .before .before .before .before .before .before .before .if1 .left),
-      eq-eqb _ _ (rw (i .before .id-of .ensures) at (i .if2 .left)),
-      lt-ltb _ _ (c .before .before .before .if3 .left),
-      lt-ltb _ _ (rw (c .before .before .read-u32 .ensures) at (c .before .if4 .left)),
-      c .read-u322 .ensures,
-    )
+    (c .below .ensures ∙ rest)
 
 pub round-sound-spec : {M : Type 1} → statement M
 round-sound-spec =
@@ -77,7 +79,8 @@ round-sound-spec =
     returns-2
     shared-slice-read-if3
     returns-3
-    read-u32-requires
-    returns-4
-    read-u32-requires-2
-    returns-5)
+    sub-below
+    part-below-start
+    part-below-end
+    below-requires
+    returns-4)

@@ -1,12 +1,11 @@
 -- `round_one::round_one` meets its contract: the return that is named is one that the functions below can take, and each way out
 -- is a case of the definition (`first-unnamed`, `first-refused`, `first-done`). Assumes nothing.
-use mathlib.Core.Path.{sym, refl, _∙_}
-use native.Mathlib.Omega.{arith}
+use mathlib.Core.Path.{sym, _∙_}
 use Rattle.waiting.specs.Changes.{lent}
 use Rattle.table.proofs.Waiting.{numbers-are}
 use Rattle.rounds.proofs.Holding.{in-run}
 use Rattle.rounds.proofs.Naming.{names}
-use Rattle.round_one.proofs.FirstRound.{first-unnamed, first-refused, first-ready, first-done}
+use Rattle.round_one.proofs.FirstRound.{first-asks, first-unnamed, first-refused, first-ready, first-done}
 use borrow.Author.Needs.{needs}
 use Rattle.round_one.proofs.round_one.Statement.{statement}
 use Rattle.round_one.proofs.round_one.Tie as tie
@@ -29,8 +28,7 @@ one-refusal-requires c κs =
     let r = u .before .before in
     let a = r .before .before .before .before .before .args in
     let T = lent (a .table .now) (a .list) (a .numbers .now) in
-    let n = names T (a .id) 1 _ _ _ (sym (r .find .ensures) ∙ u .k .given .1) in
-    n .waits .sound .limited
+    first-asks T (a .id) (a .joined .now) _ _ _ (names T (a .id) 1 _ _ _ (sym (r .find .ensures) ∙ u .k .given .1))
 
 refused-requires-2 : tie.Need-refused-requires-2
 refused-requires-2 c κs = search needs

@@ -2,20 +2,20 @@
 -- with them. Assumes nothing.
 use mathlib.Core.Path.{refl}
 use Rattle.field.proofs.Below.{sum-below}
-use Rattle.rules.specs.Messages.{firstSum, secondSum}
+use Rattle.rules.specs.Messages.{elementSum}
 use Rattle.round_one.specs.One.{summedSlot, messageAt}
 use borrow.Author.Needs.{needs}
 use Rattle.round_one.proofs.take_one.Statement.{statement}
 use Rattle.round_one.proofs.take_one.Tie as tie
 
-first-sum-requires : tie.Need-first-sum-requires
-first-sum-requires c κs = search needs
+element-sum-requires : tie.Need-element-sum-requires
+element-sum-requires c κs = search needs
 
-second-sum-requires : tie.Need-second-sum-requires
-second-sum-requires c κs = search needs
+element-sum-requires-2 : tie.Need-element-sum-requires-2
+element-sum-requires-2 c κs = search needs
 
 sigma-of-requires : tie.Need-sigma-of-requires
-unfolding firstSum secondSum
+unfolding elementSum
 sigma-of-requires c κs =
     let p = c .before .before .before .before .before .pre .sharing in
     record {
@@ -23,15 +23,15 @@ sigma-of-requires c κs =
       long = p .long;
       elements = p .elements;
       rh-below = p .rh-below;
-      d-below = rw (c .before .first-sum .ensures) (sum-below _ _);
-      e-below = rw (c .second-sum .ensures) (sum-below _ _);
+      d-below = rw (c .before .element-sum .ensures) (sum-below _ _);
+      e-below = rw (c .element-sum2 .ensures) (sum-below _ _);
     }
 
-cast-write-round : tie.Need-cast-write-round
-cast-write-round c = search needs
+cast-write-two : tie.Need-cast-write-two
+cast-write-two c = search needs
 
-write-round-requires : tie.Need-write-round-requires
-write-round-requires c κs = search needs
+write-two-requires : tie.Need-write-two-requires
+write-two-requires c κs = search needs
 
 cast-t13 : tie.Need-cast-t13
 cast-t13 c = search needs
@@ -49,19 +49,19 @@ returns c =
     let g = m .before .before .before in
     let e = g .before in
     let d = e .before in (
-      rw (d .first-sum .ensures, e .second-sum .ensures) refl,
-      rw (g .sigma-of .ensures, d .first-sum .ensures, e .second-sum .ensures) at (m .write-round .ensures),
+      rw (d .element-sum .ensures, e .element-sum2 .ensures) refl,
+      rw (g .sigma-of .ensures, d .element-sum .ensures, e .element-sum2 .ensures) at (m .write-two .ensures),
     )
 
 pub take-one-spec : {M : Type 1} → statement M
 take-one-spec =
     tie.close
     (tie.spec
-    first-sum-requires
-    second-sum-requires
+    element-sum-requires
+    element-sum-requires-2
     sigma-of-requires
-    cast-write-round
-    write-round-requires
+    cast-write-two
+    write-two-requires
     cast-t13
     cast-t14
     same-length

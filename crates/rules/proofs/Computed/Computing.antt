@@ -26,10 +26,10 @@ use Rattle.rules.specs.EveryReturn.{everyReturnRefusal}
 use Rattle.rules.specs.Judging.{shareSize, firstOnly, zeroThen, folded, sigmaFrom, hOf, aOf, bOf, cOf, shareRun, fAt}
 use Rattle.rules.specs.Judging.{gAt, hAt, dOf, eOf, sigmaOf, tauOf, addedUp, dSum, eSum, sigmaSum, tauSum}
 use Rattle.rules.specs.Judging.{allowedPair, letsIn}
-use Rattle.rules.specs.Making.{fOf, gOf, whole, shareOf, shareMessage, shareLength, randomCount, madeFrom}
+use Rattle.rules.specs.Making.{fOf, gOf, whole, shareOf, message, shareLength, randomCount, madeFrom}
 use Rattle.rules.specs.Making.{valuesFault, randomFault, makeRefusal, makeBytes}
-use Rattle.rules.specs.Messages.{headerFault, elementsFault, roundMessage, roundSound, stillMissing, ownKept, placeSound}
-use Rattle.rules.specs.Messages.{roundFault, firstSum, secondSum, bothZero}
+use Rattle.rules.specs.Messages.{headerFault, elementsFault, roundSound, stillMissing, ownKept, placeSound}
+use Rattle.rules.specs.Messages.{roundFault, samePair, challengeFault, elementSum, bothZero}
 use Rattle.rules.specs.Server.{isMember, openFault, waitingOf, sigmaIn, messageOne, messageTwo, summed, publishedShares}
 use Rattle.rules.specs.Server.{totalsMessage, totalsLength, whileOpen, whileOne, whileTwo, whileWaiting}
 use Rattle.rules.specs.Server.{shareRefusal, oneRefusal, twoRefusal, dropRefusal, closeRefusal}
@@ -51,7 +51,7 @@ use Rattle.rules.specs.Shelf.{firstBytes, shelved, shelfRefusal}
 use Rattle.rules.specs.Ledger.{notesWith, ledgerTotals, closingMessage, ledgerWait, ledgerStage, ledgerState, refusalOf, decideAs}
 use Rattle.rules.specs.Ledger.{sumsNoted, ledgerAfter, secondMessage, answerOf, runLedger, ledgerAnswers}
 use Rattle.rules.specs.Runs.{tableRefusal, tableAfter, tableAnswer, runTable, tableAnswers}
-use Rattle.rules.specs.WholeRun.{notesIn, noteUnder, joinedIn, handedIn}
+use Rattle.rules.specs.Pools.{notesIn, noteUnder, callMessages, handedIn}
 
 unfoldable pub part0 : Unit {0}
 unfolding sum product descending others weight basis interpolate inverseFrom tabulate every countFrom sumOver valueOf
@@ -86,15 +86,15 @@ unfolding sigmaFrom hOf aOf bOf cOf shareRun fAt gAt hAt dOf eOf sigmaOf tauOf a
 part7 = tt
 
 unfoldable pub part8 : Unit {0}
-unfolding allowedPair letsIn fOf gOf whole shareOf shareMessage shareLength randomCount madeFrom valuesFault
+unfolding allowedPair letsIn fOf gOf whole shareOf message shareLength randomCount madeFrom valuesFault
 part8 = tt
 
 unfoldable pub part9 : Unit {0}
-unfolding randomFault makeRefusal makeBytes headerFault elementsFault roundMessage roundSound roundFault firstSum
+unfolding randomFault makeRefusal makeBytes headerFault elementsFault roundSound roundFault samePair challengeFault elementSum
 part9 = tt
 
 unfoldable pub part10 : Unit {0}
-unfolding secondSum bothZero isMember openFault waitingOf sigmaIn messageOne messageTwo summed publishedShares totalsMessage
+unfolding bothZero isMember openFault waitingOf sigmaIn messageOne messageTwo summed publishedShares totalsMessage
 part10 = tt
 
 unfoldable pub part11 : Unit {0}
@@ -126,7 +126,7 @@ unfolding closingMessage ledgerWait ledgerStage ledgerState refusalOf decideAs s
 part17 = tt
 
 unfoldable pub part18 : Unit {0}
-unfolding ledgerAnswers tableRefusal tableAfter tableAnswer runTable tableAnswers notesIn noteUnder joinedIn handedIn
+unfolding ledgerAnswers tableRefusal tableAfter tableAnswer runTable tableAnswers notesIn noteUnder callMessages handedIn
 part18 = tt
 
 unfoldable pub part19 : Unit {0}

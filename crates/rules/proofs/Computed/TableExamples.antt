@@ -6,6 +6,7 @@ use Rattle.rules.specs.SoundExamples.{limits}
 use Rattle.rules.specs.TableExamples.{onTables, inOrder, otherOrders, erasures}
 use Rattle.rules.specs.WaitingExamples.{manyWait, mixed, eight}
 use Rattle.rules.specs.OrderExamples.{threeServers, sameSlots, reversed}
+use Rattle.rules.specs.ChallengeExamples.{threePairs, typingSlip}
 use Rattle.rules.specs.LeastExamples.{smallPools}
 use Rattle.rules.proofs.Computed.Computing.{everything}
 
@@ -44,6 +45,14 @@ three-servers-hold = refl
 pub reversed-hold : every (λ row. row .holds) reversed ≡ true
 unfolding everything reversed sameSlots
 reversed-hold = refl
+
+pub three-pairs-hold : every (λ row. row .holds) threePairs ≡ true
+unfolding everything threePairs
+three-pairs-hold = refl
+
+pub typing-slip-hold : every (λ row. row .holds) typingSlip ≡ true
+unfolding everything typingSlip sameSlots
+typing-slip-hold = refl
 
 pub small-pools-hold : every (λ row. row .holds) smallPools ≡ true
 unfolding everything smallPools

@@ -4,7 +4,6 @@
 use mathlib.Core.Path.{_≡_, refl, sym, ap, _∙_, subst}
 use mathlib.Core.Bool.{Bool, true, false, not, _&&_, _||_}
 use mathlib.Core.List.{List, [], map, map-map, map-id, flatten}
-use mathlib.Core.Option.{none}
 use Prim.Native.Nat.{ℕ, suc, _*_, _%_, _≤_, _<_}
 use native.Mathlib.Nat.{eq-of-mul-eq-mul-left, mul-le-mul-left}
 use native.Mathlib.Omega.{arith}
@@ -21,8 +20,7 @@ use Rattle.words.specs.Bytes.{sameBytes}
 use Rattle.words.proofs.Same.{equal-same, same-equal}
 use Rattle.words.proofs.Splice.{length-part}
 use Rattle.rules.specs.Settings.{Setting}
-use Rattle.rules.specs.Messages.{serverIn, firstIn, secondIn, roundLength, placeIn, ownKept}
-use Rattle.rules.specs.Messages.{placeSound, roundFault, firstSum, secondSum}
+use Rattle.rules.specs.Messages.{serverIn, elementIn, roundLength, placeIn, ownKept, placeSound, roundFault, elementSum}
 use Rattle.rules.specs.Keyed.{under}
 use Rattle.rules.specs.AnyOrder.{SomeOrder}
 use Rattle.rules.proofs.Histories.MessageBytes.{Sized, length-flatten, cut-flatten, flatten-cut, sized}
@@ -47,33 +45,30 @@ is-own own mine m h = go (eqb (serverIn m) own) refl
     go false q = refl
 
 module _ (σ : Setting) where
-  abbrev Lengths : List (List ℕ) → Type 0
-  Lengths = Sized (roundLength σ)
-
   -- ---- sums
-  module _ (ms : List (List ℕ)) (sized : Lengths ms) where
+  module _ (kind : ℕ) (ms : List (List ℕ)) (sized : Sized (roundLength σ kind) ms) where
     sum-over : (g : List ℕ → ℕ)
-        → sum (modulo (σ .modulus)) (length ms) (λ i. g (placeIn σ (flatten ms) i)) ≡ sumOver g ms % σ .modulus
+        → sum (modulo (σ .modulus)) (length ms) (λ i. g (placeIn σ kind (flatten ms) i)) ≡ sumOver g ms % σ .modulus
     sum-over g =
         sum-modulo (σ .modulus) (length ms) _
         ∙ ap (λ (k : ℕ). k % σ .modulus)
-        (sym (sum-map g (placeIn σ (flatten ms)) (countFrom 0 (length ms))) ∙ ap (sumOver g) (cut-flatten (roundLength σ) ms sized))
+        (sym (sum-map g (placeIn σ kind (flatten ms)) (countFrom 0 (length ms)))
+        ∙ ap (sumOver g) (cut-flatten (roundLength σ kind) ms sized))
 
-    pub first-sum-over : (n : ℕ) → length ms ≡ n → firstSum σ n (flatten ms) ≡ sumOver (firstIn σ) ms % σ .modulus
-    unfolding firstSum
-    first-sum-over n e = ap (λ (k : ℕ). firstSum σ k (flatten ms)) (sym e) ∙ sum-over (firstIn σ)
-
-    pub second-sum-over : (n : ℕ) → length ms ≡ n → secondSum σ n (flatten ms) ≡ sumOver (secondIn σ) ms % σ .modulus
-    unfolding secondSum
-    second-sum-over n e = ap (λ (k : ℕ). secondSum σ k (flatten ms)) (sym e) ∙ sum-over (secondIn σ)
+    pub element-sum-over : (k n : ℕ) → length ms ≡ n → elementSum σ k kind n (flatten ms) ≡ sumOver (elementIn σ k) ms % σ .modulus
+    unfolding elementSum
+    element-sum-over k n e = ap (λ (v : ℕ). elementSum σ k kind v (flatten ms)) (sym e) ∙ sum-over (elementIn σ k)
 
   module _ (servers kind id own : ℕ) (mine : List ℕ) where
+    abbrev Lengths : List (List ℕ) → Type 0
+    Lengths = Sized (roundLength σ kind)
+
     abbrev fault : List ℕ → ℕ
     fault = roundFault σ servers kind id own mine
 
     abbrev test : List ℕ → Bool
     test joined =
-        eqb (length joined) (roundLength σ * servers)
+        eqb (length joined) (roundLength σ kind * servers)
         && every (placeSound σ servers kind id own mine joined) (countFrom 0 servers)
 
     abbrev Good : List (List ℕ) → Type 0
@@ -91,12 +86,12 @@ module _ (σ : Setting) where
     module _ (ms : List (List ℕ)) (sized : Lengths ms) where
       pub as-many : fault (flatten ms) ≡ 0 → length ms ≡ servers
       as-many e =
-          let long : roundLength σ * length ms ≡ roundLength σ * servers =
-          sym (length-flatten (roundLength σ) ms sized) ∙ is-long σ servers kind id own mine (flatten ms) e in
-          eq-of-mul-eq-mul-left (roundLength σ) (omega arith) (length ms) servers long
+          let long : roundLength σ kind * length ms ≡ roundLength σ kind * servers =
+          sym (length-flatten (roundLength σ kind) ms sized) ∙ is-long σ servers kind id own mine (flatten ms) e in
+          eq-of-mul-eq-mul-left (roundLength σ kind) (omega arith) (length ms) servers long
 
       cut-again : length ms ≡ servers → messages σ servers kind id own mine (flatten ms) ≡ ms
-      cut-again e = subst (λ (n : ℕ). messages σ n kind id own mine (flatten ms) ≡ ms) e (cut-flatten (roundLength σ) ms sized)
+      cut-again e = subst (λ (n : ℕ). messages σ n kind id own mine (flatten ms) ≡ ms) e (cut-flatten (roundLength σ kind) ms sized)
 
       good-of : fault (flatten ms) ≡ 0 → Good ms
       good-of e = subst Good (cut-again (as-many e)) (passes σ servers kind id own mine (flatten ms) e)
@@ -104,7 +99,7 @@ module _ (σ : Setting) where
       pub of-good : length ms ≡ servers → Good ms → fault (flatten ms) ≡ 0
       of-good e h =
           passes-fault σ servers kind id own mine (flatten ms)
-          (length-flatten (roundLength σ) ms sized ∙ ap (λ (n : ℕ). roundLength σ * n) e) (subst Good (sym (cut-again e)) h)
+          (length-flatten (roundLength σ kind) ms sized ∙ ap (λ (n : ℕ). roundLength σ kind * n) e) (subst Good (sym (cut-again e)) h)
 
     any-passes : (ms ns : List (List ℕ)) → Lengths ms → Rearranged ms ns → fault (flatten ms) ≡ 0 → fault (flatten ns) ≡ 0
     any-passes ms ns sized r e =
@@ -153,25 +148,26 @@ module _ (σ : Setting) where
       many : length ms ≡ servers
       many = length-map (countFrom 0 servers) _ ∙ length-count 0 servers
 
-      pub placed : length joined ≡ roundLength σ * servers → (i : ℕ) → i < servers → length (placeIn σ joined i) ≡ roundLength σ
+      pub placed : length joined ≡ roundLength σ kind * servers → (i : ℕ) → i < servers
+          → length (placeIn σ kind joined i) ≡ roundLength σ kind
       placed e i l =
-          let within : roundLength σ * suc i ≤ roundLength σ * servers = mul-le-mul-left (roundLength σ) (omega arith) in
-          length-part (roundLength σ * i) (roundLength σ) joined (omega arith)
+          let within : roundLength σ kind * suc i ≤ roundLength σ kind * servers = mul-le-mul-left (roundLength σ kind) (omega arith) in
+          length-part (roundLength σ kind * i) (roundLength σ kind) joined (omega arith)
 
       pub taken : fault joined ≡ 0 → SomeOrder σ servers kind id own mine joined
       taken e =
           let h : Good ms = passes σ servers kind id own mine joined e in
-          let long : length joined ≡ roundLength σ * servers = is-long σ servers kind id own mine joined e in
+          let long : length joined ≡ roundLength σ kind * servers = is-long σ servers kind id own mine joined e in
           let at : (j : ℕ) → j < servers → Among ms j = among ms many h in
           record {
             message = from ms;
-            long = λ j l. all-in (from ms j) ms (sized (placeIn σ joined) (roundLength σ) servers (placed long)) (at j l .is-in);
+            long = λ j l. all-in (from ms j) ms (sized (placeIn σ kind joined) (roundLength σ kind) servers (placed long)) (at j l .is-in);
             sound = λ j l. all-in (from ms j) ms (h .sound) (at j l .is-in);
             names = λ j l. at j l .names;
             own-kept = λ l. own-is own mine (from ms own) (all-in (from ms own) ms (h .kept) (at own l .is-in)) (at own l .names);
             messages = ms;
             order = from-order ms many h;
-            stand = sym (flatten-cut (roundLength σ) servers joined long);
+            stand = sym (flatten-cut (roundLength σ kind) servers joined long);
           }
 
       -- what holds of the message of each server holds of each that stands there

@@ -1,7 +1,7 @@
 -- Lists whose members have an id. What is found has the id and can be taken out; looking up, changing and taking out go
 -- through a map that keeps ids, leave the members of other ids alone, and see only those of the id itself. Assumes nothing.
 use mathlib.Core.Path.{_≡_, refl, sym, ap, _∙_, subst}
-use mathlib.Core.Logic.{_≢_, inl, inr}
+use mathlib.Core.Logic.{_≢_, inl, inr, _⊎_, ⊎-elim}
 use mathlib.Core.Bool.{Bool, true, false, cond, _||_, true≢false}
 use mathlib.Core.List.{List, [], _∷_, _++_, map}
 use mathlib.Core.Option.{Option, some, none}
@@ -107,6 +107,21 @@ module _ {A : Type 0} (key : A → ℕ) (id : ℕ) where
       go false q e r = rw q (r e)
 
   -- what a change keeps
+  -- a member of a changed list was there, or it is what the change makes of the one that is found
+  pub changed-in : (f : A → A) (ws : List A) (p : A) → In p (changed key id f ws)
+      → In p ws ⊎ ((v : A) × (find key id ws ≡ some v) × (f v ≡ p))
+  unfolding changed find
+  changed-in f [] p h = absurd h
+  changed-in f (w ∷ ws) p h = go (eqb (key w) id) h (changed-in f ws p)
+    where
+      go : (b : Bool) → In p (cond b (f w ∷ ws) (w ∷ changed key id f ws))
+          → (In p (changed key id f ws) → In p ws ⊎ ((v : A) × (find key id ws ≡ some v) × (f v ≡ p)))
+          → In p (w ∷ ws) ⊎ ((v : A) × (cond b (some w) (find key id ws) ≡ some v) × (f v ≡ p))
+      go true (inl e) r = inr (w, refl, e)
+      go true (inr k) r = inl (inr k)
+      go false (inl e) r = inl (inl e)
+      go false (inr k) r = ⊎-elim (λ q. inl (inr q)) (λ q. inr q) (r k)
+
   pub changed-keeps : {B : Type 0} (g : A → B) (f : A → A) → ((a : A) → g (f a) ≡ g a) → (ws : List A)
       → map g (changed key id f ws) ≡ map g ws
   unfolding changed

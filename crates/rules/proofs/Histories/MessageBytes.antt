@@ -1,19 +1,20 @@
--- A round message is read back: kind, id, server and both elements stand at their places. Messages of one size, one after
--- another, are each found at their place, and a run is cut into them. Assumes nothing.
+-- A message is read back: kind, id, server and elements stand at their places. Messages of one size, one after another, are each
+-- found at their place, and a run is cut into them. Assumes that elements are below p.
 use mathlib.Core.Path.{_≡_, refl, sym, ap, _∙_}
 use mathlib.Core.List.{List, [], _∷_, _++_, map, flatten}
 use Prim.Native.Nat.{ℕ, zero, suc, _+_, _*_, _^_, _≤_, _<_}
 use native.Mathlib.Nat.{mul-zero, zero-add}
 use native.Mathlib.Omega.{arith}
 use lib.ListN.{length, getD, take, drop, length-map, length-append, take-append-drop, drop-of-length-le}
-use lib.Seq.{take-at, drop-at, drop-append-add, take-all, drop-drop, ext-getD}
+use lib.Seq.{take-at, drop-append-add, drop-drop, ext-getD}
 use Rattle.algebra.specs.Lists.{All, all[], all∷, countFrom}
-use Rattle.algebra.proofs.Members.{map-all, in-all, in-count, length-count, getD-count}
-use Rattle.words.specs.Bytes.{valueOf, bytesOf, part}
+use Rattle.algebra.proofs.Members.{map-all, all-map, in-all, in-count, length-count, getD-count}
+use Rattle.words.specs.Bytes.{valueOf, bytesOf, bytesOfAll, part, elementsOf}
 use Rattle.words.proofs.Numbers.{length-bytes, value-bytes}
-use Rattle.words.proofs.Splice.{part-of-drop}
+use Rattle.words.proofs.Elements.{length-bytes-all, elements-bytes}
 use Rattle.rules.specs.Settings.{Setting, Facts}
-use Rattle.rules.specs.Messages.{kindIn, idIn, serverIn, firstIn, secondIn, roundMessage, roundLength, oneByOne}
+use Rattle.rules.specs.Making.{message}
+use Rattle.rules.specs.Messages.{kindIn, idIn, serverIn, elementsIn, oneByOne}
 
 -- ---- an element has a byte, and fits its bytes
 power-above : (w m : ℕ) → 33554432 < m → m ≤ 256 ^ w → 0 < w
@@ -24,48 +25,36 @@ module _ (σ : Setting) (facts : Facts σ) where
   pub width-positive : 0 < σ .width
   width-positive = power-above (σ .width) (σ .modulus) (facts .large) (facts .fits)
 
--- ---- a round message
-module _ (σ : Setting) (kind id server x y : ℕ) where
-  abbrev message : List ℕ
-  message = roundMessage σ kind id server x y
+-- ---- a message: kind, id, server, elements
+module _ (σ : Setting) (kind id server : ℕ) (xs : List ℕ) where
+  abbrev written : List ℕ
+  written = message σ kind id server xs
 
-  pub length-round : length message ≡ roundLength σ
-  unfolding roundMessage bytesOf
-  length-round = simp (length-append, length-bytes) (omega arith)
+  pub length-message : length written ≡ 6 + σ .width * length xs
+  unfolding message bytesOf
+  length-message = simp length-bytes-all (omega arith)
 
-  pub round-kind : kindIn message ≡ kind
-  unfolding roundMessage
-  round-kind = refl
+  pub kind-read : kindIn written ≡ kind
+  unfolding message
+  kind-read = refl
 
-  pub round-id : id < 4294967296 → idIn message ≡ id
-  unfolding roundMessage
-  round-id h =
-      ap valueOf (take-at (bytesOf 4 id) (server ∷ bytesOf (σ .width) x ++ bytesOf (σ .width) y) 4 (length-bytes 4 id))
-      ∙ value-bytes 4 id h
+  pub id-read : id < 4294967296 → idIn written ≡ id
+  unfolding message
+  id-read h =
+      ap valueOf (take-at (bytesOf 4 id) (server ∷ bytesOfAll (σ .width) xs) 4 (length-bytes 4 id)) ∙ value-bytes 4 id h
 
-  pub round-server : serverIn message ≡ server
-  unfolding roundMessage bytesOf
-  round-server = refl
+  pub server-read : serverIn written ≡ server
+  unfolding message bytesOf
+  server-read = refl
 
-  elements-behind : drop 6 message ≡ bytesOf (σ .width) x ++ bytesOf (σ .width) y
-  unfolding roundMessage bytesOf
+  elements-behind : drop 6 written ≡ bytesOfAll (σ .width) xs
+  unfolding message bytesOf
   elements-behind = refl
 
-  pub round-first : x < 256 ^ σ .width → firstIn σ message ≡ x
-  round-first h =
-      ap (λ (l : List ℕ). valueOf (take (σ .width) l)) elements-behind
-      ∙ ap valueOf (take-at (bytesOf (σ .width) x) (bytesOf (σ .width) y) (σ .width) (length-bytes (σ .width) x))
-      ∙ value-bytes (σ .width) x h
-
-  pub round-second : y < 256 ^ σ .width → secondIn σ message ≡ y
-  round-second h =
-      let w = σ .width in
-      let long : length (bytesOf w y) ≤ w = rw length-bytes (omega arith) in
-      ap valueOf (sym (part-of-drop w w 6 message))
-      ∙ ap (λ (l : List ℕ). valueOf (take w (drop w l))) elements-behind
-      ∙ ap (λ (l : List ℕ). valueOf (take w l)) (drop-at (bytesOf w x) (bytesOf w y) w (length-bytes w x))
-      ∙ ap valueOf (take-all w (bytesOf w y) long)
-      ∙ value-bytes w y h
+  pub elements-read : Facts σ → All (λ x. x < σ .modulus) xs → elementsIn σ written ≡ xs
+  elements-read facts below =
+      ap (elementsOf (σ .width)) elements-behind
+      ∙ elements-bytes (σ .width) (width-positive σ facts) xs (all-map (λ x h. omega (arith, facts .fits)) below)
 
 -- ---- messages of one size, one after another
 module _ (size : ℕ) where

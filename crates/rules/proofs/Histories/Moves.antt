@@ -22,8 +22,8 @@ use Rattle.rules.specs.Settings.{Setting}
 use Rattle.rules.specs.Columns.{check}
 use Rattle.rules.specs.Judging.{allowedPair}
 use Rattle.rules.specs.Making.{shareLength}
-use Rattle.rules.specs.Messages.{kindIn, idIn, serverIn, shareElements, roundLength, headerFault, elementsFault, roundFault}
-use Rattle.rules.specs.Messages.{firstSum, secondSum, bothZero}
+use Rattle.rules.specs.Messages.{kindIn, idIn, serverIn, elementsIn, roundLength, headerFault, elementsFault, roundFault}
+use Rattle.rules.specs.Messages.{challengeFault, firstSum, secondSum, bothZero}
 use Rattle.rules.specs.Keyed.{find, without, changed}
 use Rattle.rules.specs.Server.{Opened, Waiting, Wait, heldId, mostWaiting, waitingOf, isMember, messageOne, messageTwo, withSums}
 use Rattle.rules.specs.Server.{shareRefusal, oneRefusal, twoRefusal, dropRefusal, closeRefusal}
@@ -34,10 +34,10 @@ use Rattle.rules.specs.Ledger.{accepted, rejected, dropped, Decided, Led
 use Rattle.rules.specs.Ledger.{closingMessage, noted, noteOf}
 use Rattle.rules.specs.Ledger.{ledgerWait, ledgerStage, ledgerState, refusalOf, decideAs, sumsNoted, ledgerAfter}
 use Rattle.rules.specs.Ledger.{secondAnswer, secondMessage, answerOf, ledgerStep, ledgerSays, runLedger, ledgerAnswers}
-use Rattle.rules.specs.WholeRun.{BytesIn, joinedIn, handedIn}
+use Rattle.rules.specs.Pools.{BytesIn, messagesIn, callMessages, handedIn}
 use Rattle.rules.proofs.Histories.Keyed.{no-member-in, through, find-map}
 use Rattle.rules.proofs.Histories.Checks.{check-passed}
-use Rattle.rules.proofs.Histories.JoinedRuns.{Joined, round-passed}
+use Rattle.rules.proofs.Histories.JoinedRuns.{Joined, JoinedOne, round-passed, challenge-passed}
 
 abbrev pub at : Progress → List Decided → Ledger
 at p ds = record { progress = p; decided = ds }
@@ -86,20 +86,20 @@ module _ (σ : Setting) (o : Opened) where
   dropOf n = record { note = n; decision = dropped }
 
   abbrev pub sumsOf : List ℕ → Pending → Pending
-  sumsOf joined = sumsNoted σ o (firstSum σ (o .servers) joined) (secondSum σ (o .servers) joined)
+  sumsOf joined = sumsNoted σ o (firstSum σ 34 (o .servers) joined) (secondSum σ 34 (o .servers) joined)
 
-  -- from a ledger to the next, with the answer and the joined messages handed in
+  -- from a ledger to the next, with the answer and the round messages handed in
   pub data Moves : Ledger → Answer → List (List ℕ) → Ledger → Type 0 where
     stays : (l : Ledger) (n : ℕ) → Moves l (refused n) [] l
     notes : (ws : List Pending) (ds : List Decided) (n : Note) → Taken ws ds n
         → Moves (at (isOpen ws) ds) (wrote (messageOne σ o (noted σ o n))) [] (at (isOpen (waitsOne n ∷ ws)) ds)
     sums : (ws : List Pending) (ds : List Decided) (id : ℕ) (n : Note) (joined : List ℕ)
-        → find pendingId id ws ≡ some (waitsOne n) → Joined σ (o .servers) 34 (n .id) joined
-        → Moves (at (isOpen ws) ds) (wrote (secondAnswer σ o n joined)) (joined ∷ [])
+        → find pendingId id ws ≡ some (waitsOne n) → JoinedOne σ (o .servers) (n .id) joined
+        → Moves (at (isOpen ws) ds) (wrote (secondAnswer σ o n joined)) (messagesIn σ (o .servers) 34 joined)
         (at (isOpen (changed pendingId id (sumsOf joined) ws)) ds)
     judges : (ws : List Pending) (ds : List Decided) (id : ℕ) (p : Pending) (joined : List ℕ)
         → find pendingId id ws ≡ some p → Joined σ (o .servers) 35 (noteIn p .id) joined
-        → Moves (at (isOpen ws) ds) (judged (bothZero σ (o .servers) joined)) (joined ∷ [])
+        → Moves (at (isOpen ws) ds) (judged (bothZero σ (o .servers) joined)) (messagesIn σ (o .servers) 35 joined)
         (at (isOpen (without pendingId id ws)) (ds ++ (verdictOn (noteIn p) joined ∷ [])))
     drops : (ws : List Pending) (ds : List Decided) (id : ℕ) (p : Pending) → find pendingId id ws ≡ some p
         → Moves (at (isOpen ws) ds) done [] (at (isOpen (without pendingId id ws)) (ds ++ (dropOf (noteIn p) ∷ [])))
@@ -122,7 +122,7 @@ module _ (σ : Setting) (o : Opened) where
       let all : List ℕ = used ++ map heldId ts in
       let fit : Bool = eqb (length m) (shareLength σ cs) in
       let kind : Bool = eqb (kindIn m) 33 && eqb (serverIn m) (o .own) in
-      let k₆ : ℕ = check (leb (roundLength σ) room) 14 in
+      let k₆ : ℕ = check (leb (roundLength σ 34) room) 14 in
       let k₅ : ℕ = orElse (check (allowedPair σ cs r s) 9) k₆ in
       let k₄ : ℕ = orElse (check (not (isMember (idIn m) all)) 10) k₅ in
       let k₃ : ℕ = orElse (elementsFault σ m) k₄ in
@@ -146,33 +146,44 @@ module _ (σ : Setting) (o : Opened) where
             (subst (λ (v : List ℕ). In (idIn m) v) (sym (all-ids ws ds)) h);
         id-fits = value-below 4 (part 1 4 m) four (all-take _ 4 (all-drop _ 1 bytes));
         pair = check-passed (allowedPair σ cs r s) 8 (e₅ .0);
-        below = all-of-below (σ .modulus) (shareElements σ m)
-            (check-passed (allBelow (σ .modulus) (shareElements σ m)) 7 (e₃ .0));
+        below = all-of-below (σ .modulus) (elementsIn σ m)
+            (check-passed (allBelow (σ .modulus) (elementsIn σ m)) 7 (e₃ .0));
       }
 
   -- a call that names an id, by what is found under it
   module _ (ws : List Pending) (ds : List Decided) (id : ℕ) (joined : List ℕ) where
-    abbrev oneFault : ℕ → Waiting → ℕ
+    abbrev pub oneFault : ℕ → Waiting → ℕ
     oneFault room w =
-        orElse (roundFault σ (o .servers) 34 (w .id) (o .own) (messageOne σ o w) joined) (check (leb (roundLength σ) room) 14)
+        orElse (roundFault σ (o .servers) 34 (w .id) (o .own) (messageOne σ o w) joined)
+        (orElse (challengeFault σ (o .servers) joined) (check (leb (roundLength σ 35) room) 14))
 
     abbrev twoFault : Waiting → ℕ
     twoFault w = roundFault σ (o .servers) 35 (w .id) (o .own) (messageTwo σ o w) joined
 
+    -- messages of round one that pass are one of each server, all with one pair
+    pub one-passed : (n : Note) (room : ℕ) → oneFault room (noted σ o n) ≡ 0 → JoinedOne σ (o .servers) (n .id) joined
+    unfolding waitingOf
+    one-passed n room e =
+        let mine = messageOne σ o (noted σ o n) in
+        let k : ℕ = check (leb (roundLength σ 35) room) 14 in
+        let x = or-zero (roundFault σ (o .servers) 34 (n .id) (o .own) mine joined) (orElse (challengeFault σ (o .servers) joined) k) e in
+        let y = or-zero (challengeFault σ (o .servers) joined) k (x .1) in
+        record {
+          each = round-passed σ (o .servers) 34 (n .id) (o .own) mine joined (x .0);
+          one-pair = challenge-passed σ (o .servers) joined (y .0);
+        }
+
     one-move : (room : ℕ) (v : Option Pending) → find pendingId id ws ≡ v
         → whileOne (through (ledgerWait σ o) v) (oneFault room) ≡ 0
-        → Moves (at (isOpen ws) ds) (wrote (secondMessage σ o v joined)) (joined ∷ [])
+        → Moves (at (isOpen ws) ds) (wrote (secondMessage σ o v joined)) (messagesIn σ (o .servers) 34 joined)
         (at (isOpen (changed pendingId id (sumsOf joined) ws)) ds)
     unfolding whileOne ledgerWait secondMessage waitingOf
     one-move room none q e = absurd (omega arith)
-    one-move room (some (waitsOne n)) q e =
-        let mine = messageOne σ o (noted σ o n) in
-        let z = or-zero (roundFault σ (o .servers) 34 (n .id) (o .own) mine joined) (check (leb (roundLength σ) room) 14) e in
-        sums ws ds id n joined q (round-passed σ (o .servers) 34 (n .id) (o .own) mine joined (z .0))
+    one-move room (some (waitsOne n)) q e = sums ws ds id n joined q (one-passed n room e)
     one-move room (some (waitsTwo n x y)) q e = absurd (omega arith)
 
     two-move : (v : Option Pending) → find pendingId id ws ≡ v → whileTwo (through (ledgerWait σ o) v) twoFault ≡ 0
-        → Moves (at (isOpen ws) ds) (judged (bothZero σ (o .servers) joined)) (joined ∷ [])
+        → Moves (at (isOpen ws) ds) (judged (bothZero σ (o .servers) joined)) (messagesIn σ (o .servers) 35 joined)
         (decideAs σ o id v ws ds (cond (bothZero σ (o .servers) joined) accepted rejected))
     unfolding whileTwo ledgerWait decideAs waitingOf
     two-move none q e = absurd (omega arith)
@@ -210,8 +221,8 @@ module _ (σ : Setting) (o : Opened) where
   close-move (w ∷ ws) ds e q = absurd (let z : _≡_ {A = ℕ} 0 1 = cc in omega arith)
 
   passed : (p : Progress) (ds : List Decided) (c : Call) → BytesIn c → refusalOf σ o (at p ds) c ≡ 0
-      → Moves (at p ds) (answerOf σ o (at p ds) c) (joinedIn σ o c) (ledgerAfter σ o (at p ds) c)
-  unfolding refusalOf ledgerState ledgerStage ledgerAfter answerOf joinedIn
+      → Moves (at p ds) (answerOf σ o (at p ds) c) (callMessages σ o c) (ledgerAfter σ o (at p ds) c)
+  unfolding refusalOf ledgerState ledgerStage ledgerAfter answerOf callMessages
       shareRefusal oneRefusal twoRefusal dropRefusal closeRefusal whileOpen
   passed (isOpen ws) ds (share m r s room) b e =
       notes ws ds (noteOf σ o m r s) (taken-share ws ds m r s room b (unfold shareRefusal ledgerState ledgerStage whileOpen in e))
@@ -231,12 +242,12 @@ module _ (σ : Setting) (o : Opened) where
   passed isClosed ds (drop id) b e = absurd (omega arith)
   passed isClosed ds (close room) b e = absurd (omega arith)
 
-  either-way : (l : Ledger) (c : Call) (f : ℕ) → (f ≡ 0 → Moves l (answerOf σ o l c) (joinedIn σ o c) (ledgerAfter σ o l c))
-      → Moves l (ledgerSays σ o l c f) (cond (eqb f 0) (joinedIn σ o c) []) (ledgerStep σ o l c f)
+  either-way : (l : Ledger) (c : Call) (f : ℕ) → (f ≡ 0 → Moves l (answerOf σ o l c) (callMessages σ o c) (ledgerAfter σ o l c))
+      → Moves l (ledgerSays σ o l c f) (cond (eqb f 0) (callMessages σ o c) []) (ledgerStep σ o l c f)
   either-way l c f g = go (eqb f 0) refl
     where
       go : (t : Bool) → eqb f 0 ≡ t
-          → Moves l (cond t (answerOf σ o l c) (refused f)) (cond t (joinedIn σ o c) []) (cond t (ledgerAfter σ o l c) l)
+          → Moves l (cond t (answerOf σ o l c) (refused f)) (cond t (callMessages σ o c) []) (cond t (ledgerAfter σ o l c) l)
       go true e = g (eqb-true f 0 e)
       go false e = stays l f
 

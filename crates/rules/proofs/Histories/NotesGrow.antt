@@ -17,7 +17,7 @@ use Rattle.rules.specs.Keyed.{find, without, changed}
 use Rattle.rules.specs.Server.{Opened, mostWaiting}
 use Rattle.rules.specs.Ledger.{Answer, Note, Pending, waitsOne, waitsTwo, noteIn, pendingId, waiting, Decided, Ledger, empty}
 use Rattle.rules.specs.Ledger.{idsOf, notesOf, sumsNoted}
-use Rattle.rules.specs.WholeRun.{notesIn}
+use Rattle.rules.specs.Pools.{notesIn}
 use Rattle.rules.proofs.Histories.Shuffled.{rearranged-in, rearranged-distinct, rearranged-before, rearranged-map, to-front}
 use Rattle.rules.proofs.Histories.Keyed.{found-out, changed-keeps}
 use Rattle.rules.proofs.Histories.Moves.{Moves, stays, notes, sums, judges, drops, closes, History, over, next, sumsOf}

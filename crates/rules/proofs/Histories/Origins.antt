@@ -10,35 +10,43 @@ use mathlib.Core.Option.{some}
 use Prim.Native.Nat.{ℕ, _≤_, _<_}
 use native.Mathlib.Omega.{arith}
 use lib.ListN.{length}
-use Rattle.algebra.specs.Lists.{In}
-use Rattle.algebra.proofs.Members.{in-append, append-in, in-map}
+use Rattle.algebra.specs.Lists.{In, countFrom}
+use Rattle.algebra.proofs.Members.{in-append, append-in, in-map, of-map, in-count, count-in}
 use Rattle.rules.specs.Settings.{Setting}
-use Rattle.rules.specs.Messages.{serverAt, bothZero}
+use Rattle.rules.specs.Messages.{serverIn, placeIn, bothZero}
 use Rattle.rules.specs.Keyed.{find, changed}
 use Rattle.rules.specs.Server.{Opened, messageOne}
 use Rattle.rules.specs.Ledger.{Answer, wrote, Note, Pending, waitsOne, noteIn, pendingId, Progress, isOpen, isClosed}
 use Rattle.rules.specs.Ledger.{accepted, rejected, Decided, Ledger, isAccepted, isDropped, notesWith, notesOf}
 use Rattle.rules.specs.Ledger.{closingMessage, noted, secondAnswer}
-use Rattle.rules.specs.WholeRun.{notesIn}
+use Rattle.rules.specs.Pools.{notesIn, messagesIn}
 use Rattle.rules.proofs.Histories.Shuffled.{rearranged-in}
-use Rattle.rules.proofs.Histories.JoinedRuns.{Joined}
+use Rattle.rules.proofs.Histories.JoinedRuns.{Joined, JoinedOne}
 use Rattle.rules.proofs.Histories.Keyed.{found-out, changed-keeps}
 use Rattle.rules.proofs.Histories.Moves.{at, Moves, stays, notes, sums, judges, drops, closes, History, over, next}
 use Rattle.rules.proofs.Histories.Moves.{verdictOn, dropOf, sumsOf}
 use Rattle.rules.proofs.Histories.NotesGrow.{keeps-notes, keeps-note}
 
 module _ (σ : Setting) (o : Opened) where
+  -- each message of a run was handed in
+  abbrev pub Handed : List (List ℕ) → ℕ → List ℕ → Type 0
+  Handed hs kind joined = (j : ℕ) → j < o .servers → In (placeIn σ kind joined j) hs
+
+  pub handed-here : (kind : ℕ) (joined : List ℕ) → Handed (messagesIn σ (o .servers) kind joined) kind joined
+  handed-here kind joined j l =
+      in-map (placeIn σ kind joined) j (countFrom 0 (o .servers)) (count-in 0 (o .servers) j (omega arith) (omega arith))
+
   -- ---- messages
   pub data Origin (ns : List Note) (hs : List (List ℕ)) (m : List ℕ) : Type 0 where
     of-share : (n : Note) → In n ns → m ≡ messageOne σ o (noted σ o n) → Origin ns hs m
-    of-one : (n : Note) → In n ns → (joined : List ℕ) → In joined hs → Joined σ (o .servers) 34 (n .id) joined
+    of-one : (n : Note) → In n ns → (joined : List ℕ) → Handed hs 34 joined → JoinedOne σ (o .servers) (n .id) joined
         → m ≡ secondAnswer σ o n joined → Origin ns hs m
     of-close : (l : Ledger) → m ≡ closingMessage σ o l → Origin ns hs m
 
   origin-more : {ns ms : List Note} {hs gs : List (List ℕ)} {m : List ℕ} → ((n : Note) → In n ns → In n ms)
       → ((j : List ℕ) → In j hs → In j gs) → Origin ns hs m → Origin ms gs m
   origin-more f g (of-share n h e) = of-share n (f n h) e
-  origin-more f g (of-one n h j k s e) = of-one n (f n h) j (g j k) s e
+  origin-more f g (of-one n h j k s e) = of-one n (f n h) j (λ i l. g _ (k i l)) s e
   origin-more f g (of-close l e) = of-close l e
 
   -- the note of a return that is found is noted, also with the sums
@@ -55,7 +63,7 @@ module _ (σ : Setting) (o : Opened) where
   unfolding notesIn
   first-origin (stays l n) m e = absurd (let z : _≡_ {A = ℕ} 0 1 = cc in omega arith)
   first-origin (notes ws ds n t) m e = of-share n (append-in n (notesOf ds) (n ∷ map noteIn ws) (inr (inl refl))) (cc)
-  first-origin (sums ws ds id n joined w s) m e = of-one n (found-in ws ds id (waitsOne n) joined w) joined (inl refl) s (cc)
+  first-origin (sums ws ds id n joined w s) m e = of-one n (found-in ws ds id (waitsOne n) joined w) joined (handed-here 34 joined) s (cc)
   first-origin (judges ws ds id p joined w s) m q = absurd (let z : _≡_ {A = ℕ} 0 1 = cc in omega arith)
   first-origin (drops ws ds id p w) m e = absurd (let z : _≡_ {A = ℕ} 0 1 = cc in omega arith)
   first-origin (closes ds q) m e = of-close (at (isOpen []) ds) (cc)
@@ -67,37 +75,38 @@ module _ (σ : Setting) (o : Opened) where
       origin-more (keeps-notes σ o r) (λ j k. append-in j h hs (inl k)) (first-origin mv m e)
   origin (next {h = h} {hs = hs} mv r) m (inr k) = origin-more (λ n q. q) (λ j q. append-in j h hs (inr q)) (origin r m k)
 
-  -- ---- joined messages that were handed in name servers that there are
+  -- ---- messages that were handed in name servers that there are
   abbrev Named : List ℕ → Type 0
-  Named joined = (j : ℕ) → j < o .servers → serverAt σ joined j < o .servers
+  Named m = serverIn m < o .servers
 
-  only-named : (kind id : ℕ) (run joined : List ℕ) → Joined σ (o .servers) kind id run → In joined (run ∷ []) → Named joined
-  only-named kind id run joined s (inl e) = subst Named e (λ j b. s .is-of-round j b .is-one)
-  only-named kind id run joined s (inr q) = absurd q
+  all-named : (kind id : ℕ) (joined m : List ℕ) → Joined σ (o .servers) kind id joined
+      → In m (messagesIn σ (o .servers) kind joined) → Named m
+  all-named kind id joined m s k =
+      let place = of-map (placeIn σ kind joined) m (countFrom 0 (o .servers)) k in
+      let within = in-count 0 (o .servers) (place .0) (place .1) in
+      subst Named (place .2) (s .is-of-round (place .0) (omega arith) .is-one)
 
-  first-named : {l l′ : Ledger} {a : Answer} {h : List (List ℕ)} → Moves σ o l a h l′ → (joined : List ℕ) → In joined h → Named joined
-  first-named (stays l n) joined k = absurd k
-  first-named (notes ws ds n t) joined k = absurd k
-  first-named (sums ws ds id n run w s) joined k = only-named 34 (n .id) run joined s k
-  first-named (judges ws ds id p run w s) joined k = only-named 35 (noteIn p .id) run joined s k
-  first-named (drops ws ds id p w) joined k = absurd k
-  first-named (closes ds q) joined k = absurd k
+  first-named : {l l′ : Ledger} {a : Answer} {h : List (List ℕ)} → Moves σ o l a h l′ → (m : List ℕ) → In m h → Named m
+  first-named (stays l n) m k = absurd k
+  first-named (notes ws ds n t) m k = absurd k
+  first-named (sums ws ds id n joined w s) m k = all-named 34 (n .id) joined m (s .each) k
+  first-named (judges ws ds id p joined w s) m k = all-named 35 (noteIn p .id) joined m s k
+  first-named (drops ws ds id p w) m k = absurd k
+  first-named (closes ds q) m k = absurd k
 
-  pub handed-named : {l l′ : Ledger} {xs : List Answer} {hs : List (List ℕ)} → History σ o l xs hs l′
-      → (joined : List ℕ) → In joined hs → Named joined
-  handed-named (over l) joined k = absurd k
-  handed-named (next {h = h} {hs = hs} mv r) joined k =
-      ⊎-elim (λ q. first-named mv joined q) (λ q. handed-named r joined q) (in-append joined h hs k)
+  pub handed-named : {l l′ : Ledger} {xs : List Answer} {hs : List (List ℕ)} → History σ o l xs hs l′ → (m : List ℕ) → In m hs → Named m
+  handed-named (over l) m k = absurd k
+  handed-named (next {h = h} {hs = hs} mv r) m k = ⊎-elim (λ q. first-named mv m q) (λ q. handed-named r m q) (in-append m h hs k)
 
   -- ---- decisions
   pub record JudgedOn (hs : List (List ℕ)) (k : Decided) : Type 0 where
     pub joined : List ℕ
-    pub handed : In joined hs
+    pub handed : Handed hs 35 joined
     pub sound : Joined σ (o .servers) 35 (k .note .id) joined
     pub says : isAccepted (k .decision) ≡ bothZero σ (o .servers) joined
 
   judged-more : {hs gs : List (List ℕ)} {k : Decided} → ((j : List ℕ) → In j hs → In j gs) → JudgedOn hs k → JudgedOn gs k
-  judged-more g q = record { joined = q .joined; handed = g (q .joined) (q .handed); sound = q .sound; says = q .says }
+  judged-more g q = record { joined = q .joined; handed = λ j l. g _ (q .handed j l); sound = q .sound; says = q .says }
 
   verdict-is : (b : Bool) → isAccepted (cond b accepted rejected) ≡ b
   verdict-is true = refl
@@ -117,9 +126,10 @@ module _ (σ : Setting) (o : Opened) where
   first-judged (notes ws ds n t) k h f = inl h
   first-judged (sums ws ds id n joined w s) k h f = inl h
   first-judged (judges ws ds id p joined w s) k h f =
-      ⊎-elim (λ q. inl q) (λ (q : verdictOn σ o (noteIn p) joined ≡ k). inr (subst (JudgedOn (joined ∷ [])) q (record {
+      ⊎-elim (λ q. inl q)
+      (λ (q : verdictOn σ o (noteIn p) joined ≡ k). inr (subst (JudgedOn (messagesIn σ (o .servers) 35 joined)) q (record {
         joined = joined;
-        handed = inl refl;
+        handed = handed-here 35 joined;
         sound = s;
         says = verdict-is (bothZero σ (o .servers) joined);
       }))) (last-or ds (verdictOn σ o (noteIn p) joined) k h)

@@ -7,7 +7,7 @@ use Rattle.records.specs.Outcome.{ok}
 use Rattle.rules.specs.Settings.{Setting}
 use Rattle.rules.specs.Columns.{readSheet}
 use Rattle.rules.specs.Table.{Lent}
-use Rattle.rules.specs.WholeRun.{Pool, columns}
+use Rattle.rules.specs.Pools.{Pool, columns}
 use Rattle.rules.proofs.Circuits.Limits.{Limits, within-both}
 use Rattle.rules.proofs.Circuits.Refusals.{sheet-read, sheet-limits}
 use Rattle.rules.proofs.Histories.Opening.{Opening, opening}

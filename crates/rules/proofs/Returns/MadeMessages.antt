@@ -27,14 +27,14 @@ use Rattle.rules.specs.Values.{legalValues, encoding}
 use Rattle.rules.specs.Judging.{shareSize, addedUp}
 use Rattle.rules.specs.Making.{shareOf, madeWhole, shareMessage, shareLength, randomCount, madeFrom, valuesFault}
 use Rattle.rules.specs.Making.{randomFault, makeRefusal, makeBytes}
-use Rattle.rules.specs.Messages.{idIn, shareElements, headerFault, elementsFault, oneByOne}
+use Rattle.rules.specs.Messages.{idIn, elementsIn, headerFault, elementsFault, oneByOne}
 use Rattle.rules.specs.Made.{madePart, shareMade, elementRead, MadeReturn}
 use Rattle.rules.proofs.Circuits.Limits.{within-both}
 use Rattle.rules.proofs.Circuits.Refusals.{sheet-limits}
 use Rattle.rules.proofs.Circuits.Encoding.{entry-below-modulus}
 use Rattle.rules.proofs.Returns.Shares.{Made, made, added-is-whole}
 use Rattle.rules.proofs.Histories.MessageBytes.{width-positive, length-one-by-one, part-one-by-one}
-use Rattle.rules.proofs.Histories.ShareBytes.{length-share, share-kind, share-id, share-server, share-elements}
+use Rattle.rules.proofs.Histories.MessageBytes.{length-message, kind-read, id-read, server-read, elements-read}
 use Rattle.rules.proofs.Histories.Checks.{check-passed}
 
 -- a part, place by place
@@ -127,15 +127,15 @@ module _ (σ : Setting) (facts : Facts σ) (sheet : List ℕ) (servers : ℕ) (v
 
     message-length : (i : ℕ) → length (messages i) ≡ shareLength σ cs
     unfolding shareLength
-    message-length i = length-share σ id i (shares i) ∙ ap (λ k. 6 + σ .width * k) (shared .share-length i)
+    message-length i = length-message σ 33 id i (shares i) ∙ ap (λ k. 6 + σ .width * k) (shared .share-length i)
 
     at-place : (i : ℕ) → i < servers → read i ≡ messages i
     at-place i l =
         ap (λ (v : List ℕ). part (shareLength σ cs * i) (shareLength σ cs) v) bytes-are
         ∙ part-one-by-one messages (shareLength σ cs) servers (λ k h. message-length k) i l
 
-    share-read : (i : ℕ) → i < servers → shareElements σ (read i) ≡ shares i
-    share-read i l = ap (shareElements σ) (at-place i l) ∙ share-elements σ id i (shares i) facts (shared .share-below i)
+    share-read : (i : ℕ) → i < servers → elementsIn σ (read i) ≡ shares i
+    share-read i l = ap (elementsIn σ) (at-place i l) ∙ elements-read σ 33 id i (shares i) facts (shared .share-below i)
 
     -- the share of each server but the first is a part of the random elements
     share-drawn : (i : ℕ) → suc i < servers → shares (suc i) ≡ part (4 + i * shareSize cs) (shareSize cs) zs
@@ -150,8 +150,8 @@ module _ (σ : Setting) (facts : Facts σ) (sheet : List ℕ) (servers : ℕ) (v
         rw (
           at-place i l,
           eq-eqb _ _ (message-length i),
-          eq-eqb _ _ (share-kind σ id i (shares i)),
-          eq-eqb _ _ (share-server σ id i (shares i)),
+          eq-eqb _ _ (kind-read σ 33 id i (shares i)),
+          eq-eqb _ _ (server-read σ 33 id i (shares i)),
         )
 
     elements-pass : (i : ℕ) → i < servers → elementsFault σ (read i) ≡ 0
@@ -175,7 +175,7 @@ module _ (σ : Setting) (facts : Facts σ) (sheet : List ℕ) (servers : ℕ) (v
           ∙ length-one-by-one messages (shareLength σ cs) servers (λ k h. message-length k)
           ∙ mul-comm (shareLength σ cs) servers;
       message-is = at-place;
-      id-is = λ fits i l. ap idIn (at-place i l) ∙ share-id σ id i (shares i) fits;
+      id-is = λ fits i l. ap idIn (at-place i l) ∙ id-read σ 33 id i (shares i) fits;
       header-sound = header-passes;
       elements-sound = elements-pass;
       share-is = share-read;

@@ -1,13 +1,14 @@
--- Under the conditions, joined messages that were handed in without refusal are a function of the shares noted: each was
--- written by the server that it names, for its round and id, ids differ, and each server is named once. So the sums, and the
--- verdict, are the same at every server that judges a return to the end. Assumes the conditions of whole runs.
+-- Where messages are unaltered, those that were handed in without refusal are a function of the shares noted: each was written by
+-- the server that it names, for its round and id, ids differ, and each server is named once. So the sums, and the verdict, are the
+-- same at every server that judges a return to the end. Assumes that messages are unaltered.
 use mathlib.Core.Path.{_≡_, sym, ap, ap₂, _∙_, subst}
 use mathlib.Core.Logic.{⊎-elim}
 use mathlib.Core.Bool.{Bool, false, _&&_}
-use mathlib.Core.List.{List, []}
+use mathlib.Core.List.{List, [], _∷_}
 use Prim.Native.Nat.{ℕ, _<_}
 use native.Mathlib.Omega.{arith}
 use lib.Dec.{eqb}
+use lib.ListN.{getD}
 use Rattle.algebra.specs.Lists.{In, Distinct, countFrom}
 use Rattle.algebra.specs.Modulo.{modulo}
 use Rattle.algebra.specs.Sums.{sum}
@@ -15,18 +16,19 @@ use Rattle.algebra.proofs.Members.{of-map, in-count, count-in}
 use Rattle.algebra.proofs.Rearrangement.{rearranged-sym}
 use Rattle.algebra.proofs.Sums.{sum-ext}
 use Rattle.rules.specs.Settings.{Setting, Facts}
-use Rattle.rules.specs.Messages.{kindIn, idIn, firstIn, secondIn, placeIn, serverAt, firstSum, secondSum, bothZero}
-use Rattle.rules.specs.Server.{Waiting, sigmaIn, messageOne, messageTwo, withSums}
+use Rattle.rules.specs.Messages.{kindIn, idIn, elementsIn, placeIn, serverAt, elementSum, firstSum, secondSum, bothZero}
+use Rattle.rules.specs.Server.{Waiting, waitingOf, sigmaIn, messageOne, messageTwo, withSums}
 use Rattle.rules.specs.Ledger.{Note, Decided, empty, isAccepted, isDropped, idsOf, noted, secondAnswer}
-use Rattle.rules.specs.WholeRun.{Pool, openedAt, ledgerAt, answersAt, noteUnder, handedIn, notesAt, Conditions}
-use Rattle.rules.proofs.Histories.JoinedRuns.{IsOf, Joined, sum-order}
+use Rattle.rules.specs.Pools.{Pool, columns, openedAt, ledgerAt, answersAt, noteUnder, handedIn, notesAt, Unaltered}
+use Rattle.rules.proofs.Histories.JoinedRuns.{IsOf, Joined, JoinedOne, sum-order}
 use Rattle.rules.proofs.Histories.Shuffled.{rearranged-in}
 use Rattle.rules.proofs.Histories.Keyed.{under-in}
 use Rattle.rules.proofs.Histories.Moves.{History, history}
 use Rattle.rules.proofs.Histories.NotesGrow.{Sound, sound-notes}
-use Rattle.rules.proofs.Histories.Origins.{Origin, of-share, of-one, of-close, origin, JudgedOn, judged-on}
-use Rattle.rules.proofs.Histories.OwnMessages.{kind-one, id-one, first-one, second-one, kind-two}
-use Rattle.rules.proofs.Histories.OwnMessages.{id-two, first-two, second-two, id-noted, kind-closing, d-below, e-below, tau-below}
+use Rattle.rules.proofs.Histories.Origins.{Handed, Origin, of-share, of-one, of-close, origin, JudgedOn, judged-on}
+use Rattle.rules.proofs.Histories.Summing.{SummedOn}
+use Rattle.rules.proofs.Histories.OwnMessages.{kind-one, id-one, elements-one, kind-two, id-two, elements-two}
+use Rattle.rules.proofs.Histories.OwnMessages.{id-noted, kind-closing, pair-below, d-below, e-below, tau-below}
 
 -- the share under an id is the one that was noted
 pub noteUnder-in : (n : Note) (ns : List Note) → Distinct (idsOf ns) → In n ns → noteUnder (n .id) ns ≡ n
@@ -60,6 +62,10 @@ module _ (σ : Setting) (𝓟 : Pool σ) where
   abbrev pub verdictAll : ℕ → Bool
   verdictAll id = eqb (sigmaAll id) 0 && eqb (tauAll id) 0
 
+  -- server q took round one on an id
+  abbrev pub Summed : ℕ → ℕ → Type 0
+  Summed id q = SummedOn σ (openedAt σ 𝓟 q) (handedIn σ (openedAt σ 𝓟 q) empty (𝓟 .calls q)) id
+
   -- server q noted a share under the id
   pub record Noted (id q : ℕ) : Type 0 where
     pub is-in : In (shareAt id q) (notesAt σ 𝓟 q)
@@ -80,122 +86,137 @@ module _ (σ : Setting) (𝓟 : Pool σ) where
       let f : shareAt id q ≡ n = found id q b n h e in
       record { is-in = subst (λ (v : Note). In v (notesAt σ 𝓟 q)) (sym f) h; has-id = ap (λ (v : Note). v .id) f ∙ e }
 
-  module _ (facts : Facts σ) (𝓒 : Conditions σ 𝓟) where
-    abbrev Handed : ℕ → List ℕ → Type 0
-    Handed i joined = In joined (handedIn σ (openedAt σ 𝓟 i) empty (𝓟 .calls i))
+  module _ (facts : Facts σ) (𝓤 : Unaltered σ 𝓟) where
+    abbrev pub HandedAt : ℕ → ℕ → List ℕ → Type 0
+    HandedAt i = Handed σ (openedAt σ 𝓟 i) (handedIn σ (openedAt σ 𝓟 i) empty (𝓟 .calls i))
 
-    -- the server that a place names
-    abbrev named : List ℕ → ℕ → ℕ
-    named joined j = serverAt σ joined j
+    abbrev OriginAt : ℕ → List ℕ → Type 0
+    OriginAt q m = Origin σ (openedAt σ 𝓟 q) (notesAt σ 𝓟 q) (handedIn σ (openedAt σ 𝓟 q) empty (𝓟 .calls q)) m
 
-    abbrev OriginAt : List ℕ → ℕ → ℕ → Type 0
-    OriginAt joined j q =
-        Origin σ (openedAt σ 𝓟 q) (notesAt σ 𝓟 q) (handedIn σ (openedAt σ 𝓟 q) empty (𝓟 .calls q)) (placeIn σ joined j)
-
-    origin-at : (i j : ℕ) → i < 𝓟 .servers → j < 𝓟 .servers → (joined : List ℕ) → Handed i joined
-        → named joined j < 𝓟 .servers → OriginAt joined j (named joined j)
-    origin-at i j l b joined h c =
-        origin σ (openedAt σ 𝓟 (named joined j)) (history-at (named joined j) c) (placeIn σ joined j) (𝓒 .unaltered i j l b joined h)
+    -- the message at a place was written by the server that it names
+    origin-at : (i j : ℕ) → i < 𝓟 .servers → j < 𝓟 .servers → (kind : ℕ) (joined : List ℕ) → HandedAt i kind joined
+        → serverAt σ kind joined j < 𝓟 .servers → OriginAt (serverAt σ kind joined j) (placeIn σ kind joined j)
+    origin-at i j l b kind joined h c =
+        let q = serverAt σ kind joined j in
+        origin σ (openedAt σ 𝓟 q) (history-at q c) (placeIn σ kind joined j) (𝓤 i l (placeIn σ kind joined j) (h j b))
 
     -- ---- round one
-    first-of : (q : ℕ) → q < 𝓟 .servers → (id : ℕ) (joined : List ℕ) (j : ℕ) → IsOf (𝓟 .servers) 34 id (placeIn σ joined j)
-        → OriginAt joined j q → placeIn σ joined j ≡ messageOne σ (openedAt σ 𝓟 q) (firstAt id q)
-    first-of q b id joined j f (of-share n a e) =
+    -- the elements of server q's message under an id
+    abbrev oneElements : ℕ → ℕ → List ℕ
+    oneElements id q = firstAt id q .d ∷ firstAt id q .e ∷ shareAt id q .r ∷ shareAt id q .s ∷ []
+
+    pub record First (m : List ℕ) (id q : ℕ) : Type 0 where
+      pub says : elementsIn σ m ≡ oneElements id q
+      pub of : Noted id q
+
+    first-says : (q : ℕ) → q < 𝓟 .servers → (id : ℕ) → Noted id q
+        → elementsIn σ (messageOne σ (openedAt σ 𝓟 q) (firstAt id q)) ≡ oneElements id q
+    unfolding waitingOf
+    first-says q b id n =
+        let o = openedAt σ 𝓟 q in
+        let v : Note = shareAt id q in
+        let low = pair-below σ (columns σ 𝓟) (v .r) (v .s) (sound-at q b .pairs v (n .is-in)) in
+        elements-one σ facts o (firstAt id q) (d-below σ facts o v) (e-below σ facts o v) (low .0) (low .1)
+
+    first-of : (q : ℕ) → q < 𝓟 .servers → (id : ℕ) (m : List ℕ) → IsOf (𝓟 .servers) 34 id m → OriginAt q m → First m id q
+    first-of q b id m f (of-share n a e) =
         let o = openedAt σ 𝓟 q in
         let r : idIn (messageOne σ o (noted σ o n)) ≡ noted σ o n .id =
         id-one σ o (noted σ o n) (rw (id-noted σ o n) (sound-at q b .ids-fit n a)) in
         let same : n .id ≡ id = sym (id-noted σ o n) ∙ sym r ∙ ap idIn (sym e) ∙ f .id-is in
-        e ∙ ap (λ (v : Note). messageOne σ o (noted σ o v)) (sym (found id q b n a same))
-    first-of q b id joined j f (of-one n a k h s e) =
-        let z : kindIn (placeIn σ joined j) ≡ 35 = ap kindIn e ∙ kind-two σ (openedAt σ 𝓟 q) _ in
+        let is : m ≡ messageOne σ o (firstAt id q) =
+        e ∙ ap (λ (v : Note). messageOne σ o (noted σ o v)) (sym (found id q b n a same)) in
+        let here : Noted id q = is-noted id q b n a same in
+        record { says = ap (elementsIn σ) is ∙ first-says q b id here; of = here }
+    first-of q b id m f (of-one n a k h s e) =
+        let z : kindIn m ≡ 35 = ap kindIn e ∙ kind-two σ (openedAt σ 𝓟 q) _ in
         absurd (omega (arith, f .kind-is))
-    first-of q b id joined j f (of-close m e) =
-        let z : kindIn (placeIn σ joined j) ≡ σ .totalsByte = ap kindIn e ∙ kind-closing σ (openedAt σ 𝓟 q) m in
+    first-of q b id m f (of-close l e) =
+        let z : kindIn m ≡ σ .totalsByte = ap kindIn e ∙ kind-closing σ (openedAt σ 𝓟 q) l in
         absurd (omega (arith, f .kind-is, facts .apart))
 
-    module _ (i : ℕ) (l : i < 𝓟 .servers) (id : ℕ) (joined : List ℕ) (h : Handed i joined)
+    module _ (i : ℕ) (l : i < 𝓟 .servers) (id : ℕ) (joined : List ℕ) (h : HandedAt i 34 joined)
         (s : Joined σ (𝓟 .servers) 34 id joined) where
-      place-one : (j : ℕ) → j < 𝓟 .servers
-          → placeIn σ joined j ≡ messageOne σ (openedAt σ 𝓟 (named joined j)) (firstAt id (named joined j))
+      abbrev named : ℕ → ℕ
+      named = serverAt σ 34 joined
+
+      pub place-one : (j : ℕ) → j < 𝓟 .servers → First (placeIn σ 34 joined j) id (named j)
       place-one j b =
-          let c : named joined j < 𝓟 .servers = s .is-of-round j b .is-one in
-          first-of (named joined j) c id joined j (s .is-of-round j b) (origin-at i j l b joined h c)
+          let c : named j < 𝓟 .servers = s .is-of-round j b .is-one in
+          first-of (named j) c id (placeIn σ 34 joined j) (s .is-of-round j b) (origin-at i j l b 34 joined h c)
 
       -- a sum over the places, by the servers that they name
-      first-sum : firstSum σ (𝓟 .servers) joined ≡ dAll id
-      unfolding firstSum
-      first-sum = sum-ext (modulo (σ .modulus)) (𝓟 .servers) _ (λ j. firstAt id (named joined j) .d) (λ j b.
-          ap (firstIn σ) (place-one j b)
-          ∙ first-one σ facts (openedAt σ 𝓟 (named joined j)) (firstAt id (named joined j))
-          (d-below σ facts (openedAt σ 𝓟 (named joined j)) (shareAt id (named joined j))))
-          ∙ sum-order (σ .modulus) (𝓟 .servers) (named joined) (λ q. firstAt id q .d) (s .each-once)
-
-      second-sum : secondSum σ (𝓟 .servers) joined ≡ eAll id
-      unfolding secondSum
-      second-sum = sum-ext (modulo (σ .modulus)) (𝓟 .servers) _ (λ j. firstAt id (named joined j) .e) (λ j b.
-          ap (secondIn σ) (place-one j b)
-          ∙ second-one σ facts (openedAt σ 𝓟 (named joined j)) (firstAt id (named joined j))
-          (e-below σ facts (openedAt σ 𝓟 (named joined j)) (shareAt id (named joined j))))
-          ∙ sum-order (σ .modulus) (𝓟 .servers) (named joined) (λ q. firstAt id q .e) (s .each-once)
+      one-sum : (k : ℕ) → elementSum σ k 34 (𝓟 .servers) joined
+          ≡ sum (modulo (σ .modulus)) (𝓟 .servers) (λ q. getD (oneElements id q) k 0)
+      unfolding elementSum
+      one-sum k =
+          sum-ext (modulo (σ .modulus)) (𝓟 .servers) _ (λ j. getD (oneElements id (named j)) k 0)
+          (λ j b. ap (λ (v : List ℕ). getD v k 0) (place-one j b .says))
+          ∙ sum-order (σ .modulus) (𝓟 .servers) named (λ q. getD (oneElements id q) k 0) (s .each-once)
 
     -- ---- round two
-    record Second (joined : List ℕ) (j id q : ℕ) : Type 0 where
-      is : placeIn σ joined j ≡ messageTwo σ (openedAt σ 𝓟 q) (secondAt id q)
+    -- server q took round one under the id, and this is what it wrote then
+    record Second (m : List ℕ) (id q : ℕ) : Type 0 where
+      says : elementsIn σ m ≡ sigmaIn σ (openedAt σ 𝓟 q) (secondAt id q) ∷ firstAt id q .tau ∷ []
       of : Noted id q
+      took : Summed id q
 
-    second-of : (q : ℕ) → q < 𝓟 .servers → (id : ℕ) (joined : List ℕ) (j : ℕ) → IsOf (𝓟 .servers) 35 id (placeIn σ joined j)
-        → OriginAt joined j q → Second joined j id q
-    second-of q b id joined j f (of-share n a e) =
-        let z : kindIn (placeIn σ joined j) ≡ 34 = ap kindIn e ∙ kind-one σ (openedAt σ 𝓟 q) _ in
+    second-of : (q : ℕ) → q < 𝓟 .servers → (id : ℕ) (m : List ℕ) → IsOf (𝓟 .servers) 35 id m → OriginAt q m → Second m id q
+    second-of q b id m f (of-share n a e) =
+        let z : kindIn m ≡ 34 = ap kindIn e ∙ kind-one σ (openedAt σ 𝓟 q) _ in
         absurd (omega (arith, f .kind-is))
-    second-of q b id joined j f (of-one n a k h s e) =
+    second-of q b id m f (of-one n a k h s e) =
         let o = openedAt σ 𝓟 q in
-        let w = withSums (noted σ o n) (firstSum σ (𝓟 .servers) k) (secondSum σ (𝓟 .servers) k) in
+        let w = withSums (noted σ o n) (firstSum σ 34 (𝓟 .servers) k) (secondSum σ 34 (𝓟 .servers) k) in
         let r : idIn (secondAnswer σ o n k) ≡ w .id =
         id-two σ o w (rw (id-noted σ o n) (sound-at q b .ids-fit n a)) in
         let same : n .id ≡ id = sym (id-noted σ o n) ∙ sym r ∙ ap idIn (sym e) ∙ f .id-is in
-        let s′ : Joined σ (𝓟 .servers) 34 id k = subst (λ (v : ℕ). Joined σ (𝓟 .servers) 34 v k) same s in
-        let d : firstSum σ (𝓟 .servers) k ≡ dAll id = first-sum q b id k h s′ in
-        let c : secondSum σ (𝓟 .servers) k ≡ eAll id = second-sum q b id k h s′ in
+        let s′ : JoinedOne σ (𝓟 .servers) id k = subst (λ (v : ℕ). JoinedOne σ (𝓟 .servers) v k) same s in
+        let is : m ≡ messageTwo σ o (secondAt id q) =
+        e
+        ∙ ap₂ (λ (x y : ℕ). messageTwo σ o (withSums (noted σ o n) x y)) (one-sum q b id k h (s′ .each) 0) (one-sum q b id k h (s′ .each) 1)
+        ∙ ap (λ (v : Note). messageTwo σ o (withSums (noted σ o v) (dAll id) (eAll id))) (sym (found id q b n a same)) in
         record {
-          is =
-              e
-              ∙ ap₂ (λ (x y : ℕ). messageTwo σ o (withSums (noted σ o n) x y)) d c
-              ∙ ap (λ (v : Note). messageTwo σ o (withSums (noted σ o v) (dAll id) (eAll id)))
-              (sym (found id q b n a same));
+          says = ap (elementsIn σ) is ∙ elements-two σ facts o (secondAt id q) (tau-below σ facts o (shareAt id q));
           of = is-noted id q b n a same;
+          took = record { joined = k; handed = h; sound = s′ };
         }
-    second-of q b id joined j f (of-close m e) =
-        let z : kindIn (placeIn σ joined j) ≡ σ .totalsByte = ap kindIn e ∙ kind-closing σ (openedAt σ 𝓟 q) m in
+    second-of q b id m f (of-close l e) =
+        let z : kindIn m ≡ σ .totalsByte = ap kindIn e ∙ kind-closing σ (openedAt σ 𝓟 q) l in
         absurd (omega (arith, f .kind-is, facts .apart))
 
-    module _ (i : ℕ) (l : i < 𝓟 .servers) (id : ℕ) (joined : List ℕ) (h : Handed i joined)
+    module _ (i : ℕ) (l : i < 𝓟 .servers) (id : ℕ) (joined : List ℕ) (h : HandedAt i 35 joined)
         (s : Joined σ (𝓟 .servers) 35 id joined) where
-      place-two : (j : ℕ) → j < 𝓟 .servers → Second joined j id (named joined j)
+      abbrev named₂ : ℕ → ℕ
+      named₂ = serverAt σ 35 joined
+
+      place-two : (j : ℕ) → j < 𝓟 .servers → Second (placeIn σ 35 joined j) id (named₂ j)
       place-two j b =
-          let c : named joined j < 𝓟 .servers = s .is-of-round j b .is-one in
-          second-of (named joined j) c id joined j (s .is-of-round j b) (origin-at i j l b joined h c)
+          let c : named₂ j < 𝓟 .servers = s .is-of-round j b .is-one in
+          second-of (named₂ j) c id (placeIn σ 35 joined j) (s .is-of-round j b) (origin-at i j l b 35 joined h c)
+
+      abbrev twoElements : ℕ → List ℕ
+      twoElements q = sigmaIn σ (openedAt σ 𝓟 q) (secondAt id q) ∷ firstAt id q .tau ∷ []
+
+      two-sum : (k : ℕ) → elementSum σ k 35 (𝓟 .servers) joined ≡ sum (modulo (σ .modulus)) (𝓟 .servers) (λ q. getD (twoElements q) k 0)
+      unfolding elementSum
+      two-sum k =
+          sum-ext (modulo (σ .modulus)) (𝓟 .servers) _ (λ j. getD (twoElements (named₂ j)) k 0)
+          (λ j b. ap (λ (v : List ℕ). getD v k 0) (place-two j b .says))
+          ∙ sum-order (σ .modulus) (𝓟 .servers) named₂ (λ q. getD (twoElements q) k 0) (s .each-once)
 
       both-zero : bothZero σ (𝓟 .servers) joined ≡ verdictAll id
-      unfolding bothZero firstSum secondSum
-      both-zero =
-          ap₂ (λ (x y : ℕ). eqb x 0 && eqb y 0)
-          (sum-ext (modulo (σ .modulus)) (𝓟 .servers) _ (λ j. sigmaIn σ (openedAt σ 𝓟 (named joined j)) (secondAt id (named joined j)))
-          (λ j b. ap (firstIn σ) (place-two j b .is) ∙ first-two σ facts (openedAt σ 𝓟 (named joined j)) (secondAt id (named joined j)))
-          ∙ sum-order (σ .modulus) (𝓟 .servers) (named joined) (λ q. sigmaIn σ (openedAt σ 𝓟 q) (secondAt id q)) (s .each-once))
-          (sum-ext (modulo (σ .modulus)) (𝓟 .servers) _ (λ j. firstAt id (named joined j) .tau)
-          (λ j b. ap (secondIn σ) (place-two j b .is)
-          ∙ second-two σ facts (openedAt σ 𝓟 (named joined j)) (secondAt id (named joined j))
-          (tau-below σ facts (openedAt σ 𝓟 (named joined j)) (shareAt id (named joined j))))
-          ∙ sum-order (σ .modulus) (𝓟 .servers) (named joined) (λ q. firstAt id q .tau) (s .each-once))
+      unfolding bothZero
+      both-zero = ap₂ (λ (x y : ℕ). eqb x 0 && eqb y 0) (two-sum 0) (two-sum 1)
 
       -- each server is named at some place
-      noted-at : (q : ℕ) → q < 𝓟 .servers → Noted id q
-      noted-at q b =
-          let place = of-map (named joined) q (countFrom 0 (𝓟 .servers))
+      pub second-at : (q : ℕ) → q < 𝓟 .servers → Noted id q × Summed id q
+      second-at q b =
+          let place = of-map named₂ q (countFrom 0 (𝓟 .servers))
           (rearranged-in q (rearranged-sym (s .each-once)) (count-in 0 (𝓟 .servers) q (omega arith) (omega arith))) in
           let within = in-count 0 (𝓟 .servers) (place .0) (place .1) in
-          subst (Noted id) (place .2) (place-two (place .0) (omega arith) .of)
+          let two = place-two (place .0) (omega arith) in
+          subst (λ (v : ℕ). Noted id v × Summed id v) (place .2) (two .of, two .took)
 
     -- ---- a return judged to the end
     module _ (i : ℕ) (l : i < 𝓟 .servers) (k : Decided) (h : In k (ledgerAt σ 𝓟 i .decided))
@@ -208,5 +229,5 @@ module _ (σ : Setting) (𝓟 : Pool σ) where
       agreed =
           judgement .says ∙ both-zero i l (k .note .id) (judgement .joined) (judgement .handed) (judgement .sound)
 
-      pub noted-everywhere : (q : ℕ) → q < 𝓟 .servers → Noted (k .note .id) q
-      noted-everywhere = noted-at i l (k .note .id) (judgement .joined) (judgement .handed) (judgement .sound)
+      pub judged-everywhere : (q : ℕ) → q < 𝓟 .servers → Noted (k .note .id) q × Summed (k .note .id) q
+      judged-everywhere = second-at i l (k .note .id) (judgement .joined) (judgement .handed) (judgement .sound)

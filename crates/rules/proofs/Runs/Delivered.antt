@@ -18,8 +18,8 @@ use Rattle.rules.specs.Server.{Opened, messageOne, messageTwo}
 use Rattle.rules.specs.Ledger.{Call, share, wrote, judged, Note, waitsOne, noteIn, isOpen, waiting, Ledger}
 use Rattle.rules.specs.Ledger.{empty, notesOf}
 use Rattle.rules.specs.Ledger.{noteOf, refusalOf, ledgerAfter, ledgerStep, runLedger, ledgerAnswers}
-use Rattle.rules.specs.WholeRun.{BytesIn, Pool, columns, openedAt, ledgerAt, notesIn, notesAt, Ready}
-use Rattle.rules.specs.WholeRun.{bothRounds, firstWait, secondWait}
+use Rattle.rules.specs.Pools.{BytesIn, Pool, columns, openedAt, ledgerAt, notesIn, notesAt}
+use Rattle.rules.specs.WholeRun.{Ready, bothRounds, firstWait, secondWait}
 use Rattle.rules.specs.Made.{madePart, shareMade, MadeReturn, NotedFrom, Took, MadeOf, CanTake, MadeAccepted}
 use Rattle.rules.proofs.Returns.Shares.{Made, made}
 use Rattle.rules.proofs.Returns.OnSheets.{sheet-honest-let-in}
@@ -109,7 +109,7 @@ module _ (σ : Setting) (facts : Facts σ) (𝓟 : Pool σ) (id : ℕ) (values r
       noted-whole fits (λ i l. (took i l .r, took i l .s, took-noted σ 𝓟 i l (message i) (took i l)))
 
   -- where the servers can take it
-  module _ (r s lent : ℕ) (free : CanTake σ 𝓟 id r s lent) where
+  module _ (r s lent roundLent : ℕ) (free : CanTake σ 𝓟 id r s lent roundLent) where
     abbrev shares : ℕ → List ℕ
     shares = shareMade σ (𝓟 .sheet) (𝓟 .servers) id values random
 
@@ -120,7 +120,7 @@ module _ (σ : Setting) (facts : Facts σ) (𝓟 : Pool σ) (id : ℕ) (values r
     sound =
         made σ facts (columns σ 𝓟) (𝓟 .servers) (elementsOf 4 values) (elementsOf (σ .width) random) (𝓟 .some-server) drawn
 
-    pub made-ready : Ready σ 𝓟 id shares r s lent
+    pub made-ready : Ready σ 𝓟 id shares r s lent roundLent
     made-ready = record {
       waits = free .waits;
       open-all = free .open-all;
@@ -132,6 +132,7 @@ module _ (σ : Setting) (facts : Facts σ) (𝓟 : Pool σ) (id : ℕ) (values r
       below = λ i l. sound .share-below i;
       pair = free .pair;
       enough = free .enough;
+      enough-one = free .enough-one;
     }
 
     let-in : letsIn σ (columns σ 𝓟) (𝓟 .servers) (λ j e. getD (shares j) e 0) r s ≡ true
@@ -139,11 +140,11 @@ module _ (σ : Setting) (facts : Facts σ) (𝓟 : Pool σ) (id : ℕ) (values r
         sheet-honest-let-in σ facts (𝓟 .sheet) (columns σ 𝓟) (is-read σ 𝓟) (𝓟 .servers) (𝓟 .some-server)
         (elementsOf 4 values) (elementsOf (σ .width) random) (known .legal) drawn r s (free .pair)
 
-    pub made-accepted : MadeAccepted σ 𝓟 id values random r s lent
+    pub made-accepted : MadeAccepted σ 𝓟 id values random r s lent roundLent
     made-accepted i l ones twos p q =
         let o = openedAt σ 𝓟 i in
-        ap (λ (m : List ℕ). ledgerAnswers σ o (ledgerAt σ 𝓟 i) (share m r s lent ∷ bothRounds id ones twos lent))
+        ap (λ (m : List ℕ). ledgerAnswers σ o (ledgerAt σ 𝓟 i) (share m r s lent ∷ bothRounds id ones twos roundLent))
         (whole-of .message-is i l)
-        ∙ handled σ facts 𝓟 id shares r s lent made-ready ones twos p q i l
+        ∙ handled σ facts 𝓟 id shares r s lent roundLent made-ready ones twos p q i l
         ∙ ap (λ (b : Bool). wrote (messageOne σ o (firstWait σ 𝓟 id shares r s i))
         ∷ wrote (messageTwo σ o (secondWait σ 𝓟 id shares r s i)) ∷ judged b ∷ []) let-in

@@ -20,8 +20,8 @@ use Rattle.rules.specs.Columns.{Column, yesNo, choice, number, published
 use Rattle.rules.specs.Columns.{publishedFrom}
 use Rattle.rules.specs.Values.{encoded, legalValues, encoding}
 use Rattle.rules.specs.Judging.{addedUp}
-use Rattle.rules.specs.WholeRun.{Pool, columns, acceptedAt, addedEntry, KeepsForm, DeliveredWhole, Conditions}
-use Rattle.rules.specs.WholeRun.{AllClosed, Closed}
+use Rattle.rules.specs.Pools.{Pool, columns, acceptedAt, addedEntry, KeepsForm, DeliveredWhole, Conditions, AllClosed}
+use Rattle.rules.specs.WholeRun.{Closed}
 use Rattle.rules.specs.Made.{howMany, MadeOf, joinedTotals, EncodedTotals}
 use Rattle.rules.proofs.Circuits.Legal.{sheet-tests-say-legal}
 use Rattle.rules.proofs.Circuits.Encoding.{entry-below-modulus}

@@ -16,7 +16,7 @@ use Rattle.rules.specs.Joining.{acceptedCount}
 use Rattle.rules.specs.Ledger.{Call, close, Answer, refused, wrote, isOpen, isClosed, Ledger, isAccepted, notesWith}
 use Rattle.rules.specs.Ledger.{noted, closingMessage, ledgerTotals}
 use Rattle.rules.specs.Ledger.{secondAnswer, refusalOf, answerOf, ledgerSays, ledgerAnswers, runLedger}
-use Rattle.rules.specs.WholeRun.{Pool, openedAt, ledgerAt, answersAt, acceptedAt}
+use Rattle.rules.specs.Pools.{Pool, openedAt, ledgerAt, answersAt, acceptedAt}
 use Rattle.rules.proofs.Histories.ClosingBytes.{totals-count}
 use Rattle.rules.proofs.Histories.PoolOpened.{returns-limits}
 use Rattle.rules.proofs.Histories.Moves.{at, Moves, stays, notes, sums, judges, drops, closes, History, over, next}

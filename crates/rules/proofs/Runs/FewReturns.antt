@@ -16,7 +16,7 @@ use Rattle.rules.specs.Circuit.{gatesIn, testsIn}
 use Rattle.rules.specs.Run.{Valid}
 use Rattle.rules.specs.Judging.{addedUp, letsIn}
 use Rattle.rules.specs.Ledger.{Note}
-use Rattle.rules.specs.WholeRun.{Pool, columns, noteUnder, notesAt, returnOf, addedEntry, KeepsForm}
+use Rattle.rules.specs.Pools.{Pool, columns, noteUnder, notesAt, returnOf, addedEntry, KeepsForm}
 use Rattle.rules.proofs.Histories.Opening.{positive}
 use Rattle.rules.proofs.Histories.Keyed.{under-has}
 use Rattle.rules.proofs.Histories.PoolOpened.{is-read}

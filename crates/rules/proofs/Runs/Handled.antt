@@ -18,7 +18,7 @@ use Rattle.records.specs.Outcome.{orElse}
 use Rattle.rules.specs.Settings.{Setting, Facts}
 use Rattle.rules.specs.Judging.{firstOnly, sigmaOf, dSum, eSum, sigmaSum, tauSum, letsIn}
 use Rattle.rules.specs.Making.{shareMessage}
-use Rattle.rules.specs.Messages.{firstSum, secondSum, bothZero}
+use Rattle.rules.specs.Messages.{elementIn, challengeFault, elementSum, firstSum, secondSum, bothZero}
 use Rattle.rules.specs.Keyed.{find, those}
 use Rattle.rules.specs.Server.{Opened, Waiting, waitingOf, withSums, sigmaIn, messageOne, messageTwo, summed}
 use Rattle.rules.specs.Server.{oneRefusal, twoRefusal, whileOpen, whileOne, whileTwo}
@@ -27,19 +27,20 @@ use Rattle.rules.specs.Ledger.{noteIn, pendingId, isOpen, waiting, Decid
 use Rattle.rules.specs.Ledger.{ledgerWait, ledgerStage, ledgerState, refusalOf, sumsNoted, ledgerAfter, secondMessage, answerOf}
 use Rattle.rules.specs.Ledger.{ledgerAnswers, ledgerSays, ledgerStep}
 use Rattle.rules.specs.Mixing.{on, answersTo}
-use Rattle.rules.specs.WholeRun.{Pool, columns, openedAt, ledgerAt, firstWait, firsts, secondWait}
-use Rattle.rules.specs.WholeRun.{seconds, bothRounds, Ready}
-use Rattle.rules.proofs.Histories.ShareBytes.{share-id}
+use Rattle.rules.specs.Pools.{Pool, columns, openedAt, ledgerAt}
+use Rattle.rules.specs.WholeRun.{firstWait, firsts, secondWait, seconds, bothRounds, Ready}
+use Rattle.rules.proofs.Histories.MessageBytes.{id-read}
+use Rattle.rules.proofs.Histories.Challenges.{alike}
 use Rattle.rules.proofs.Histories.WrittenRuns.{Written, written}
-use Rattle.rules.proofs.Histories.OwnMessages.{sigma-below, d-below, e-below, tau-below}
+use Rattle.rules.proofs.Histories.OwnMessages.{pair-below, sigma-below, d-below, e-below, tau-below}
 use Rattle.rules.proofs.Histories.Keyed.{found-here, changed-found}
 use Rattle.rules.proofs.Histories.Moves.{at, find-told, sumsOf}
 use Rattle.rules.proofs.Histories.NotesGrow.{keeps-id}
 use Rattle.rules.proofs.Runs.SoundShare.{notes-are, TakenShare, share-taken}
 use Rattle.rules.proofs.Runs.Holding.{Holds, holds, none-on, all-on, first-on}
 
-module _ (σ : Setting) (facts : Facts σ) (𝓟 : Pool σ) (id : ℕ) (shares : ℕ → List ℕ) (r s room : ℕ)
-    (ready : Ready σ 𝓟 id shares r s room) where
+module _ (σ : Setting) (facts : Facts σ) (𝓟 : Pool σ) (id : ℕ) (shares : ℕ → List ℕ) (r s room roundRoom : ℕ)
+    (ready : Ready σ 𝓟 id shares r s room roundRoom) where
   abbrev o : ℕ → Opened
   o i = openedAt σ 𝓟 i
 
@@ -63,24 +64,35 @@ module _ (σ : Setting) (facts : Facts σ) (𝓟 : Pool σ) (id : ℕ) (shares :
   twos₀ = seconds σ 𝓟 id shares r s
 
   abbrev d₀ : ℕ
-  d₀ = firstSum σ S (flatten ones₀)
+  d₀ = firstSum σ 34 S (flatten ones₀)
 
   abbrev e₀ : ℕ
-  e₀ = secondSum σ S (flatten ones₀)
+  e₀ = secondSum σ 34 S (flatten ones₀)
+
+  -- the elements of server j's messages
+  abbrev inOne : ℕ → List ℕ
+  inOne j = wait j .d ∷ wait j .e ∷ r ∷ s ∷ []
+
+  abbrev inTwo : ℕ → List ℕ
+  inTwo j = sigmaIn σ (o j) (wait₂ j) ∷ wait j .tau ∷ []
+
+  pair-is : (r < σ .modulus) × (s < σ .modulus)
+  pair-is = pair-below σ (columns σ 𝓟) r s (ready .pair)
 
   -- in any order
-  round-one : (ms : List (List ℕ)) → Rearranged ms ones₀ → Written σ S 34 id (λ j. wait j .d) (λ j. wait j .e) (flatten ms)
+  round-one : (ms : List (List ℕ)) → Rearranged ms ones₀ → Written σ S 34 id inOne (flatten ms)
   unfolding messageOne waitingOf
   round-one =
-      written σ facts S 34 id _ _ (ready .id-fits) (λ j h. d-below σ facts (o j) (note j)) (λ j h. e-below σ facts (o j) (note j))
+      written σ facts S 34 id inOne (ready .id-fits) (λ j h. refl)
+      (λ j h. all∷ (d-below σ facts (o j) (note j)) (all∷ (e-below σ facts (o j) (note j)) (all∷ (pair-is .0) (all∷ (pair-is .1) all[]))))
 
-  round-two : (ms : List (List ℕ)) → Rearranged ms twos₀
-      → Written σ S 35 id (λ j. sigmaIn σ (o j) (wait₂ j)) (λ j. wait j .tau) (flatten ms)
+  round-two : (ms : List (List ℕ)) → Rearranged ms twos₀ → Written σ S 35 id inTwo (flatten ms)
   unfolding messageTwo waitingOf summed
   round-two =
-      written σ facts S 35 id _ _ (ready .id-fits) (λ j h. sigma-below σ facts (o j) (wait₂ j)) (λ j h. tau-below σ facts (o j) (note j))
+      written σ facts S 35 id inTwo (ready .id-fits) (λ j h. refl)
+      (λ j h. all∷ (sigma-below σ facts (o j) (wait₂ j)) (all∷ (tau-below σ facts (o j) (note j)) all[]))
 
-  in-order : Written σ S 34 id (λ j. wait j .d) (λ j. wait j .e) (flatten ones₀)
+  in-order : Written σ S 34 id inOne (flatten ones₀)
   in-order = round-one ones₀ (rearranged-refl ones₀)
 
   -- ---- the verdict
@@ -92,11 +104,11 @@ module _ (σ : Setting) (facts : Facts σ) (𝓟 : Pool σ) (id : ℕ) (shares :
 
   d-is : d₀ ≡ dSum O σ (columns σ 𝓟) S x r
   unfolding dSum waitingOf
-  d-is = in-order .firsts
+  d-is = in-order .sums 0
 
   e-is : e₀ ≡ eSum O σ (columns σ 𝓟) S x r
   unfolding eSum waitingOf
-  e-is = in-order .seconds
+  e-is = in-order .sums 1
 
   -- ---- the share
   abbrev first : ℕ → Call
@@ -115,33 +127,39 @@ module _ (σ : Setting) (facts : Facts σ) (𝓟 : Pool σ) (id : ℕ) (shares :
 
   -- ---- both rounds, where the return waits
   module _ (ones twos : List (List ℕ)) (first-order : Rearranged ones ones₀) (second-order : Rearranged twos twos₀) where
-    one-is : Written σ S 34 id (λ j. wait j .d) (λ j. wait j .e) (flatten ones)
+    one-is : Written σ S 34 id inOne (flatten ones)
     one-is = round-one ones first-order
 
-    two-is : Written σ S 35 id (λ j. sigmaIn σ (o j) (wait₂ j)) (λ j. wait j .tau) (flatten twos)
+    two-is : Written σ S 35 id inTwo (flatten twos)
     two-is = round-two twos second-order
 
-    sigma-is : firstSum σ S (flatten twos) ≡ sigmaSum O σ (columns σ 𝓟) S x r
+    sigma-is : firstSum σ 35 S (flatten twos) ≡ sigmaSum O σ (columns σ 𝓟) S x r
     unfolding sigmaSum waitingOf summed sigmaIn sigmaOf
-    sigma-is = two-is .firsts ∙ λ t. sum O S (λ j. sigmaOf O σ (columns σ 𝓟) (firstOnly O j) (x j) r (d-is t) (e-is t))
+    sigma-is = two-is .sums 0 ∙ λ t. sum O S (λ j. sigmaOf O σ (columns σ 𝓟) (firstOnly O j) (x j) r (d-is t) (e-is t))
 
-    tau-is : secondSum σ S (flatten twos) ≡ tauSum O σ (columns σ 𝓟) S x s
+    tau-is : secondSum σ 35 S (flatten twos) ≡ tauSum O σ (columns σ 𝓟) S x s
     unfolding tauSum waitingOf
-    tau-is = two-is .seconds
+    tau-is = two-is .sums 1
 
     verdict-is : bothZero σ S (flatten twos) ≡ letsIn σ (columns σ 𝓟) S x r s
     unfolding bothZero letsIn
     verdict-is = rw (ready .pair, sigma-is, tau-is)
 
     -- the sums are those in server order
-    d-same : firstSum σ S (flatten ones) ≡ d₀
-    d-same = one-is .firsts ∙ sym (in-order .firsts)
+    same-sum : (k : ℕ) → elementSum σ k 34 S (flatten ones) ≡ elementSum σ k 34 S (flatten ones₀)
+    same-sum k = one-is .sums k ∙ sym (in-order .sums k)
 
-    e-same : secondSum σ S (flatten ones) ≡ e₀
-    e-same = one-is .seconds ∙ sym (in-order .seconds)
+    -- one pair was written
+    one-pair : challengeFault σ S (flatten ones) ≡ 0
+    one-pair =
+        alike σ S id 0 _ (flatten ones) (one-is .in-order 0)
+        (λ i j l b. (element i l 2 ∙ sym (element j b 2), element i l 3 ∙ sym (element j b 3)))
+      where
+        element : (i : ℕ) → i < S → (k : ℕ) → elementIn σ k (one-is .in-order 0 .message i) ≡ getD (inOne i) k 0
+        element i l k = ap (λ (v : List ℕ). getD v k 0) (one-is .reads 0 i l)
 
     abbrev one : Call
-    one = roundOne id (flatten ones) room
+    one = roundOne id (flatten ones) roundRoom
 
     abbrev two : Call
     two = roundTwo id (flatten twos)
@@ -149,7 +167,8 @@ module _ (σ : Setting) (facts : Facts σ) (𝓟 : Pool σ) (id : ℕ) (shares :
     one-there : (i : ℕ) (l : i < S) (ws : List Pending) (ds : List Decided) → find pendingId id ws ≡ some (waitsOne (note i))
         → refusalOf σ (o i) (at (isOpen ws) ds) one ≡ 0
     unfolding refusalOf ledgerState ledgerStage oneRefusal whileOpen whileOne ledgerWait messageOne waitingOf orElse
-    one-there i l ws ds h = rw (find-told σ (o i) id ws, h, one-is .passes i l, le-leb _ _ (ready .enough))
+    one-there i l ws ds h =
+        rw (find-told σ (o i) id ws, h, one-is .passes i l, one-pair, le-leb _ _ (ready .enough-one))
 
     two-there : (i : ℕ) (l : i < S) (ws : List Pending) (ds : List Decided) → find pendingId id ws ≡ some (waitsTwo (note i) d₀ e₀)
         → refusalOf σ (o i) (at (isOpen ws) ds) two ≡ 0
@@ -172,16 +191,16 @@ module _ (σ : Setting) (facts : Facts σ) (𝓟 : Pool σ) (id : ℕ) (shares :
       unfolding answerOf secondMessage summed ledgerAfter sumsNoted
       on-one =
           first-on σ (o i) id (waitsOne (note i)) one (wrote (messageTwo σ (o i) (wait₂ i))) (two ∷ []) _ (one-there i l)
-          (λ ws ds h. rw h (ap₂ (λ (u v : ℕ). wrote (messageTwo σ (o i) (withSums (wait i) u v))) d-same e-same))
+          (λ ws ds h. rw h (ap₂ (λ (u v : ℕ). wrote (messageTwo σ (o i) (withSums (wait i) u v))) (same-sum 0) (same-sum 1)))
           (λ ws ds h cs q. on-two _ (holds _ ds (changed-found pendingId id (sumsOf σ (o i) (flatten ones))
           (keeps-id σ (o i) (flatten ones)) ws (waitsOne (note i)) h
-          ∙ ap₂ (λ (u v : ℕ). some (waitsTwo (note i) u v)) d-same e-same)) cs q)
+          ∙ ap₂ (λ (u v : ℕ). some (waitsTwo (note i) u v)) (same-sum 0) (same-sum 1))) cs q)
 
       named : on id (first i) ≡ true
-      named = eq-eqb _ _ (share-id σ id i (shares i) (ready .id-fits))
+      named = eq-eqb _ _ (id-read σ 33 id i (shares i) (ready .id-fits))
 
       -- 8, with other calls mixed in once the share is taken
-      pub handled-mixed : (more : List Call) → those (on id) more ≡ bothRounds id ones twos room
+      pub handled-mixed : (more : List Call) → those (on id) more ≡ bothRounds id ones twos roundRoom
           → answersTo σ (o i) id (ledgerAt σ 𝓟 i) (share (shareMessage σ id i (shares i)) r s room ∷ more)
           ≡ wrote (messageOne σ (o i) (wait i)) ∷ wrote (messageTwo σ (o i) (wait₂ i)) ∷ judged (letsIn σ (columns σ 𝓟) S x r s) ∷ []
       unfolding answersTo
@@ -197,7 +216,7 @@ module _ (σ : Setting) (facts : Facts σ) (𝓟 : Pool σ) (id : ℕ) (shares :
           ∙ ap (λ (b : Bool). wrote (messageTwo σ (o i) (wait₂ i)) ∷ judged b ∷ []) verdict-is)
 
       -- 8
-      pub handled : ledgerAnswers σ (o i) (ledgerAt σ 𝓟 i) (first i ∷ bothRounds id ones twos room)
+      pub handled : ledgerAnswers σ (o i) (ledgerAt σ 𝓟 i) (first i ∷ bothRounds id ones twos roundRoom)
           ≡ wrote (messageOne σ (o i) (wait i)) ∷ wrote (messageTwo σ (o i) (wait₂ i)) ∷ judged (letsIn σ (columns σ 𝓟) S x r s) ∷ []
       unfolding those
       handled =

@@ -27,8 +27,8 @@ use Rattle.rules.specs.Judging.{addedUp}
 use Rattle.rules.specs.Joining.{messageLength, totalsAt, acceptedCount, sumsIn, totalsSound, joinedFault, joinRefusal}
 use Rattle.rules.specs.Joining.{joinTotals}
 use Rattle.rules.specs.Ledger.{Note, isAccepted, notesWith, ledgerTotals, closingMessage}
-use Rattle.rules.specs.WholeRun.{Pool, columns, openedAt, ledgerAt, acceptedAt, returnOf, addedEntry}
-use Rattle.rules.specs.WholeRun.{Conditions, AllClosed, closings}
+use Rattle.rules.specs.Pools.{Pool, columns, openedAt, ledgerAt, acceptedAt, returnOf, addedEntry, Conditions, AllClosed}
+use Rattle.rules.specs.WholeRun.{closings}
 use Rattle.rules.proofs.Histories.MessageBytes.{length-one-by-one, part-one-by-one}
 use Rattle.rules.proofs.Histories.Checks.{at-every}
 use Rattle.rules.proofs.Histories.Opening.{positive}

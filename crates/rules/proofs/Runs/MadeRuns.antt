@@ -1,6 +1,6 @@
 -- What is promised of returns that making wrote, in any pool. Each field is a theorem of its own file. Assumes nothing.
 use Rattle.rules.specs.Settings.{Setting, Facts, document01}
-use Rattle.rules.specs.WholeRun.{Pool}
+use Rattle.rules.specs.Pools.{Pool}
 use Rattle.rules.specs.Made.{MadeRun}
 use Rattle.rules.proofs.Computed.Facts.{document01-facts}
 use Rattle.rules.proofs.Returns.MadeMessages.{makes-return}

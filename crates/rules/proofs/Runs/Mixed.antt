@@ -19,7 +19,7 @@ use Rattle.rules.specs.Ledger.{Progress, isOpen, isClosed, Decision, Dec
 use Rattle.rules.specs.Ledger.{refusalOf, decideAs, noteOf, ledgerAfter, answerOf, ledgerStep, ledgerSays, runLedger}
 use Rattle.rules.specs.Ledger.{ledgerAnswers}
 use Rattle.rules.specs.Mixing.{on, decidedId, decidedOn, pendingOn, takenOn, callsOn, answersOn, Mixing}
-use Rattle.rules.specs.WholeRun.{BytesIn}
+use Rattle.rules.specs.Pools.{BytesIn}
 use Rattle.rules.proofs.Histories.Keyed.{found-id, those-not, those-end, find-those, without-other, changed-other}
 use Rattle.rules.proofs.Histories.Moves.{at, sumsOf, none-waits}
 use Rattle.rules.proofs.Histories.NotesGrow.{keeps-id}

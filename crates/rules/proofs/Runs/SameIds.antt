@@ -13,9 +13,8 @@ use Rattle.algebra.proofs.Rearrangement.{same-members, sum-cong, sum-map}
 use Rattle.rules.specs.Settings.{Setting, Facts}
 use Rattle.rules.specs.Ledger.{Note, noteIn, Progress, waiting, Decision, accepted, rejected, dropped, Decided}
 use Rattle.rules.specs.Ledger.{isAccepted, isDropped, notesWith, idsOf, notesOf}
-use Rattle.rules.specs.WholeRun.{Pool, ledgerAt, acceptedAt, notesIn, notesAt, returnOf}
-use Rattle.rules.specs.WholeRun.{Conditions, AllClosed}
-use Rattle.rules.proofs.Runs.Agreement.{noteUnder-in, sound-at, shareAt, verdictAll, Noted, agreed, noted-everywhere}
+use Rattle.rules.specs.Pools.{Pool, ledgerAt, acceptedAt, notesIn, notesAt, returnOf, Conditions, AllClosed}
+use Rattle.rules.proofs.Runs.Agreement.{noteUnder-in, sound-at, shareAt, verdictAll, Noted, agreed, judged-everywhere}
 
 -- ---- the notes of the returns whose decision passes
 module _ (t : Decision → Bool) where
@@ -128,7 +127,7 @@ module _ (σ : Setting) (𝓟 : Pool σ) (closed : AllClosed σ 𝓟) where
         let k : Decided = c .which in
         let same : k .note .id ≡ id = ap (λ (n : Note). n .id) (c .is-note) ∙ a .2 in
         let kept : isDropped (k .decision) ≡ false = accepted-kept (k .decision) (c .passes) in
-        let at : Noted σ 𝓟 (k .note .id) j = noted-everywhere σ 𝓟 facts 𝓒 i l k (c .is-in) kept j b in
+        let at : Noted σ 𝓟 (k .note .id) j = judged-everywhere σ 𝓟 facts (𝓒 .unaltered) i l k (c .is-in) kept j b .0 in
         let there : In (shareAt σ 𝓟 (k .note .id) j) (notesOf (decided j)) =
         subst (λ (v : List Note). In (shareAt σ 𝓟 (k .note .id) j) v) (closed-notes j b) (at .is-in) in
         let z = of-map (λ (v : Decided). v .note) (shareAt σ 𝓟 (k .note .id) j) (decided j) there in
@@ -139,9 +138,9 @@ module _ (σ : Setting) (𝓟 : Pool σ) (closed : AllClosed σ 𝓟) where
         (in-map (λ (n : Note). n .id) (k′ .note) (notesWith t (decided j)) (with-of t k′ (decided j) (z .1) e)) in
         either (isDropped (k′ .decision)) refl (λ e. 𝓒 .same-drops j i b l id (back isDropped e) h)
         (λ e. back isAccepted
-        (agreed σ 𝓟 facts 𝓒 j b k′ (z .1) e
+        (agreed σ 𝓟 facts (𝓒 .unaltered) j b k′ (z .1) e
         ∙ ap (verdictAll σ 𝓟) same′
-        ∙ sym (agreed σ 𝓟 facts 𝓒 i l k (c .is-in) kept)
+        ∙ sym (agreed σ 𝓟 facts (𝓒 .unaltered) i l k (c .is-in) kept)
         ∙ c .passes))
       where
         either : {d : Bool} (t : Bool) → d ≡ t → (d ≡ true → ⊥) → (d ≡ false → In id (acceptedAt σ 𝓟 j))

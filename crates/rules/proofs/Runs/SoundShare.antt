@@ -15,13 +15,13 @@ use Rattle.records.specs.Outcome.{orElse}
 use Rattle.rules.specs.Settings.{Setting, Facts}
 use Rattle.rules.specs.Judging.{shareSize, allowedPair}
 use Rattle.rules.specs.Making.{shareMessage, shareLength}
-use Rattle.rules.specs.Messages.{kindIn, idIn, serverIn, shareElements, roundLength, headerFault, elementsFault}
+use Rattle.rules.specs.Messages.{kindIn, idIn, serverIn, elementsIn, roundLength, headerFault, elementsFault}
 use Rattle.rules.specs.Server.{Opened, Wait, heldId, mostWaiting, isMember, messageOne, shareRefusal, whileOpen}
 use Rattle.rules.specs.Ledger.{Call, share, wrote, Note, Pending, waitsOne, noteIn, Progress, isOpen, waiting, Decided, Ledger}
 use Rattle.rules.specs.Ledger.{idsOf, notesOf, noted, noteOf, ledgerWait, ledgerStage, ledgerState, refusalOf, ledgerAfter}
 use Rattle.rules.specs.Ledger.{answerOf}
-use Rattle.rules.specs.WholeRun.{notesIn}
-use Rattle.rules.proofs.Histories.ShareBytes.{length-share, share-kind, share-id, share-server, share-elements}
+use Rattle.rules.specs.Pools.{notesIn}
+use Rattle.rules.proofs.Histories.MessageBytes.{length-message, kind-read, id-read, server-read, elements-read}
 use Rattle.rules.proofs.Histories.Keyed.{not-in-member}
 use Rattle.rules.proofs.Histories.Moves.{at, many-used, many-told, all-ids}
 
@@ -42,13 +42,13 @@ module _ (σ : Setting) (o : Opened) where
       (below-eight : length ws < mostWaiting) (fewer : length ds + length ws < o .returns)
       (unused : In id (idsOf (notesOf ds ++ map noteIn ws)) → ⊥) (id-fits : id < 4294967296)
       (sized : length xs ≡ shareSize (o .columns)) (below : All (λ x. x < σ .modulus) xs)
-      (pair : allowedPair σ (o .columns) r s ≡ true) (enough : roundLength σ ≤ room) where
+      (pair : allowedPair σ (o .columns) r s ≡ true) (enough : roundLength σ 34 ≤ room) where
     abbrev sent : List ℕ
     sent = shareMessage σ id (o .own) xs
 
     long : length sent ≡ shareLength σ (o .columns)
     unfolding shareLength
-    long = length-share σ id (o .own) xs ∙ ap (λ k. 6 + σ .width * k) sized
+    long = length-message σ 33 id (o .own) xs ∙ ap (λ k. 6 + σ .width * k) sized
 
     share-passes : refusalOf σ o (at (isOpen ws) ds) (share sent r s room) ≡ 0
     unfolding refusalOf ledgerState ledgerStage shareRefusal whileOpen headerFault elementsFault orElse
@@ -59,12 +59,12 @@ module _ (σ : Setting) (o : Opened) where
         let e₁ : ltb (length used + length ts) (o .returns) ≡ true =
         lt-ltb (length used + length ts) (o .returns) (omega (arith, many-told σ o ws, many-used ds)) in
         let e₂ : eqb (length sent) (shareLength σ (o .columns)) ≡ true = eq-eqb _ _ long in
-        let e₃ : eqb (kindIn sent) 33 ≡ true = eq-eqb _ _ (share-kind σ id (o .own) xs) in
-        let e₄ : eqb (serverIn sent) (o .own) ≡ true = eq-eqb _ _ (share-server σ id (o .own) xs) in
-        let e₅ : allBelow (σ .modulus) (shareElements σ sent) ≡ true =
-        ap (allBelow (σ .modulus)) (share-elements σ id (o .own) xs facts below) ∙ below-of-all (σ .modulus) xs below in
+        let e₃ : eqb (kindIn sent) 33 ≡ true = eq-eqb _ _ (kind-read σ 33 id (o .own) xs) in
+        let e₄ : eqb (serverIn sent) (o .own) ≡ true = eq-eqb _ _ (server-read σ 33 id (o .own) xs) in
+        let e₅ : allBelow (σ .modulus) (elementsIn σ sent) ≡ true =
+        ap (allBelow (σ .modulus)) (elements-read σ 33 id (o .own) xs facts below) ∙ below-of-all (σ .modulus) xs below in
         let e₆ : isMember (idIn sent) (used ++ map heldId ts) ≡ false =
-        ap₂ isMember (share-id σ id (o .own) xs id-fits) (all-ids σ o ws ds)
+        ap₂ isMember (id-read σ 33 id (o .own) xs id-fits) (all-ids σ o ws ds)
         ∙ not-in-member id (idsOf (notesOf ds ++ map noteIn ws)) unused in
         rw (e₀, e₁, e₂, e₃, e₄, e₅, e₆, pair, le-leb _ _ enough)
 
@@ -74,8 +74,8 @@ module _ (σ : Setting) (o : Opened) where
 
     noted-share : noteOf σ o sent r s ≡ sentNote
     noted-share = λ t. record {
-      id = share-id σ id (o .own) xs id-fits t;
-      elements = share-elements σ id (o .own) xs facts below t;
+      id = id-read σ 33 id (o .own) xs id-fits t;
+      elements = elements-read σ 33 id (o .own) xs facts below t;
       r = r;
       s = s;
     }

@@ -1,7 +1,8 @@
--- Fields 5 and 6 of demand 3: a return judged to the end is accepted exactly when its pair lets it in, since with one pair
--- the sums of the rounds are those that Judging works out from the shares; so one that is delivered whole is accepted.
--- Assumes the conditions of whole runs.
-use mathlib.Core.Path.{_≡_, sym, ap, ap₂, _∙_}
+-- Fields 5 and 6 of demand 3: a return judged to the end has one pair and is accepted exactly when that pair lets it in, since with
+-- one pair the sums of the rounds are those that Judging works out from the shares; so one that is delivered whole is accepted.
+-- Assumes that messages are unaltered.
+use mathlib.Core.Path.{_≡_, refl, sym, ap, ap₂, _∙_, subst}
+use mathlib.Core.Logic.{inl}
 use mathlib.Core.Bool.{true, false, _&&_}
 use mathlib.Core.List.{List}
 use Prim.Native.Nat.{ℕ, _<_}
@@ -9,19 +10,21 @@ use lib.Dec.{eqb}
 use lib.ListN.{getD}
 use Rattle.algebra.specs.Lists.{In}
 use Rattle.algebra.specs.Modulo.{modulo}
+use Rattle.algebra.proofs.Members.{append-in, in-map}
 use Rattle.algebra.proofs.Sums.{sum-ext}
 use Rattle.rules.specs.Settings.{Setting, Facts}
 use Rattle.rules.specs.Columns.{Column}
 use Rattle.rules.specs.Judging.{firstOnly, dOf, eOf, sigmaOf, tauOf, dSum, eSum, sigmaSum, tauSum, allowedPair, letsIn}
 use Rattle.rules.specs.Making.{madeShare}
 use Rattle.rules.specs.Server.{waitingOf, sigmaIn}
-use Rattle.rules.specs.Ledger.{Note, Decided, isAccepted, isDropped}
-use Rattle.rules.specs.WholeRun.{Pool, columns, ledgerAt, returnOf, OnePair, Conditions, DeliveredWhole}
+use Rattle.rules.specs.Ledger.{Note, Decided, isAccepted, isDropped, idsOf, notesOf}
+use Rattle.rules.specs.Pools.{Pool, columns, ledgerAt, notesIn, notesAt, returnOf, Unaltered, DeliveredWhole, JudgedByPair}
 use Rattle.words.proofs.Below.{all-of-below}
 use Rattle.rules.proofs.Histories.PoolOpened.{is-read}
 use Rattle.rules.proofs.Returns.OnSheets.{sheet-honest-let-in}
-use Rattle.rules.proofs.Runs.Agreement.{sound-at, shareAt, dAll, eAll, sigmaAll, tauAll, verdictAll, Noted}
-use Rattle.rules.proofs.Runs.Agreement.{agreed, noted-everywhere}
+use Rattle.rules.proofs.Runs.Agreement.{sound-at, found, shareAt, dAll, eAll, sigmaAll, tauAll, verdictAll, Noted, Summed}
+use Rattle.rules.proofs.Runs.Agreement.{agreed, judged-everywhere}
+use Rattle.rules.proofs.Runs.OneChallenge.{one-pair}
 
 -- equal shares are let in by the same pairs
 module _ (σ : Setting) (cs : List Column) (servers : ℕ) (x y : ℕ → ℕ → ℕ) (same : (i : ℕ) → i < servers → x i ≡ y i)
@@ -80,36 +83,46 @@ module _ (σ : Setting) (𝓟 : Pool σ) (id r s : ℕ)
   unfolding letsIn
   verdict-pair a = rw (a, sigma-pair, tau-pair)
 
-module _ (σ : Setting) (facts : Facts σ) (𝓟 : Pool σ) where
+module _ (σ : Setting) (facts : Facts σ) (𝓟 : Pool σ) (𝓤 : Unaltered σ 𝓟) (i : ℕ) (l : i < 𝓟 .servers) (k : Decided)
+    (h : In k (ledgerAt σ 𝓟 i .decided)) (f : isDropped (k .decision) ≡ false) where
+  abbrev id : ℕ
+  id = k .note .id
+
+  -- the share that is noted here, and its pair
+  here : In (k .note) (notesAt σ 𝓟 i)
+  unfolding notesIn
+  here = append-in (k .note) (notesOf (ledgerAt σ 𝓟 i .decided)) _ (inl (in-map (λ (v : Decided). v .note) k (ledgerAt σ 𝓟 i .decided) h))
+
+  allowed : allowedPair σ (columns σ 𝓟) (k .note .r) (k .note .s) ≡ true
+  allowed = sound-at σ 𝓟 i l .pairs (k .note) here
+
+  -- each server noted a share, with that pair
+  at : (q : ℕ) → q < 𝓟 .servers → Noted σ 𝓟 id q × Summed σ 𝓟 id q
+  at = judged-everywhere σ 𝓟 facts 𝓤 i l k h f
+
+  pair : (q : ℕ) → q < 𝓟 .servers → (shareAt σ 𝓟 id q .r ≡ k .note .r) × (shareAt σ 𝓟 id q .s ≡ k .note .s)
+  pair q b =
+      let same = one-pair σ 𝓟 facts 𝓤 id i l (at i l .1) q i b l in
+      let this : shareAt σ 𝓟 id i ≡ k .note = found σ 𝓟 id i l (k .note) here refl in
+      (same .0 ∙ ap (λ (v : Note). v .r) this, same .1 ∙ ap (λ (v : Note). v .s) this)
+
   -- 5
-  pub verdict : Conditions σ 𝓟 → (i : ℕ) → i < 𝓟 .servers → (k : Decided) → In k (ledgerAt σ 𝓟 i .decided)
-      → isDropped (k .decision) ≡ false → (r s : ℕ) → OnePair σ 𝓟 (k .note .id) r s
-      → isAccepted (k .decision) ≡ letsIn σ (columns σ 𝓟) (𝓟 .servers) (returnOf σ 𝓟 (k .note .id)) r s
-  verdict 𝓒 i l k h f r s one =
-      let id = k .note .id in
-      let at : (q : ℕ) → q < 𝓟 .servers → Noted σ 𝓟 id q = noted-everywhere σ 𝓟 facts 𝓒 i l k h f in
-      let pair : (q : ℕ) → q < 𝓟 .servers → (shareAt σ 𝓟 id q .r ≡ r) × (shareAt σ 𝓟 id q .s ≡ s) =
-      λ q b. one q b (shareAt σ 𝓟 id q) (at q b .is-in) (at q b .has-id) in
-      let n : Note = shareAt σ 𝓟 id i in
-      let allowed : allowedPair σ (columns σ 𝓟) (n .r) (n .s) ≡ true = sound-at σ 𝓟 i l .pairs n (at i l .is-in) in
-      agreed σ 𝓟 facts 𝓒 i l k h f
-      ∙ verdict-pair σ 𝓟 id r s pair
-      (sym (ap₂ (allowedPair σ (columns σ 𝓟)) (pair i l .0) (pair i l .1)) ∙ allowed)
+  pub verdict : JudgedByPair σ 𝓟 k
+  verdict = record {
+    taken = λ q b. subst (λ (v : ℕ). In v (idsOf (notesAt σ 𝓟 q))) (at q b .0 .has-id)
+        (in-map (λ (v : Note). v .id) (shareAt σ 𝓟 id q) (notesAt σ 𝓟 q) (at q b .0 .is-in));
+    one-pair = λ q b n a e. (
+        let this : shareAt σ 𝓟 id q ≡ n = found σ 𝓟 id q b n a e in
+        (ap (λ (v : Note). v .r) (sym this) ∙ pair q b .0, ap (λ (v : Note). v .s) (sym this) ∙ pair q b .1));
+    verdict = agreed σ 𝓟 facts 𝓤 i l k h f ∙ verdict-pair σ 𝓟 id (k .note .r) (k .note .s) pair allowed;
+  }
 
   -- 6
-  pub honest : Conditions σ 𝓟 → (i : ℕ) → i < 𝓟 .servers → (k : Decided) → In k (ledgerAt σ 𝓟 i .decided)
-      → isDropped (k .decision) ≡ false → (r s : ℕ) → OnePair σ 𝓟 (k .note .id) r s
-      → DeliveredWhole σ 𝓟 (k .note .id) → isAccepted (k .decision) ≡ true
-  honest 𝓒 i l k h f r s one w =
-      let id = k .note .id in
-      let at : Noted σ 𝓟 id i = noted-everywhere σ 𝓟 facts 𝓒 i l k h f i l in
-      let n : Note = shareAt σ 𝓟 id i in
-      let pair : (n .r ≡ r) × (n .s ≡ s) = one i l n (at .is-in) (at .has-id) in
-      let allowed : allowedPair σ (columns σ 𝓟) r s ≡ true =
-      sym (ap₂ (allowedPair σ (columns σ 𝓟)) (pair .0) (pair .1)) ∙ sound-at σ 𝓟 i l .pairs n (at .is-in) in
-      verdict 𝓒 i l k h f r s one
+  pub honest : DeliveredWhole σ 𝓟 id → isAccepted (k .decision) ≡ true
+  honest w =
+      verdict .verdict
       ∙ lets-in-same σ (columns σ 𝓟) (𝓟 .servers) (returnOf σ 𝓟 id)
       (λ i e. getD (madeShare σ (columns σ 𝓟) (𝓟 .servers) (w .values) (w .random) i) e 0)
-      (λ q b t e. getD (w .noted q b t) e 0) r s
+      (λ q b t e. getD (w .noted q b t) e 0) (k .note .r) (k .note .s)
       ∙ sheet-honest-let-in σ facts (𝓟 .sheet) (columns σ 𝓟) (is-read σ 𝓟) (𝓟 .servers) (𝓟 .some-server)
-      (w .values) (w .random) (w .legal) (all-of-below (σ .modulus) (w .random) (w .below)) r s allowed
+      (w .values) (w .random) (w .legal) (all-of-below (σ .modulus) (w .random) (w .below)) (k .note .r) (k .note .s) allowed

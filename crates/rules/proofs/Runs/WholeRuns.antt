@@ -5,13 +5,15 @@ use Rattle.rules.specs.Settings.{Setting, Facts, document01}
 use Rattle.rules.specs.Ledger.{empty}
 use Rattle.rules.specs.Runs.{tableAnswers}
 use Rattle.rules.specs.Mixing.{callsOn, answersOn}
-use Rattle.rules.specs.WholeRun.{Pool, columns, openedAt, tableAt, WholeRun}
+use Rattle.rules.specs.Pools.{Pool, columns, openedAt, tableAt}
+use Rattle.rules.specs.WholeRun.{WholeRun}
 use Rattle.rules.proofs.Computed.Facts.{document01-facts}
 use Rattle.rules.proofs.Returns.OnSheets.{sheet-few-pairs}
 use Rattle.rules.proofs.Tables.Opens.{tables-tell, tables-answer}
 use Rattle.rules.proofs.Tables.Erased.{unused-zero, records-hold, erased-zero}
 use Rattle.rules.proofs.Histories.PoolOpened.{is-read}
 use Rattle.rules.proofs.Runs.WholeTotals.{closed-together}
+use Rattle.rules.proofs.Runs.OneChallenge.{unequal}
 use Rattle.rules.proofs.Runs.Verdicts.{verdict, honest}
 use Rattle.rules.proofs.Runs.Handled.{handled, handled-mixed}
 use Rattle.rules.proofs.Runs.Mixed.{mixing, bytes-on}
@@ -34,8 +36,9 @@ whole-run σ facts 𝓟 = record {
   verdict = verdict σ facts 𝓟;
   honest = honest σ facts 𝓟;
   few = sheet-few-pairs σ facts (𝓟 .sheet) (columns σ 𝓟) (is-read σ 𝓟) (𝓟 .servers) (𝓟 .some-server);
-  handled = λ id shares r s room ready i l ones twos p q. handled σ facts 𝓟 id shares r s room ready ones twos p q i l;
-  handled-mixed = λ id shares r s room ready i l ones twos p q. handled-mixed σ facts 𝓟 id shares r s room ready ones twos p q i l;
+  handled = λ id shares r s room rounds ready i l ones twos p q. handled σ facts 𝓟 id shares r s room rounds ready ones twos p q i l;
+  handled-mixed = λ id shares r s room rounds ready i l ones twos p q.
+      handled-mixed σ facts 𝓟 id shares r s room rounds ready ones twos p q i l;
   mixing = λ i l id. mixing σ (openedAt σ 𝓟 i) id (𝓟 .calls i);
   alone = alone σ facts 𝓟;
   within-returns = within-returns σ 𝓟;
@@ -49,6 +52,7 @@ whole-run σ facts 𝓟 = record {
   closes = close-done σ 𝓟;
   too-few = refused-15 σ 𝓟;
   stays-shut = shut σ 𝓟;
+  unequal = λ u. unequal σ 𝓟 facts u;
 }
 
 -- at the setting of document 01

@@ -16,8 +16,9 @@ use Rattle.rules.specs.Values.{Encodes, encoding}
 use Rattle.rules.specs.Judging.{addedUp}
 use Rattle.rules.specs.Joining.{joinCount, joinTotals}
 use Rattle.rules.specs.Ledger.{wrote, closingMessage}
-use Rattle.rules.specs.WholeRun.{Pool, columns, openedAt, ledgerAt, answersAt, acceptedAt, addedEntry, KeepsForm}
-use Rattle.rules.specs.WholeRun.{Conditions, AllClosed, closings, Closed}
+use Rattle.rules.specs.Pools.{Pool, columns, openedAt, ledgerAt, answersAt, acceptedAt, addedEntry, KeepsForm, Conditions}
+use Rattle.rules.specs.Pools.{AllClosed}
+use Rattle.rules.specs.WholeRun.{closings, Closed}
 use Rattle.rules.proofs.Circuits.Legal.{sheet-tests-say-legal}
 use Rattle.rules.proofs.Circuits.Published.{published-fits}
 use Rattle.rules.proofs.Histories.Opening.{positive}

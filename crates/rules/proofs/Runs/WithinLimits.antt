@@ -9,7 +9,7 @@ use Rattle.algebra.specs.Lists.{Distinct}
 use Rattle.rules.specs.Settings.{Setting}
 use Rattle.rules.specs.Server.{mostWaiting}
 use Rattle.rules.specs.Ledger.{noteIn, waiting, Decided, Ledger, idsOf, notesOf}
-use Rattle.rules.specs.WholeRun.{Pool, openedAt, ledgerAt, notesIn, notesAt}
+use Rattle.rules.specs.Pools.{Pool, openedAt, ledgerAt, notesIn, notesAt}
 use Rattle.rules.proofs.Histories.NotesGrow.{eight-on}
 use Rattle.rules.proofs.Runs.Agreement.{history-at, sound-at}
 

@@ -12,7 +12,8 @@ use Rattle.rules.specs.Server.{Opened, mostWaiting}
 use Rattle.rules.specs.Table.{Lent, idsPlace, decidedIn, unusedIn}
 use Rattle.rules.specs.Ledger.{Ledger, waiting, ledgerWait}
 use Rattle.rules.specs.Runs.{runTable}
-use Rattle.rules.specs.WholeRun.{Pool, columns, openedAt, tableAt, ledgerAt, waitsAfter, Erased}
+use Rattle.rules.specs.Pools.{Pool, columns, openedAt, tableAt, ledgerAt}
+use Rattle.rules.specs.WholeRun.{waitsAfter, Erased}
 use Rattle.rules.proofs.Tables.Parts.{assemble, placed, decided-are, part-ids}
 use Rattle.rules.proofs.Tables.Invariant.{Beside}
 use Rattle.rules.proofs.Tables.Opens.{zeros-part, table-after}

@@ -1,11 +1,11 @@
--- What is claimed of joined messages in any order, on tables. The refusals of both rounds are functions of `roundFault` and what
--- a round that is taken leaves and hands back is a function of the sums: both are the same for messages that are rearranged.
--- A run in server order is one of the orders. Assumes nothing.
+-- What is claimed of joined messages in any order, on tables. The refusals of both rounds are functions of `roundFault` and
+-- `challengeFault`, and what a round that is taken leaves and hands back is a function of the sums: all are the same for messages
+-- that are rearranged. A run in server order is one of the orders. Assumes nothing.
 use mathlib.Core.Path.{_≡_, refl, sym, ap, ap₂, _∙_}
 use mathlib.Core.Bool.{Bool, true, false, cond, _&&_}
 use mathlib.Core.List.{List, flatten}
 use mathlib.Core.Option.{Option, some, none}
-use Prim.Native.Nat.{ℕ, _*_, _%_, _<_}
+use Prim.Native.Nat.{ℕ, zero, suc, _*_, _%_, _<_}
 use native.Mathlib.Omega.{arith}
 use borrow.Author.Tests.{eqb-true}
 use lib.Dec.{eqb, leb}
@@ -19,8 +19,8 @@ use Rattle.records.specs.Outcome.{orElse}
 use Rattle.records.proofs.Outcome.{or-zero}
 use Rattle.rules.specs.Settings.{Setting}
 use Rattle.rules.specs.Columns.{check}
-use Rattle.rules.specs.Messages.{firstIn, secondIn, roundLength, placeIn, serverAt, roundSound, roundFault, firstSum}
-use Rattle.rules.specs.Messages.{secondSum, bothZero}
+use Rattle.rules.specs.Messages.{elementIn, roundLength, placeIn, serverAt, roundSound, roundFault, challengeFault}
+use Rattle.rules.specs.Messages.{elementSum, bothZero}
 use Rattle.rules.specs.Keyed.{find}
 use Rattle.rules.specs.Server.{Waiting, Wait, awaitsOne, awaitsTwo, heldId, Stage, takes, closed, Opened, ServerState}
 use Rattle.rules.specs.Server.{summed, withSums, messageOne, messageTwo, whileOpen, whileOne, whileTwo, oneRefusal, twoRefusal}
@@ -34,8 +34,9 @@ use Rattle.rules.proofs.Histories.MessageBytes.{Sized, flatten-cut}
 use Rattle.rules.proofs.Histories.Checks.{check-passed, every-at}
 use Rattle.rules.proofs.Histories.Shuffled.{rearranged-all}
 use Rattle.rules.proofs.Histories.JoinedRuns.{messages}
-use Rattle.rules.proofs.Histories.AnyOrder.{first-sum-over, second-sum-over, as-many, same-fault, placed, taken}
+use Rattle.rules.proofs.Histories.AnyOrder.{element-sum-over, as-many, same-fault, placed, taken}
 use Rattle.rules.proofs.Histories.AnyOrder.{takes as takes-order}
+use Rattle.rules.proofs.Histories.Challenges.{same-challenge-fault}
 
 -- ---- a check that is passed where the stage allows the call
 open-zero : (st : Stage) (f : List Wait → ℕ) → whileOpen st f ≡ 0 → (ws : List Wait) × (f ws ≡ 0)
@@ -79,29 +80,39 @@ or-passes a b c d f g e =
     let both = or-zero a b e in
     ap₂ (λ (x y : ℕ). orElse x y) (f (both .0)) (g (both .1))
 
+or-same : (a b x y : ℕ) → a ≡ b → (a ≡ 0 → x ≡ y) → orElse a x ≡ orElse b y
+unfolding orElse
+or-same a b x y e f = same a f ∙ ap (λ (v : ℕ). orElse v y) e
+  where
+    same : (a : ℕ) → (a ≡ 0 → x ≡ y) → orElse a x ≡ orElse a y
+    same zero g = g refl
+    same (suc a) g = refl
+
 module _ (σ : Setting) where
   -- ---- 1. what was taken before
   before : (servers kind id own : ℕ) (mine joined : List ℕ) → faultInOrder σ servers kind id own mine joined ≡ 0
       → roundFault σ servers kind id own mine joined ≡ 0
   unfolding faultInOrder
   before servers kind id own mine joined e =
-      let whole : Bool = eqb (length joined) (roundLength σ * servers) in
-      let t : ℕ → Bool = λ i. roundSound σ servers kind id (placeIn σ joined i) && eqb (serverAt σ joined i) i in
+      let place : ℕ → List ℕ = placeIn σ kind joined in
+      let size : ℕ = roundLength σ kind in
+      let whole : Bool = eqb (length joined) (size * servers) in
+      let t : ℕ → Bool = λ i. roundSound σ servers kind id (place i) && eqb (serverAt σ kind joined i) i in
       let each : Bool = every t (countFrom 0 servers) in
-      let kept : Bool = sameBytes (placeIn σ joined own) mine in
+      let kept : Bool = sameBytes (place own) mine in
       let all : (whole && (each && kept)) ≡ true = check-passed (whole && (each && kept)) 11 e in
       let rest : (each && kept) ≡ true = and-right whole (each && kept) all in
       let at : (i : ℕ) → i < servers → t i ≡ true = every-at t servers (and-left each kept rest) in
-      let long : length joined ≡ roundLength σ * servers = eqb-true _ _ (and-left whole (each && kept) all) in
+      let long : length joined ≡ size * servers = eqb-true _ _ (and-left whole (each && kept) all) in
       takes-order σ servers kind id own mine joined (record {
-        message = placeIn σ joined;
+        message = place;
         long = placed σ servers kind id own mine joined long;
-        sound = λ j l. and-left (roundSound σ servers kind id (placeIn σ joined j)) (eqb (serverAt σ joined j) j) (at j l);
-        names = λ j l. eqb-true _ _ (and-right (roundSound σ servers kind id (placeIn σ joined j)) (eqb (serverAt σ joined j) j) (at j l));
-        own-kept = λ l. same-equal (placeIn σ joined own) mine (and-right each kept rest);
+        sound = λ j l. and-left (roundSound σ servers kind id (place j)) (eqb (serverAt σ kind joined j) j) (at j l);
+        names = λ j l. eqb-true _ _ (and-right (roundSound σ servers kind id (place j)) (eqb (serverAt σ kind joined j) j) (at j l));
+        own-kept = λ l. same-equal (place own) mine (and-right each kept rest);
         messages = messages σ servers kind id own mine joined;
         order = rearranged-refl (messages σ servers kind id own mine joined);
-        stand = sym (flatten-cut (roundLength σ) servers joined long);
+        stand = sym (flatten-cut size servers joined long);
       })
 
   still-taken : (T : Lent) (c : Call) → refusalInOrder σ T c ≡ 0 → tableRefusal σ T c ≡ 0
@@ -136,38 +147,37 @@ module _ (σ : Setting) where
       tables true q = g (eqb-true _ _ q)
       tables false q = refl
 
-  module _ (ms ns : List (List ℕ)) (sized : Sized (roundLength σ) ms) (order : Rearranged ms ns) where
-    same-firsts : (n : ℕ) → length ms ≡ n → firstSum σ n (flatten ms) ≡ firstSum σ n (flatten ns)
-    same-firsts n e =
-        first-sum-over σ ms sized n e
-        ∙ ap (λ (k : ℕ). k % σ .modulus) (rearranged-sum (firstIn σ) order)
-        ∙ sym (first-sum-over σ ns (rearranged-all order sized) n (sym (rearranged-length order) ∙ e))
+  module _ (kind : ℕ) (ms ns : List (List ℕ)) (sized : Sized (roundLength σ kind) ms) (order : Rearranged ms ns) where
+    same-sum : (k n : ℕ) → length ms ≡ n → elementSum σ k kind n (flatten ms) ≡ elementSum σ k kind n (flatten ns)
+    same-sum k n e =
+        element-sum-over σ kind ms sized k n e
+        ∙ ap (λ (v : ℕ). v % σ .modulus) (rearranged-sum (elementIn σ k) order)
+        ∙ sym (element-sum-over σ kind ns (rearranged-all order sized) k n (sym (rearranged-length order) ∙ e))
 
-    same-seconds : (n : ℕ) → length ms ≡ n → secondSum σ n (flatten ms) ≡ secondSum σ n (flatten ns)
-    same-seconds n e =
-        second-sum-over σ ms sized n e
-        ∙ ap (λ (k : ℕ). k % σ .modulus) (rearranged-sum (secondIn σ) order)
-        ∙ sym (second-sum-over σ ns (rearranged-all order sized) n (sym (rearranged-length order) ∙ e))
+  module _ (T : Lent) where
+    abbrev k : ServerState
+    k = tableState σ T
 
-    module _ (T : Lent) where
-      abbrev k : ServerState
-      k = tableState σ T
+    abbrev o : Opened
+    o = k .opened
 
-      abbrev o : Opened
-      o = k .opened
+    -- ---- round one
+    module _ (ms ns : List (List ℕ)) (sized : Sized (roundLength σ 34) ms) (order : Rearranged ms ns) where
+      same-refusal : (room : ℕ) (w : Waiting)
+          → orElse (roundFault σ (o .servers) 34 (w .id) (o .own) (messageOne σ o w) (flatten ms))
+          (orElse (challengeFault σ (o .servers) (flatten ms)) (check (leb (roundLength σ 35) room) 14))
+          ≡ orElse (roundFault σ (o .servers) 34 (w .id) (o .own) (messageOne σ o w) (flatten ns))
+          (orElse (challengeFault σ (o .servers) (flatten ns)) (check (leb (roundLength σ 35) room) 14))
+      same-refusal room w =
+          or-same _ _ _ _ (same-fault σ (o .servers) 34 (w .id) (o .own) (messageOne σ o w) ms ns sized order)
+          (λ e. ap (λ (v : ℕ). orElse v (check (leb (roundLength σ 35) room) 14))
+          (same-challenge-fault σ (o .servers) ms ns sized order
+          (as-many σ (o .servers) 34 (w .id) (o .own) (messageOne σ o w) ms sized e)))
 
       same-one : (id room : ℕ) → oneRefused σ T id (flatten ms) room ≡ oneRefused σ T id (flatten ns) room
       unfolding oneRefused oneRefusal
       same-one id room t =
-          orElse (tableFault σ T) (whileOpen (k .stage) (λ ws. whileOne (find heldId id ws) (λ w.
-          orElse (same-fault σ (o .servers) 34 (w .id) (o .own) (messageOne σ o w) ms ns sized order t)
-          (check (leb (roundLength σ) room) 14))))
-
-      same-two : (id : ℕ) → twoRefused σ T id (flatten ms) ≡ twoRefused σ T id (flatten ns)
-      unfolding twoRefused twoRefusal
-      same-two id t =
-          orElse (tableFault σ T) (whileOpen (k .stage) (λ ws. whileTwo (find heldId id ws) (λ w.
-          same-fault σ (o .servers) 35 (w .id) (o .own) (messageTwo σ o w) ms ns sized order t)))
+          orElse (tableFault σ T) (whileOpen (k .stage) (λ ws. whileOne (find heldId id ws) (λ w. same-refusal room w t)))
 
       many-one : (id room : ℕ) → oneRefused σ T id (flatten ms) room ≡ 0 → length ms ≡ o .servers
       unfolding oneRefused oneRefusal
@@ -176,13 +186,6 @@ module _ (σ : Setting) where
           let w = one-zero (find heldId id (ws .0)) _ (ws .1) in
           as-many σ (o .servers) 34 (w .0 .id) (o .own) (messageOne σ o (w .0)) ms sized
           (or-zero (roundFault σ (o .servers) 34 (w .0 .id) (o .own) (messageOne σ o (w .0)) (flatten ms)) _ (w .1) .0)
-
-      many-two : (id : ℕ) → twoRefused σ T id (flatten ms) ≡ 0 → length ms ≡ o .servers
-      unfolding twoRefused twoRefusal
-      many-two id e =
-          let ws = open-zero (k .stage) _ (or-zero (tableFault σ T) _ e .1) in
-          let w = two-zero (find heldId id (ws .0)) _ (ws .1) in
-          as-many σ (o .servers) 35 (w .0 .id) (o .own) (messageTwo σ o (w .0)) ms sized (w .1)
 
       -- the return with the sums, and the table with it
       abbrev takenAs : ℕ → ℕ → ℕ → Waiting
@@ -199,15 +202,33 @@ module _ (σ : Setting) where
       unfolding tableRefusal tableAnswer tableAfter oneBytes oneTable summed tableState
       one id room =
           let many : oneRefused σ T id (flatten ms) room ≡ 0 → length ms ≡ o .servers = many-one id room in
+          let sums : (j : ℕ) → oneRefused σ T id (flatten ms) room ≡ 0
+          → elementSum σ j 34 (o .servers) (flatten ms) ≡ elementSum σ j 34 (o .servers) (flatten ns) =
+          λ j e. same-sum 34 ms ns sized order j (o .servers) (many e) in
           same-call T (roundOne id (flatten ms) room) (roundOne id (flatten ns) room) (same-one id room)
-          (λ e. ap₂ (λ (x y : ℕ). wrote (messageTwo σ o (takenAs id x y)))
-          (same-firsts (o .servers) (many e)) (same-seconds (o .servers) (many e)))
-          (λ e. ap₂ (tableAs id) (same-firsts (o .servers) (many e)) (same-seconds (o .servers) (many e)))
+          (λ e. ap₂ (λ (x y : ℕ). wrote (messageTwo σ o (takenAs id x y))) (sums 0 e) (sums 1 e))
+          (λ e. ap₂ (tableAs id) (sums 0 e) (sums 1 e))
+
+    -- ---- round two
+    module _ (ms ns : List (List ℕ)) (sized : Sized (roundLength σ 35) ms) (order : Rearranged ms ns) where
+      same-two : (id : ℕ) → twoRefused σ T id (flatten ms) ≡ twoRefused σ T id (flatten ns)
+      unfolding twoRefused twoRefusal
+      same-two id t =
+          orElse (tableFault σ T) (whileOpen (k .stage) (λ ws. whileTwo (find heldId id ws) (λ w.
+          same-fault σ (o .servers) 35 (w .id) (o .own) (messageTwo σ o w) ms ns sized order t)))
+
+      many-two : (id : ℕ) → twoRefused σ T id (flatten ms) ≡ 0 → length ms ≡ o .servers
+      unfolding twoRefused twoRefusal
+      many-two id e =
+          let ws = open-zero (k .stage) _ (or-zero (tableFault σ T) _ e .1) in
+          let w = two-zero (find heldId id (ws .0)) _ (ws .1) in
+          as-many σ (o .servers) 35 (w .0 .id) (o .own) (messageTwo σ o (w .0)) ms sized (w .1)
 
       same-verdict : length ms ≡ o .servers → twoVerdict σ T (flatten ms) ≡ twoVerdict σ T (flatten ns)
       unfolding twoVerdict bothZero tableState
       same-verdict e =
-          ap₂ (λ (x y : ℕ). eqb x 0 && eqb y 0) (same-firsts (o .servers) e) (same-seconds (o .servers) e)
+          ap₂ (λ (x y : ℕ). eqb x 0 && eqb y 0)
+          (same-sum 35 ms ns sized order 0 (o .servers) e) (same-sum 35 ms ns sized order 1 (o .servers) e)
 
       pub two : (id : ℕ) → SameCall σ T (roundTwo id (flatten ms)) (roundTwo id (flatten ns))
       unfolding tableRefusal tableAnswer tableAfter twoTable
@@ -222,8 +243,8 @@ pub any-order : (σ : Setting) → AnyOrder σ
 any-order σ = record {
   before-answer = λ T c e. ap (tableSays σ T c) (e ∙ sym (still-taken σ T c e));
   before-table = λ T c e. ap (tableStep σ T c) (e ∙ sym (still-taken σ T c e));
-  one = λ T id room ms ns sized order. one σ ms ns sized order T id room;
-  two = λ T id ms ns sized order. two σ ms ns sized order T id;
+  one = λ T id room ms ns sized order. one σ T ms ns sized order id room;
+  two = λ T id ms ns sized order. two σ T ms ns sized order id;
   taken = taken σ;
   takes = takes-order σ;
 }

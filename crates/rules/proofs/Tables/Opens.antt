@@ -24,7 +24,7 @@ use Rattle.rules.specs.WaitingList.{placeSize, runSize, numbersAt, waitA
 use Rattle.rules.specs.Table.{Lent, stageOpen, headerLength, tableLength, openLength, openRoom, openBytes, openedTable}
 use Rattle.rules.specs.Ledger.{Call, empty, notesWith, ledgerTotals, ledgerAnswers}
 use Rattle.rules.specs.Runs.{runTable, tableAnswers}
-use Rattle.rules.specs.WholeRun.{BytesIn, opensIn, Pool, columns, openedAt, tableAt, ledgerAt, answersAt}
+use Rattle.rules.specs.Pools.{BytesIn, opensIn, Pool, columns, openedAt, tableAt, ledgerAt, answersAt}
 use Rattle.rules.proofs.Circuits.Limits.{Limits, within-both}
 use Rattle.rules.proofs.Circuits.Refusals.{sheet-read, sheet-limits}
 use Rattle.rules.proofs.Histories.MessageBytes.{width-positive}

@@ -23,7 +23,7 @@ use Rattle.rules.specs.Settings.{Setting, Facts}
 use Rattle.rules.specs.Columns.{check}
 use Rattle.rules.specs.Judging.{shareSize, allowedPair}
 use Rattle.rules.specs.Making.{shareLength}
-use Rattle.rules.specs.Messages.{idIn, kindIn, serverIn, shareElements, headerFault, elementsFault}
+use Rattle.rules.specs.Messages.{idIn, kindIn, serverIn, elementsIn, headerFault, elementsFault}
 use Rattle.rules.specs.Server.{Opened, Wait, heldId, mostWaiting, isMember, whileOpen, shareRefusal}
 use Rattle.rules.specs.Ledger.{Pending, pendingId, isOpen, Decided, idsOf, notesOf, noteOf}
 use Rattle.rules.specs.Ledger.{ledgerWait, ledgerStage, ledgerState}
@@ -40,7 +40,7 @@ module _ (σ : Setting) (facts : Facts σ) (o : Opened) (ws : List Pending) (ds 
     pub fits : NoteFits σ o (noteOf σ o m r s)
     pub new : All (λ x. x ≢ idIn m) (map pendingId ws)
 
-  elements-long : length m ≡ shareLength σ (o .columns) → length (shareElements σ m) ≡ shareSize (o .columns)
+  elements-long : length m ≡ shareLength σ (o .columns) → length (elementsIn σ m) ≡ shareSize (o .columns)
   unfolding shareLength
   elements-long long =
       let rest : length (lists.drop 6 m) ≡ σ .width * shareSize (o .columns) = length-drop 6 m ∙ omega arith in
@@ -79,8 +79,8 @@ module _ (σ : Setting) (facts : Facts σ) (o : Opened) (ws : List Pending) (ds 
           id-fits = id-below bytes long;
           pair = check-passed (allowedPair σ (o .columns) r s) 8 (e₅ .0);
           long = elements-long long;
-          below = all-of-below (σ .modulus) (shareElements σ m)
-              (check-passed (allBelow (σ .modulus) (shareElements σ m)) 7 (e₃ .0));
+          below = all-of-below (σ .modulus) (elementsIn σ m)
+              (check-passed (allBelow (σ .modulus) (elementsIn σ m)) 7 (e₃ .0));
         };
         new = in-all (map pendingId ws) (λ x h q.
             out (append-in (idIn m) used (map heldId ts)

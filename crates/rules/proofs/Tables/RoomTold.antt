@@ -22,7 +22,7 @@ use Rattle.rules.proofs.Circuits.Counts.{circuit-counts}
 use Rattle.rules.proofs.Circuits.Size.{circuit-size-is}
 use Rattle.rules.proofs.Circuits.ReadBack as back
 use Rattle.rules.proofs.Circuits.Refusals.{sheet-read}
-use Rattle.rules.proofs.Histories.ShareBytes.{length-share}
+use Rattle.rules.proofs.Histories.MessageBytes.{length-message}
 use Rattle.rules.proofs.Histories.Opening.{opening}
 use Rattle.rules.proofs.Tables.Greatest.{fits-largest, largest-fits, greatest-most, greatest-reached, fewer-fit}
 
@@ -86,7 +86,7 @@ module _ (σ : Setting) (facts : Facts σ) (sheet : List ℕ) (no-fault : sheetF
     multiplications-are = counted stepGates ∙ circuit-counts σ cs .gates-are;
     tests-are = counted stepTests ∙ circuit-counts σ cs .tests-are;
     circuit-bytes-are = circuit-size-is σ cs;
-    share-bytes-are = λ id server xs e. length-share σ id server xs ∙ ap (λ n. 6 + σ .width * n) e;
+    share-bytes-are = λ id server xs e. length-message σ 33 id server xs ∙ ap (λ n. 6 + σ .width * n) e;
     greatest-most = greatest-most σ some cs mostReturns;
     greatest-opens =
         λ S own N Q room records numbers a b c.

@@ -14,7 +14,7 @@ use Rattle.words.specs.Bytes.{splice}
 use Rattle.records.specs.Outcome.{orElse}
 use Rattle.rules.specs.Settings.{Setting, Facts}
 use Rattle.rules.specs.Columns.{check, publishedIn, publishedFrom}
-use Rattle.rules.specs.Messages.{bothZero, roundLength, roundFault}
+use Rattle.rules.specs.Messages.{bothZero, roundLength, roundFault, challengeFault}
 use Rattle.rules.specs.Keyed.{find, without}
 use Rattle.rules.specs.Server.{Opened, Waiting, Wait, ServerState, messageOne, messageTwo, totalsMessage}
 use Rattle.rules.specs.Server.{whileOpen, whileOne, whileTwo, whileWaiting}
@@ -26,7 +26,7 @@ use Rattle.rules.specs.Ledger.{Pending, waitsOne, waitsTwo, noteIn, pend
 use Rattle.rules.specs.Ledger.{Decision, accepted, rejected, dropped, Decided, Ledger, ledgerWait, ledgerStage, ledgerState}
 use Rattle.rules.specs.Ledger.{closingMessage, refusalOf, decideAs, ledgerAfter, secondMessage, answerOf, runLedger, ledgerAnswers}
 use Rattle.rules.specs.Runs.{tableAfter, tableAnswer, runTable, tableAnswers}
-use Rattle.rules.specs.WholeRun.{BytesIn}
+use Rattle.rules.specs.Pools.{BytesIn}
 use Rattle.rules.proofs.Histories.Keyed.{through}
 use Rattle.rules.proofs.Histories.Moves.{at, find-told, none-waits}
 use Rattle.rules.proofs.Tables.Writes.{setStage, put-stage}
@@ -146,7 +146,8 @@ module _ (σ : Setting) (facts : Facts σ) (o : Opened) (sheet : List ℕ) (open
     take-open (share m r s room) bytes e = take-share m r s room bytes e
     take-open (roundOne id joined room) bytes e =
         let f : Waiting → ℕ = λ w.
-        orElse (roundFault σ (o .servers) 34 (w .id) (o .own) (messageOne σ o w) joined) (check (leb (roundLength σ) room) 14) in
+        orElse (roundFault σ (o .servers) 34 (w .id) (o .own) (messageOne σ o w) joined)
+        (orElse (challengeFault σ (o .servers) joined) (check (leb (roundLength σ 35) room) 14)) in
         take-one id joined room (find pendingId id ws) refl f (ap (λ (v : Option Wait). whileOne v f) (sym (find-told σ o id ws)) ∙ e)
     take-open (roundTwo id joined) bytes e =
         let f : Waiting → ℕ = λ w. roundFault σ (o .servers) 35 (w .id) (o .own) (messageTwo σ o w) joined in

@@ -10,7 +10,7 @@ use lib.ListN.{length, getD, set, length-map}
 use Rattle.algebra.specs.Lists.{All}
 use Rattle.slots.specs.Slots.{freeSlot}
 use Rattle.rules.specs.Settings.{Setting, Facts}
-use Rattle.rules.specs.Messages.{idIn, shareElements, firstSum, secondSum}
+use Rattle.rules.specs.Messages.{idIn, elementsIn, elementSum, firstSum, secondSum}
 use Rattle.rules.specs.Keyed.{find, changed}
 use Rattle.rules.specs.Server.{Opened, Waiting, held, mostWaiting, waitingOf, withSums, summed, messageOne, messageTwo}
 use Rattle.rules.specs.WaitingList.{stageOne, stageTwo, freePlace, placeOf, numbersAt, waitingAt, slotOf, numbersOf, putNumbers}
@@ -30,7 +30,7 @@ module _ (σ : Setting) (o : Opened) (T : Lent) (ws : List Pending) (ds : List D
   -- ---- a share
   pub share-writes : (m : List ℕ) (r s : ℕ) → shareBytes σ T m r s ≡ messageOne σ o (noted σ o (noteOf σ o m r s))
   unfolding shareBytes
-  share-writes m r s = ap (λ (p : Opened). messageOne σ p (waitingOf σ p (idIn m) (shareElements σ m) r s)) opened
+  share-writes m r s = ap (λ (p : Opened). messageOne σ p (waitingOf σ p (idIn m) (elementsIn σ m) r s)) opened
 
   pub share-taken : Facts σ → (m : List ℕ) (r s : ℕ) → NoteFits σ o (noteOf σ o m r s) → length ws < mostWaiting
       → All (λ x. x ≢ idIn m) (map pendingId ws) → length ds + length ws < o .returns
@@ -45,9 +45,9 @@ module _ (σ : Setting) (o : Opened) (T : Lent) (ws : List Pending) (ds : List D
     staged = b .staged;
     listed = subst (λ (p : Opened).
         Listed σ o (waitsOne (noteOf σ o m r s) ∷ ws)
-        (set (T .slots) (freePlace (T .slots)) (slotOf stageOne (waitingOf σ p (idIn m) (shareElements σ m) r s)))
+        (set (T .slots) (freePlace (T .slots)) (slotOf stageOne (waitingOf σ p (idIn m) (elementsIn σ m) r s)))
         (putNumbers (p .columns) (T .elements) (freePlace (T .slots))
-        (numbersOf (waitingOf σ p (idIn m) (shareElements σ m) r s))))
+        (numbersOf (waitingOf σ p (idIn m) (elementsIn σ m) r s))))
         (sym opened)
         (taken-listed σ facts o ws (T .slots) (T .elements) (b .listed) (noteOf σ o m r s) f few new);
     room = omega arith;
@@ -67,7 +67,7 @@ module _ (σ : Setting) (o : Opened) (T : Lent) (ws : List Pending) (ds : List D
     one-writes = ap₂ (λ (p : Opened) (w : Waiting). messageTwo σ p (summed σ p w joined)) opened (under-is id (waitsOne n) q)
 
     abbrev sums : Opened → Pending → Pending
-    sums p = sumsNoted σ p (firstSum σ (p .servers) joined) (secondSum σ (p .servers) joined)
+    sums p = sumsNoted σ p (firstSum σ 34 (p .servers) joined) (secondSum σ 34 (p .servers) joined)
 
     as-long : length (changed pendingId id (sums o) ws) ≡ length ws
     as-long =
@@ -77,10 +77,10 @@ module _ (σ : Setting) (o : Opened) (T : Lent) (ws : List Pending) (ds : List D
         ∙ length-map ws none
 
     pub one-taken : Facts σ → Beside σ o (oneTable σ T id joined) (at (isOpen (changed pendingId id (sums o) ws)) ds)
-    unfolding oneTable summed firstSum secondSum
+    unfolding oneTable summed elementSum
     one-taken facts =
-        let d : ℕ = firstSum σ (o .servers) joined in
-        let e : ℕ = secondSum σ (o .servers) joined in
+        let d : ℕ = firstSum σ 34 (o .servers) joined in
+        let e : ℕ = secondSum σ 34 (o .servers) joined in
         let j : ℕ = placeOf id (T .slots) in
         record {
           parts = b .parts;
@@ -93,7 +93,7 @@ module _ (σ : Setting) (o : Opened) (T : Lent) (ws : List Pending) (ds : List D
               Listed σ o (changed pendingId id (sums o) ws)
               (set (T .slots) j (slotOf stageTwo
               (withSums (waitingAt (p .columns) (getD (T .slots) j freeSlot) (numbersAt (p .columns) (T .elements) j))
-              (firstSum σ (p .servers) joined) (secondSum σ (p .servers) joined))))
+              (firstSum σ 34 (p .servers) joined) (secondSum σ 34 (p .servers) joined))))
               (T .elements))
               (sym opened)
               (summed-listed σ o d e ws (T .slots) (T .elements) (b .listed) id n q (sum-below σ facts (o .servers) _)

@@ -107,13 +107,23 @@ write-last-requires c κs =
 id-of-requires : tie.Need-id-of-requires
 id-of-requires c κs = search needs
 
-cast-write-round : tie.Need-cast-write-round
-cast-write-round c =
+cast-write-one : tie.Need-cast-write-one
+cast-write-one c =
     let u = c .before .before .before .before .before .before .before .before .before .before .before .before .before .before in
     omega (arith, entry u .pre .0 .table .limited)
 
-write-round-requires : tie.Need-write-round-requires
-write-round-requires c κs =
+cast-write-one-2 : tie.Need-cast-write-one-2
+cast-write-one-2 c =
+    let u = c .before .before .before .before .before .before .before .before .before .before .before .before .before .before in
+    omega (arith, entry u .pre .0 .r-below)
+
+cast-write-one-3 : tie.Need-cast-write-one-3
+cast-write-one-3 c =
+    let u = c .before .before .before .before .before .before .before .before .before .before .before .before .before .before in
+    omega (arith, entry u .pre .0 .s-below)
+
+write-one-requires : tie.Need-write-one-requires
+write-one-requires c κs =
     let u = c .before .before .before .before .before .before .before .before .before .before .before .before .before .before in
     entry u .pre .1
 
@@ -147,7 +157,7 @@ returns c =
     let a = p .args in
     taken (whole u) (a .k) (a .m .now) (a .x .now) (a .r) (a .s) (p .pre .0) (place u) (d .id-of .result) (d .id-of .ensures)
     (v .read-share .last .0) (v .read-share .ensures) (j .judged .result) (j .judged .ensures) (a .out .now) (w .write-last .last .0)
-    (o .write-round .last .0) (c .records .result) (w .write-last .ensures) (o .write-round .ensures) (c .records .ensures)
+    (o .write-one .last .0) (c .records .result) (w .write-last .ensures) (o .write-one .ensures) (c .records .ensures)
 
 pub take-spec : {M : Type 1} → statement M
 take-spec =
@@ -168,8 +178,10 @@ take-spec =
     judged-requires
     write-last-requires
     id-of-requires
-    cast-write-round
-    write-round-requires
+    cast-write-one
+    cast-write-one-2
+    cast-write-one-3
+    write-one-requires
     cast-t32
     cast-t33
     records-requires

@@ -1,6 +1,6 @@
 // Results: every call that is measured, on every side, and what was written compared.
 use crate::pool;
-use crate::setting::{settings, Setting, ID, LIMIT, ROOM};
+use crate::setting::{settings, Setting, ID, LIMIT, ONE_BYTES, ROOM};
 use crate::tables::{Lent, Ours, Table};
 use second::{fast, gen, Circuit, Sheet};
 
@@ -59,8 +59,15 @@ fn stateless(count: &mut Count, x: &Setting) {
 // What a call gives, in bytes, or the number of its refusal.
 type Answer = Result<Vec<u8>, u32>;
 
+// The round-one messages with another s in the one of the server after this.
+fn unequal(x: &Setting, own: u32) -> Vec<u8> {
+    let (next, mut joined) = ((own + 1) % x.servers, x.ones.clone());
+    joined[(next as usize + 1) * ONE_BYTES - 4] ^= 1;
+    joined
+}
+
 // The answers of a server's calls by their names: eight returns wait, one is dropped, and another taken in its record to the
-// totals; each call also where it is refused, by the stage or, for opening, by the own number.
+// totals; each call also where it is refused, by the stage, round one by another s or, for opening, by the own number.
 fn answers<T: Table>(x: &Setting, own: u32) -> Vec<(&'static str, Answer)> {
     let mut said = vec![("open", T::fresh(x, x.servers).map(|_| Vec::new()))];
     let mut t = T::fresh(x, own).expect("a table");
@@ -74,7 +81,8 @@ fn answers<T: Table>(x: &Setting, own: u32) -> Vec<(&'static str, Answer)> {
     for message in [x.share(own), x.share(own)] {
         said.push(("share", t.share(message, x.r, x.s).map(Vec::from)));
     }
-    let ones = [t.round_one(101, &x.ones), t.round_one(ID, &x.ones), t.round_one(ID, &x.ones)];
+    let slip = unequal(x, own);
+    let ones = [(101, &x.ones), (ID, &slip), (ID, &x.ones), (ID, &x.ones)].map(|(id, joined)| t.round_one(id, joined));
     said.extend(ones.map(|message| ("round one", message.map(Vec::from))));
     let twos = [t.round_two(101, &x.twos), t.round_two(ID, &x.twos), t.round_two(ID, &x.twos)];
     said.extend(twos.map(|verdict| ("round two", verdict.map(|accepted| vec![u8::from(accepted)]))));

@@ -1,22 +1,23 @@
 // Bytes of what a host keeps and sends.
-use crate::setting::Setting;
+use crate::setting::{Setting, ONE_BYTES, TWO_BYTES};
 
 pub fn run(settings: &[Setting]) {
-    println!("bytes of a table for N returns, of its records and numbers, of a share, a round and a totals message");
+    println!("bytes of a table for N returns, of its records and numbers, of a share, both rounds', a totals message");
     println!(
-        "{:<14} {:>4} {:>9} {:>9} {:>9} {:>8} {:>8} {:>7} {:>6} {:>7}",
-        "sheet", "M", "N = 1", "N = 64", "N = 1024", "records", "numbers", "share", "round", "totals"
+        "{:<14} {:>4} {:>9} {:>9} {:>9} {:>8} {:>8} {:>7} {:>5} {:>5} {:>7}",
+        "sheet", "M", "N = 1", "N = 64", "N = 1024", "records", "numbers", "share", "one", "two", "totals"
     );
     for x in settings.iter().filter(|x| x.servers == 2) {
         let [one, some, most] = [1, 64, 1024].map(|n| x.table_bytes(n));
         println!(
-            "{:<14} {:>4} {one:>9} {some:>9} {most:>9} {:>8} {:>8} {:>7} {:>6} {:>7}",
+            "{:<14} {:>4} {one:>9} {some:>9} {most:>9} {:>8} {:>8} {:>7} {:>5} {:>5} {:>7}",
             x.name,
             x.gates,
             8 * 40,
             4 * x.numbers(),
             x.share_bytes(),
-            14,
+            ONE_BYTES,
+            TWO_BYTES,
             x.totals_bytes()
         );
     }

@@ -9,7 +9,7 @@
 //
 // The clock is read once for several tables in the same state, and the time of an empty turn is taken off. At M = 256
 // it is one table: more would push the fast form's work space, which it keeps in each table, out of the nearest cache.
-use crate::setting::{Setting, ID, RETURNS, ROOM};
+use crate::setting::{Setting, ID, ONE_BYTES, RETURNS, ROOM, TWO_BYTES};
 use crate::tables::Table;
 use std::hint::black_box;
 use std::time::Instant;
@@ -64,8 +64,8 @@ impl Messages {
 
     fn put(&mut self, id: u32) {
         put_id(&mut self.share, usize::MAX, id);
-        put_id(&mut self.ones, 14, id);
-        put_id(&mut self.twos, 14, id);
+        put_id(&mut self.ones, ONE_BYTES, id);
+        put_id(&mut self.twos, TWO_BYTES, id);
     }
 }
 

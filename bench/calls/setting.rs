@@ -9,6 +9,9 @@ pub const LIMIT: u32 = RETURNS + 7;
 // The Q of the tables: one accepted return closes them.
 pub const LEAST: u32 = 1;
 pub const ROOM: usize = 32768;
+// The bytes of a round-one and of a round-two message.
+pub const ONE_BYTES: usize = 22;
+pub const TWO_BYTES: usize = 14;
 
 pub struct Setting {
     pub name: &'static str,
@@ -43,9 +46,9 @@ impl Setting {
         let mut tables: Vec<fast::Table> =
             (0..servers).map(|own| fast::open(servers, own, &sheet, LIMIT, LEAST).expect("a table")).collect();
         let messages = shares.chunks(read.share_length());
-        let ones = tables.iter_mut().zip(messages).flat_map(|(t, m)| fast::share(t, m, r, s, 14).expect("round one"));
+        let ones = tables.iter_mut().zip(messages).flat_map(|(t, m)| fast::share(t, m, r, s, ROOM).expect("round one"));
         let ones: Vec<u8> = ones.collect();
-        let twos = tables.iter_mut().flat_map(|t| fast::round_one(t, ID, &ones, 14).expect("round two"));
+        let twos = tables.iter_mut().flat_map(|t| fast::round_one(t, ID, &ones, ROOM).expect("round two"));
         let twos: Vec<u8> = twos.collect();
         let closings = tables.iter_mut().flat_map(|t| {
             fast::round_two(t, ID, &twos).expect("a verdict");

@@ -3,7 +3,7 @@
 // them, as document 01 asks (refusal 11); their messages are written into lent buffers. The fast one is a structure that
 // nobody else can write, so its calls do not look it over; it has weights worked out at opening and keeps work space.
 use crate::pool;
-use crate::setting::{Setting, LEAST, LIMIT};
+use crate::setting::{Setting, LEAST, LIMIT, ONE_BYTES, TWO_BYTES};
 use second::{fast, lent, Verdict};
 use std::borrow::Cow;
 
@@ -12,8 +12,8 @@ pub trait Table: Sized {
     fn fresh(x: &Setting, own: u32) -> Result<Self, u32>;
     // The table of server 0 opened in the place of another, whose memory is used again or given back later.
     fn open(&mut self, x: &Setting) -> Option<Self>;
-    fn share(&mut self, message: &[u8], r: u64, s: u64) -> Result<[u8; 14], u32>;
-    fn round_one(&mut self, id: u32, joined: &[u8]) -> Result<[u8; 14], u32>;
+    fn share(&mut self, message: &[u8], r: u64, s: u64) -> Result<[u8; ONE_BYTES], u32>;
+    fn round_one(&mut self, id: u32, joined: &[u8]) -> Result<[u8; TWO_BYTES], u32>;
     // Whether the return is accepted.
     fn round_two(&mut self, id: u32, joined: &[u8]) -> Result<bool, u32>;
     fn drop(&mut self, id: u32) -> Result<(), u32>;
@@ -48,14 +48,14 @@ macro_rules! table_in_parts {
                 None
             }
 
-            fn share(&mut self, message: &[u8], r: u64, s: u64) -> Result<[u8; 14], u32> {
-                let mut out = [0; 14];
+            fn share(&mut self, message: &[u8], r: u64, s: u64) -> Result<[u8; ONE_BYTES], u32> {
+                let mut out = [0; ONE_BYTES];
                 $calls::share(&mut self.bytes, &mut self.slots, &mut self.elements, message, r, s, &mut out)?;
                 Ok(out)
             }
 
-            fn round_one(&mut self, id: u32, joined: &[u8]) -> Result<[u8; 14], u32> {
-                let mut out = [0; 14];
+            fn round_one(&mut self, id: u32, joined: &[u8]) -> Result<[u8; TWO_BYTES], u32> {
+                let mut out = [0; TWO_BYTES];
                 $calls::round_one(&mut self.bytes, &mut self.slots, &mut self.elements, id, joined, &mut out)?;
                 Ok(out)
             }
@@ -98,12 +98,12 @@ impl Table for fast::Table {
         Some(fast::Table::fresh(x, 0).expect("opened"))
     }
 
-    fn share(&mut self, message: &[u8], r: u64, s: u64) -> Result<[u8; 14], u32> {
-        fast::share(self, message, r, s, 14)
+    fn share(&mut self, message: &[u8], r: u64, s: u64) -> Result<[u8; ONE_BYTES], u32> {
+        fast::share(self, message, r, s, ONE_BYTES)
     }
 
-    fn round_one(&mut self, id: u32, joined: &[u8]) -> Result<[u8; 14], u32> {
-        fast::round_one(self, id, joined, 14)
+    fn round_one(&mut self, id: u32, joined: &[u8]) -> Result<[u8; TWO_BYTES], u32> {
+        fast::round_one(self, id, joined, TWO_BYTES)
     }
 
     fn round_two(&mut self, id: u32, joined: &[u8]) -> Result<bool, u32> {

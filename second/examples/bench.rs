@@ -90,7 +90,7 @@ impl Setting<'_> {
         Ok(time(self.plain_count(), |number| {
             let (r, s) = self.challenges[number as usize % 256];
             let mut table = plain.clone();
-            let _ = black_box(table::share(&mut table, &self.shares[0], r, s, 14));
+            let _ = black_box(table::share(&mut table, &self.shares[0], r, s, ROOM));
         }))
     }
 
@@ -107,7 +107,7 @@ impl Setting<'_> {
             }
             message[1..5].copy_from_slice(&number.to_le_bytes());
             let (r, s) = self.challenges[number as usize % 256];
-            let _ = black_box(fast::share(&mut table, &message, r, s, 14));
+            let _ = black_box(fast::share(&mut table, &message, r, s, ROOM));
             let _ = fast::drop(&mut table, number);
         }))
     }
@@ -118,18 +118,18 @@ impl Setting<'_> {
         let (mut tables, mut first, mut second) = (Vec::new(), Vec::new(), Vec::new());
         for (own, share) in (0..SERVERS).zip(&self.shares) {
             let mut table = fast::open(SERVERS, own, self.bytes, LIMIT, 1)?;
-            first.extend(fast::share(&mut table, share, r, s, 14)?);
+            first.extend(fast::share(&mut table, share, r, s, ROOM)?);
             tables.push(table);
         }
         for table in &tables {
-            second.extend(fast::round_one(&mut table.clone(), ID, &first, 14)?);
+            second.extend(fast::round_one(&mut table.clone(), ID, &first, ROOM)?);
         }
         let cloned = time(20_000, |_| {
             black_box(tables[0].clone());
         });
         let both = time(20_000, |_| {
             let mut table = tables[0].clone();
-            let _ = black_box(fast::round_one(&mut table, ID, &first, 14));
+            let _ = black_box(fast::round_one(&mut table, ID, &first, ROOM));
             let _ = black_box(fast::round_two(&mut table, ID, &second));
         });
         Ok(both - cloned)

@@ -1,19 +1,18 @@
 //! "Judging": what one server works out from its share, and the round messages.
 
+mod rounds;
+
 use crate::circuit::Circuit;
 use crate::field::{self, P};
 use crate::making::{combine, points, SHARE};
 use crate::refusal;
 use crate::sheet::Sheet;
 
-/// The length of a round message.
-pub const ROUND_LENGTH: usize = 14;
-/// The kind byte of a round one message.
-pub const ROUND_ONE: u8 = 34;
-/// The kind byte of a round two message.
-pub const ROUND_TWO: u8 = 35;
-/// Where the server number stands in a round message.
-pub(crate) const SERVER: usize = 5;
+pub(crate) use rounds::{
+    round_one_message, round_one_sums, round_two_message, round_two_sums, CHALLENGES, ELEMENTS,
+    SERVER,
+};
+pub use rounds::{ROUND_ONE, ROUND_ONE_LENGTH, ROUND_TWO, ROUND_TWO_LENGTH};
 
 /// The Lagrange basis for the points 0..=degree at x: number j is the product of
 /// (x - k) / (j - k) over all k other than j. No quotient by x - k is formed, so x may
@@ -145,67 +144,6 @@ pub(crate) fn sigma(findings: &Findings, first: bool, d: u64, e: u64) -> u64 {
     } else {
         own
     }
-}
-
-/// A round message: kind byte, id, server, two elements.
-pub(crate) fn round_message(kind: u8, id: u32, server: u32, x: u64, y: u64) -> [u8; ROUND_LENGTH] {
-    let mut message = [0; ROUND_LENGTH];
-    message[0] = kind;
-    message[1..5].copy_from_slice(&id.to_le_bytes());
-    message[SERVER] = server as u8;
-    message[6..10].copy_from_slice(&field::bytes(x));
-    message[10..14].copy_from_slice(&field::bytes(y));
-    message
-}
-
-/// What every message of a joined round must say.
-pub(crate) struct Round<'a> {
-    pub servers: u32,
-    pub kind: u8,
-    pub id: u32,
-    /// The own number, and the message that this server wrote.
-    pub own: u32,
-    pub written: &'a [u8; ROUND_LENGTH],
-}
-
-/// Judges joined round messages (refusal 12) and gives the two sums.
-pub(crate) fn round_sums(round: &Round, joined: &[u8]) -> Result<(u64, u64), u32> {
-    // Wrong length.
-    if joined.len() != ROUND_LENGTH * round.servers as usize {
-        return Err(refusal::JOINED);
-    }
-    let mut sums = (0, 0);
-    // The servers of the places before, a bit for each.
-    let mut seen = 0u32;
-    for place in 0..round.servers as usize {
-        // "Each server's message of 14 bytes is judged from its own place in them."
-        let message = &joined[ROUND_LENGTH * place..][..ROUND_LENGTH];
-        // "The joined messages of a round may stand in any order, each server exactly once."
-        // There are S: when all numbers are below S and none comes twice, none is missing.
-        let server = u32::from(message[SERVER]);
-        if server >= round.servers || seen >> server & 1 == 1 {
-            return Err(refusal::JOINED);
-        }
-        seen |= 1 << server;
-        let (x, y) = round_elements(round, message).ok_or(refusal::JOINED)?;
-        sums = (sums.0 + x, sums.1 + y);
-    }
-    Ok((sums.0 % P, sums.1 % P))
-}
-
-/// The two elements of a message; `None` for a wrong kind, id or element, or when it is the
-/// own one, told by its server byte, and altered.
-fn round_elements(round: &Round, message: &[u8]) -> Option<(u64, u64)> {
-    let (header, elements) = message.split_at_checked(6)?;
-    let sound = header[0] == round.kind && header[1..5] == round.id.to_le_bytes();
-    if !sound || (u32::from(header[SERVER]) == round.own && message != round.written) {
-        return None;
-    }
-    if !field::all_elements(elements) {
-        return None;
-    }
-    let mut words = field::words(elements).map(u64::from);
-    Some((words.next()?, words.next()?))
 }
 
 /// "Challenges: r from M + 1 to p - 1, s from 0 to p - 1" (refusal 9).

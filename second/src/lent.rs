@@ -69,8 +69,8 @@ mod totals;
 
 use crate::field;
 use crate::judging::{
-    check_challenges, parts_of_length, round_message, round_sums, sigma, Findings, Round,
-    ROUND_LENGTH, ROUND_ONE, ROUND_TWO,
+    check_challenges, parts_of_length, round_one_message, round_one_sums, round_two_message,
+    round_two_sums, sigma, Findings, ROUND_ONE_LENGTH, ROUND_TWO_LENGTH,
 };
 use crate::limits::{check_limit, check_servers};
 use crate::refusal;
@@ -123,8 +123,8 @@ pub fn open(
     Ok(length)
 }
 
-/// Takes a share into the first free record; writes the server's round one message and gives
-/// its length. Order of refusals: 11, 13, 7, 8, 10, 9, 14.
+/// Takes a share into the first free record; writes the server's round one message, which has r
+/// and s too, and gives its length. Order of refusals: 11, 13, 7, 8, 10, 9, 14.
 pub fn share(
     table: &mut [u8],
     slots: &mut [Slot],
@@ -161,8 +161,8 @@ pub fn share(
         d: found.d,
         e: found.e,
     };
-    *out = round_message(ROUND_ONE, id, table.own(), found.d, found.e);
-    Ok(ROUND_LENGTH)
+    *out = round_one_message(id, table.own(), [found.d, found.e], [r, s]);
+    Ok(ROUND_ONE_LENGTH)
 }
 
 /// Notes the elements of a share, r × h(r) and tau at a place.
@@ -175,7 +175,8 @@ fn note_share(table: &mut Table, at: usize, words: &[Word], found: &Findings) {
 }
 
 /// Takes round one's joined messages, in any order, for the return that waits under an id;
-/// writes the server's round two message and gives its length. Order of refusals: 11, 12, 14.
+/// writes the server's round two message and gives its length. Order of refusals: 11, 12, 16,
+/// 14.
 pub fn round_one(
     table: &mut [u8],
     slots: &mut [Slot],
@@ -188,16 +189,17 @@ pub fn round_one(
     let at = awaits(&table, id, AWAITS_ONE)?;
     let own = table.own();
     let found = table.findings(at);
-    let written = round_message(ROUND_ONE, id, own, found.d, found.e);
-    let (d, e) = sums(&table, id, &written, joined)?;
+    let Slot { r, s, .. } = table.slots[at];
+    let written = round_one_message(id, own, [found.d, found.e], [r, s]);
+    let (d, e) = round_one_sums(table.servers(), &written, joined)?;
     let out = out.first_chunk_mut().ok_or(refusal::ROOM)?;
 
     let sigma = sigma(&found, own == 0, d, e);
     let slot = &mut table.slots[at];
     slot.stage = AWAITS_TWO;
     (slot.d, slot.e) = (d, e);
-    *out = round_message(ROUND_TWO, id, own, sigma, found.tau);
-    Ok(ROUND_LENGTH)
+    *out = round_two_message(id, own, sigma, found.tau);
+    Ok(ROUND_TWO_LENGTH)
 }
 
 /// Takes round two's joined messages, in any order, for the return that waits under an id; gives
@@ -214,8 +216,9 @@ pub fn round_two(
     let own = table.own();
     let found = table.findings(at);
     let sigma = sigma(&found, own == 0, found.d, found.e);
-    let written = round_message(ROUND_TWO, id, own, sigma, found.tau);
-    let verdict = if sums(&table, id, &written, joined)? == (0, 0) {
+    let written = round_two_message(id, own, sigma, found.tau);
+    let sums = round_two_sums(table.servers(), &written, joined)?;
+    let verdict = if sums == (0, 0) {
         table.accept(at);
         Verdict::Accepted
     } else {
@@ -270,22 +273,4 @@ fn awaits(table: &Table, id: u32, stage: u32) -> Result<usize, u32> {
     let at = table.waits(id);
     let at = at.filter(|&at| table.slots[at].stage == stage);
     at.ok_or(refusal::STAGE)
-}
-
-/// Judges a round's joined messages (refusal 12) for an id, of which the own one must be the one
-/// that was written; gives both sums.
-fn sums(
-    table: &Table,
-    id: u32,
-    written: &[u8; ROUND_LENGTH],
-    joined: &[u8],
-) -> Result<(u64, u64), u32> {
-    let round = Round {
-        servers: table.servers(),
-        kind: written[0],
-        id,
-        own: table.own(),
-        written,
-    };
-    round_sums(&round, joined)
 }

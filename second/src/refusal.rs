@@ -30,6 +30,8 @@ pub const FULL: u32 = 13;
 pub const ROOM: u32 = 14;
 /// Fewer than Q returns accepted.
 pub const FEW: u32 = 15;
+/// Challenges that differ among round one messages.
+pub const UNEQUAL: u32 = 16;
 /// More than 4,096 lists.
 pub const MANY: u32 = 17;
 /// A run that is not R × W bytes.

@@ -4,7 +4,7 @@ mod state;
 
 use crate::circuit::Circuit;
 use crate::field;
-use crate::judging::{find, Findings, ROUND_LENGTH};
+use crate::judging::{find, Findings, ROUND_ONE_LENGTH, ROUND_TWO_LENGTH};
 use crate::sheet::Sheet;
 use state::State;
 
@@ -100,19 +100,19 @@ impl<F> Table<F> {
     /// The ids that wait with their stages, in the order of their places.
     pub fn waiting(&self) -> Vec<(u32, Stage)> {
         let waiting = self.state.waiting();
-        waiting.map(|own| (own.id, own.stage)).collect()
+        waiting.map(|own| (own.id, own.stage())).collect()
     }
 
     /// The stage of the return that waits under an id, if one does.
     pub fn stage(&self, id: u32) -> Option<Stage> {
         let mut waiting = self.state.waiting();
-        waiting.find(|own| own.id == id).map(|own| own.stage)
+        waiting.find(|own| own.id == id).map(|own| own.stage())
     }
 
     /// The message that this table wrote last for an id that waits.
-    pub fn waiting_message(&self, id: u32) -> Option<[u8; ROUND_LENGTH]> {
+    pub fn waiting_message(&self, id: u32) -> Option<&[u8]> {
         let mut waiting = self.state.waiting();
-        waiting.find(|own| own.id == id).map(|own| own.message)
+        waiting.find(|own| own.id == id).map(|own| own.message())
     }
 }
 
@@ -135,29 +135,29 @@ pub fn open(servers: u32, own: u32, sheet: &[u8], limit: u32, least: u32) -> Res
     open_as(servers, own, sheet, limit, least)
 }
 
-/// Takes a share; gives the server's round one message. Order of refusals: 11, 13, 7, 8,
-/// 10, 9, 14.
+/// Takes a share; gives the server's round one message, which has r and s too. Order of
+/// refusals: 11, 13, 7, 8, 10, 9, 14.
 pub fn share<F: Form>(
     table: &mut Table<F>,
     message: &[u8],
     r: u64,
     s: u64,
     room: usize,
-) -> Result<[u8; ROUND_LENGTH], u32> {
+) -> Result<[u8; ROUND_ONE_LENGTH], u32> {
     let Table { state, form } = table;
     let (id, elements) = state.check_share(message, r, s, room)?;
     let worked = form.work(&state.sheet, state.first(), elements, r, s);
-    state.note_share(id, worked)
+    state.note_share(id, r, s, worked)
 }
 
 /// Takes round one's joined messages, in any order, for the return that waits under an id;
-/// gives the server's round two message. Order of refusals: 11, 12, 14.
+/// gives the server's round two message. Order of refusals: 11, 12, 16, 14.
 pub fn round_one<F>(
     table: &mut Table<F>,
     id: u32,
     joined: &[u8],
     room: usize,
-) -> Result<[u8; ROUND_LENGTH], u32> {
+) -> Result<[u8; ROUND_TWO_LENGTH], u32> {
     table.state.round_one(id, joined, room)
 }
 

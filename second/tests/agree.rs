@@ -109,7 +109,7 @@ fn full_sheets_agree() {
                     message: given.shares[own as usize].clone(),
                     r,
                     s: given.s,
-                    room: 14,
+                    room: ONE_BYTES,
                 };
                 assert_eq!(quick.call(&call), plain.call(&call));
                 assert!(quick == plain);

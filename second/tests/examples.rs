@@ -114,7 +114,7 @@ fn range_of_r() {
         (P, Err(refusal::CHALLENGE)),
     ] {
         let mut table = open(2, 0, &YES_NO, 1, 1).unwrap();
-        let answer = share(&mut table, &shares[0], r, 0, 14);
+        let answer = share(&mut table, &shares[0], r, 0, ONE_BYTES);
         assert_eq!(answer.map(|_| ()), expected, "r = {r}");
     }
 }

@@ -122,7 +122,7 @@ fn share_and_round_one(bytes: &[u8], given: &Return, r: u64) {
             message: given.shares[own].clone(),
             r,
             s: given.s,
-            room: 14,
+            room: ONE_BYTES,
         };
         let answer = plains[own].call(&call);
         assert_eq!(lents[own].call(&call), answer, "{bytes:?}");
@@ -133,7 +133,7 @@ fn share_and_round_one(bytes: &[u8], given: &Return, r: u64) {
     let call = Call::RoundOne {
         id: given.id,
         joined,
-        room: 14,
+        room: TWO_BYTES,
     };
     for (lent, plain) in lents.iter_mut().zip(&mut plains) {
         assert_eq!(lent.call(&call), plain.call(&call), "{bytes:?}");
@@ -148,7 +148,7 @@ fn a_thousand_ids() {
         message: share_message(id, 0, &elements),
         r: 100,
         s: 3,
-        room: 14,
+        room: ONE_BYTES,
     };
     for id in 0..1024u32 {
         if id > 0 {

@@ -79,7 +79,7 @@ impl Model {
     fn note_share(&mut self, message: &[u8], r: u64, s: u64, plain: &Table) {
         let id = id_of(message);
         let free = self.slots.iter().position(|slot| slot.stage == 0).unwrap();
-        let (d, e) = pair_of(&plain.waiting_message(id).unwrap());
+        let (d, e) = pair_of(plain.waiting_message(id).unwrap());
         let elements = field::elements(&message[6..]).unwrap();
         let (rh, tau) = self.found(&elements, id, plain);
         self.slots[free] = Slot {
@@ -99,19 +99,18 @@ impl Model {
     }
 
     /// r × h(r) and tau, from the round two message that the plain form writes when the others'
-    /// messages are 0: sigma = d × b + e × a + c - r × h(r), plus d × e at server 0.
+    /// d and e are 0: sigma = d × b + e × a + c - r × h(r), plus d × e at server 0.
     fn found(&self, elements: &[u64], id: u32, plain: &Table) -> (u64, u64) {
         let message = plain.waiting_message(id).unwrap();
-        let mut joined = vec![0; 14 * self.servers as usize];
-        for (server, place) in joined.chunks_mut(14).enumerate() {
-            place[..5].copy_from_slice(&message[..5]);
+        let mut joined = message.repeat(self.servers as usize);
+        for (server, place) in joined.chunks_mut(ONE_BYTES).enumerate() {
             place[5] = server as u8;
-            if server == self.own as usize {
-                place.copy_from_slice(&message);
+            if server != self.own as usize {
+                place[6..14].fill(0);
             }
         }
-        let (d, e) = pair_of(&message);
-        let second = round_one(&mut plain.clone(), id, &joined, 14).unwrap();
+        let (d, e) = pair_of(message);
+        let second = round_one(&mut plain.clone(), id, &joined, TWO_BYTES).unwrap();
         let (sigma, tau) = pair_of(&second);
         let [.., a, b, c] = elements[..] else {
             panic!("too few elements");

@@ -32,7 +32,7 @@ fn alone(setting: &Setting, given: &Return, rng: &mut Rng) -> Course {
         message: given.shares[own].clone(),
         r: given.r,
         s: given.s,
-        room: 14,
+        room: ONE_BYTES,
     };
     let mut course = Course::new();
     let joined = everywhere(setting.own, &mut tables, &mut course, share);
@@ -42,7 +42,7 @@ fn alone(setting: &Setting, given: &Return, rng: &mut Rng) -> Course {
         let one = Call::RoundOne {
             id,
             joined,
-            room: 14,
+            room: TWO_BYTES,
         };
         let joined = everywhere(setting.own, &mut tables, &mut course, |_| one.clone());
         if last > 1 {
@@ -125,7 +125,7 @@ impl Setting {
 fn shuffled(call: &Call, rng: &mut Rng) -> Call {
     let mut call = call.clone();
     if let Call::RoundOne { joined, .. } | Call::RoundTwo { joined, .. } = &mut call {
-        let mut messages: Vec<Vec<u8>> = joined.chunks(14).map(<[u8]>::to_vec).collect();
+        let mut messages: Vec<Vec<u8>> = each_message(joined).map(<[u8]>::to_vec).collect();
         rng.shuffle(&mut messages);
         *joined = messages.concat();
     }

@@ -24,12 +24,12 @@ fn from_the_last_to_the_first() {
 #[test]
 fn every_run_of_four_messages() {
     for round in rounds(4) {
-        let past = with(&round.joined[..14], 5, &[4]);
+        let past = with(&round.joined[..round.length()], 5, &[4]);
         let messages = [&round.joined[..], &past].concat();
         let mut taken = 0;
         for run in 0..625 {
             let order = [run % 5, run / 5 % 5, run / 25 % 5, run / 125];
-            let joined = ordered(&messages, 14, &order);
+            let joined = ordered(&messages, &order);
             if (0..4).all(|server| order.contains(&server)) {
                 round.as_in_server_order(&joined);
                 taken += 1;
@@ -47,12 +47,13 @@ fn a_server_twice() {
     for servers in [2, 3, 8] {
         for round in rounds(servers) {
             for joined in [round.joined.clone(), reversed(&round.joined)] {
-                let places = (0..joined.len()).step_by(14);
+                let length = round.length();
+                let places = (0..joined.len()).step_by(length);
                 let pairs = places
                     .clone()
                     .flat_map(|one| places.clone().map(move |two| (one, two)));
                 for (from, to) in pairs.filter(|(from, to)| from != to) {
-                    round.refused(&with(&joined, to, &joined[from..from + 14]));
+                    round.refused(&with(&joined, to, &joined[from..from + length]));
                     round.refused(&with(&joined, to + 5, &joined[from + 5..from + 6]));
                 }
             }
@@ -66,7 +67,7 @@ fn a_server_missing() {
     for servers in 2..=8 {
         for round in rounds(servers) {
             for joined in [round.joined.clone(), reversed(&round.joined)] {
-                for at in (5..joined.len()).step_by(14) {
+                for at in (5..joined.len()).step_by(round.length()) {
                     let same = [8, 16, 32, 64, 128, 248].map(|more| joined[at] + more);
                     for number in (servers as u8..=9).chain(same).chain([127, 255]) {
                         round.refused(&with(&joined, at, &[number]));
@@ -82,32 +83,27 @@ fn a_server_missing() {
 fn own_message_altered() {
     for round in rounds(3) {
         for order in orders(3) {
-            let joined = ordered(&round.joined, 14, &order);
+            let joined = ordered(&round.joined, &order);
             for own in 0..3 {
-                let refuses = |joined: &[u8]| {
-                    let (answer, after) = round.answer(own, joined);
-                    assert_eq!(answer, Answer::Refused(12), "{own} of {order:?}");
-                    assert!(after == round.tables[own]);
-                };
                 for wrong in altered(&joined, own) {
-                    refuses(&wrong);
+                    round.refuses(own, 12, &wrong);
                 }
                 // The own elements under another's number, wherever they stand.
                 for other in (0..3).filter(|&other| other != own) {
-                    refuses(&exchanged(&joined, own, other));
+                    round.refuses(own, 12, &exchanged(&joined, own, other));
                 }
             }
         }
     }
 }
 
-/// Another's message may be any sound one, also in the place of the own number: the sums are
+/// Another's first two elements may be any, also in the place of the own number: the sums are
 /// over what stands there.
 #[test]
 fn other_messages_altered() {
     for round in rounds(3) {
         for order in orders(3) {
-            let joined = ordered(&round.joined, 14, &order);
+            let joined = ordered(&round.joined, &order);
             for (own, other) in [(0, 1), (0, 2), (1, 0), (1, 2), (2, 0), (2, 1)] {
                 let (good, _) = round.answer(own, &joined);
                 for wrong in altered(&joined, other) {
@@ -136,17 +132,18 @@ fn wrong_lengths() {
     for servers in [2, 3, 8] {
         for round in rounds(servers) {
             for joined in [round.joined.clone(), reversed(&round.joined)] {
-                for at in (0..joined.len()).step_by(14) {
-                    let message = &joined[at..at + 14];
-                    round.refused(&[&joined[..at], &joined[at + 14..]].concat());
+                let length = round.length();
+                for at in (0..joined.len()).step_by(length) {
+                    let message = &joined[at..at + length];
+                    round.refused(&[&joined[..at], &joined[at + length..]].concat());
                     let more = with(message, 5, &[servers as u8]);
                     for more in [message, &more] {
                         round.refused(&[&joined[..at], more, &joined[at..]].concat());
                         round.refused(&[&joined[..], more].concat());
                     }
                 }
-                for length in [0, 1, 13, 14 * servers as usize - 1, joined.len() + 1] {
-                    round.refused(&resized(&joined, length));
+                for wrong in [0, 1, length - 1, joined.len() - 1, joined.len() + 1] {
+                    round.refused(&resized(&joined, wrong));
                 }
             }
         }
@@ -163,20 +160,21 @@ fn order_of_refusals() {
         joined: joined.to_vec(),
         room,
     };
-    let twice = with(&joined, 0, &joined[14..28]);
+    let twice = with(&joined, 0, &joined[ONE_BYTES..2 * ONE_BYTES]);
     for own in 0..3 {
         let (mut first, mut second) = (one.tables[own].clone(), two.tables[own].clone());
         let refuses = |table: &mut Twins, number: u32, call: Call| {
             assert_eq!(table.call(&call), Answer::Refused(number), "{call}");
         };
-        refuses(&mut first, 14, call(ID, &joined, 13));
-        refuses(&mut first, 12, call(ID, &twice, 13));
-        refuses(&mut first, 11, call(ID + 1, &twice, 13));
+        let short = TWO_BYTES - 1;
+        refuses(&mut first, 14, call(ID, &joined, short));
+        refuses(&mut first, 12, call(ID, &twice, short));
+        refuses(&mut first, 11, call(ID + 1, &twice, short));
         refuses(&mut first, 11, two.call(&reversed(&two.joined)));
-        refuses(&mut second, 11, call(ID, &joined, 14));
+        refuses(&mut second, 11, call(ID, &joined, TWO_BYTES));
         refuses(&mut second, 12, two.call(&joined));
         assert!(matches!(
-            first.call(&call(ID, &joined, 14)),
+            first.call(&call(ID, &joined, TWO_BYTES)),
             Answer::Message(_)
         ));
     }
@@ -197,12 +195,12 @@ fn each_server_its_own_order() {
         let [Round { mut tables, .. }, _] = rounds(3);
         let again = messages(&mut tables, |own| Call::RoundOne {
             id: ID,
-            joined: ordered(&first, 14, order(own)),
-            room: 14,
+            joined: ordered(&first, order(own)),
+            room: TWO_BYTES,
         });
         assert_eq!(again, second);
         for (own, table) in tables.iter_mut().enumerate() {
-            let joined = ordered(&second, 14, order(own));
+            let joined = ordered(&second, order(own));
             let two = table.call(&Call::RoundTwo { id: ID, joined });
             assert_eq!(two, Answer::Verdict(Verdict::Accepted));
             let close = table.call(&Call::Close { room: 1000 });
@@ -219,7 +217,7 @@ fn totals_messages() {
         let joined = messages.collect::<Vec<_>>().concat();
         let (count, sheet) = (servers.into(), &SHEET);
         for order in orders(count) {
-            let run = ordered(&joined, 26, &order);
+            let run = picked(&joined, 26, &order);
             let answer = join(u32::from(servers), sheet, 5, &run, 20);
             let number = Some(12).filter(|_| !order.is_sorted());
             assert_eq!(answer.err(), number, "{order:?}");

@@ -22,6 +22,8 @@ struct Ledger {
     closing: Option<Vec<u8>>,
     /// A close was refused 15.
     few: bool,
+    /// The ids of which a round one was refused 16.
+    unequal: BTreeSet<u32>,
 }
 
 impl Ledger {
@@ -36,6 +38,24 @@ impl Ledger {
             self.closing = Some(message.clone());
         }
     }
+
+    /// Notes a round one that was taken, with the challenges of the share in all messages, or
+    /// refused 16, with others in some.
+    fn round_one(&mut self, id: u32, joined: &[u8], answer: &Answer) {
+        let (_, r, s) = self.taken[&id];
+        let same = each_message(joined).all(|message| challenges_of(message) == (r, s));
+        assert_eq!(*answer == Answer::Refused(16), !same);
+        assert_eq!(self.waiting[&id], 1);
+        match answer {
+            Answer::Message(written) => {
+                assert_eq!(written.len(), TWO_BYTES);
+                self.waiting.insert(id, 2);
+            }
+            _ => {
+                self.unequal.insert(id);
+            }
+        }
+    }
 }
 
 /// Reads the ledgers of a script off its calls and answers.
@@ -47,18 +67,18 @@ fn ledgers(script: &Script) -> Vec<Ledger> {
             (Call::Close { .. }, answer) if *answer != Answer::Refused(11) => {
                 ledger.close(script.least, answer);
             }
+            (Call::RoundOne { id, joined, .. }, Answer::Message(_) | Answer::Refused(16)) => {
+                ledger.round_one(*id, joined, &step.answer);
+            }
             (_, Answer::Refused(_)) => {}
             (Call::Share { message, r, s, .. }, Answer::Message(written)) => {
-                assert_eq!(written.len(), 14);
+                assert_eq!(written.len(), ONE_BYTES);
+                assert_eq!(challenges_of(written), (*r, *s));
                 let id = id_of(message);
                 let elements = field::elements(&message[6..]).unwrap();
                 assert!(ledger.taken.insert(id, (elements, *r, *s)).is_none());
                 ledger.waiting.insert(id, 1);
                 ledger.most = ledger.most.max(ledger.waiting.len());
-            }
-            (Call::RoundOne { id, .. }, Answer::Message(written)) => {
-                assert_eq!(written.len(), 14);
-                assert_eq!(ledger.waiting.insert(*id, 2), Some(1));
             }
             (Call::RoundTwo { id, joined }, Answer::Verdict(verdict)) => {
                 assert_eq!(ledger.waiting.remove(id), Some(2));
@@ -139,7 +159,8 @@ fn check_truth(script: &Script, sheet: &Sheet, ledgers: &[Ledger], truth: &Joine
     assert_eq!(truth.totals, words(&totals));
 }
 
-/// A return with one pair is accepted exactly when the pair lets it in.
+/// A return that is judged to the end has one pair, and is accepted exactly when the pair lets
+/// it in.
 fn check_verdicts(
     script: &Script,
     sheet: &Sheet,
@@ -152,13 +173,8 @@ fn check_verdicts(
             continue;
         }
         let (_, r, s) = ledgers[0].taken[&given.id];
-        if ledgers
-            .iter()
-            .any(|l| (l.taken[&given.id].1, l.taken[&given.id].2) != (r, s))
-        {
-            // Honest returns and unequal pairs: no promise is made.
-            continue;
-        }
+        let mut pairs = ledgers.iter().map(|l| &l.taken[&given.id]);
+        assert!(pairs.all(|taken| (taken.1, taken.2) == (r, s)));
         let whole = added_up(sheet, &given.shares).unwrap();
         assert_eq!(lets_in(sheet, &whole, r, s), Some(accepted));
         let valid = Circuit::of(sheet).is_valid(&whole[..sheet.entries()]);
@@ -192,7 +208,7 @@ fn orderly_pools() {
     }
     assert_eq!(servers, (2..=8).collect());
     assert!(full > 25, "{full} pools in which eight waited");
-    assert!((7..=15).all(|number| met.contains(&number)), "{met:?}");
+    assert!((7..=16).all(|number| met.contains(&number)), "{met:?}");
     assert_eq!(verdicts.len(), 7, "{verdicts:?}");
     assert_eq!(verdicts["Honest"][0], 0);
     assert!(verdicts["Honest"][1] > 100);
@@ -219,7 +235,7 @@ fn wild_lists() {
             full += usize::from(ledger.most == 8);
         }
     }
-    assert!((7..=15).all(|number| met.contains(&number)), "{met:?}");
+    assert!((7..=16).all(|number| met.contains(&number)), "{met:?}");
     assert!(accepted > 200 && rejected > 200 && dropped > 200);
     assert!(full > 25, "{full} tables at which eight waited");
 }
@@ -248,7 +264,7 @@ fn every_refusal_is_reached() {
     for seed in 0..60 {
         check(&Script::random(seed), &mut met, &mut BTreeMap::new());
     }
-    assert_eq!(met, (1..=15).chain([17, 19]).collect());
+    assert_eq!(met, (1..=17).chain([19]).collect());
 }
 
 #[test]

@@ -23,7 +23,7 @@ fn waiting(sheet: &[u8], limit: u32) -> (Vec<Table>, Vec<u8>) {
     let shares = honest(sheet, 2, 7);
     let mut joined = Vec::new();
     for (table, message) in tables.iter_mut().zip(&shares) {
-        joined.extend(share(table, message, 100, 3, 14).unwrap());
+        joined.extend(share(table, message, 100, 3, ONE_BYTES).unwrap());
     }
     (tables, joined)
 }
@@ -33,7 +33,7 @@ fn second_round(tables: &mut [Table], first: &[u8]) -> Vec<u8> {
     let id = id_of(first);
     let messages = tables
         .iter_mut()
-        .map(|table| round_one(table, id, first, 14));
+        .map(|table| round_one(table, id, first, TWO_BYTES));
     messages.flat_map(Result::unwrap).collect()
 }
 
@@ -68,9 +68,9 @@ fn share_order() {
     refused(table, 9, |t| share(t, fresh, 0, 0, 0));
     refused(table, 9, |t| share(t, fresh, 100, P, 0));
     refused(table, 14, |t| share(t, fresh, 100, 0, 0));
-    refused(table, 14, |t| share(t, fresh, 100, 0, 13));
+    refused(table, 14, |t| share(t, fresh, 100, 0, ONE_BYTES - 1));
     // Refused 9 and 14 leave the id unused.
-    assert!(share(table, fresh, 100, 0, 14).is_ok());
+    assert!(share(table, fresh, 100, 0, ONE_BYTES).is_ok());
 }
 
 #[test]
@@ -82,22 +82,22 @@ fn share_message_faults() {
     // Every other kind byte, every other server.
     for byte in (0..=255).filter(|&byte| byte != 33) {
         let message = with(good, 0, &[byte]);
-        refused(&mut table, 7, |t| share(t, &message, 100, 0, 14));
+        refused(&mut table, 7, |t| share(t, &message, 100, 0, ONE_BYTES));
     }
     for byte in (0..=255).filter(|&byte| byte != 1) {
         let message = with(good, 5, &[byte]);
-        refused(&mut table, 7, |t| share(t, &message, 100, 0, 14));
+        refused(&mut table, 7, |t| share(t, &message, 100, 0, ONE_BYTES));
     }
     // Every shorter length, some longer ones.
     for length in (0..good.len()).chain([good.len() + 1, good.len() + 4, good.len() + 1000]) {
         let message = resized(good, length);
-        refused(&mut table, 7, |t| share(t, &message, 100, 0, 14));
+        refused(&mut table, 7, |t| share(t, &message, 100, 0, ONE_BYTES));
     }
     // Every element.
     for at in (6..good.len()).step_by(4) {
         for large in [P32, P32 + 1, u32::MAX] {
             let message = with(good, at, &large.to_le_bytes());
-            refused(&mut table, 8, |t| share(t, &message, 100, 0, 14));
+            refused(&mut table, 8, |t| share(t, &message, 100, 0, ONE_BYTES));
         }
     }
     challenges(&mut table, good);
@@ -116,13 +116,13 @@ fn challenges(table: &mut Table, good: &[u8]) {
         (1 << 32) + 100,
         u64::MAX,
     ] {
-        refused(table, 9, |t| share(t, good, r, 0, 14));
+        refused(table, 9, |t| share(t, good, r, 0, ONE_BYTES));
     }
     for s in [P, P + 1, 1 << 32, (1 << 32) + 1, u64::MAX] {
-        refused(table, 9, |t| share(t, good, 5, s, 14));
+        refused(table, 9, |t| share(t, good, 5, s, ONE_BYTES));
     }
     for (r, s) in [(5, 0), (8, P - 1), (9, 1), (P - 1, P - 1)] {
-        assert!(share(&mut table.clone(), good, r, s, 14).is_ok());
+        assert!(share(&mut table.clone(), good, r, s, ONE_BYTES).is_ok());
     }
 }
 
@@ -133,7 +133,7 @@ fn stages() {
     let mut idle = open(2, 0, &sheet, 3, 1).unwrap();
     assert_eq!(idle.waiting(), []);
     // A table at which nothing waits takes a share or a close.
-    refused(&mut idle, 11, |t| round_one(t, 7, &first, 14));
+    refused(&mut idle, 11, |t| round_one(t, 7, &first, TWO_BYTES));
     refused(&mut idle, 11, |t| round_two(t, 7, &first));
     refused(&mut idle, 11, |t| drop(t, 7));
     // A return that awaits round one takes that round or a drop.
@@ -142,15 +142,15 @@ fn stages() {
     assert_eq!(table.waiting(), [(7, Stage::AwaitsRoundOne)]);
     refused(table, 11, |t| round_two(t, 7, &first));
     refused(table, 11, |t| close(t, ROOM));
-    assert_eq!(table.waiting_message(7).unwrap(), first[..14]);
+    assert_eq!(table.waiting_message(7).unwrap(), &first[..ONE_BYTES]);
     assert_eq!(drop(&mut table.clone(), 7), Ok(()));
     // Awaiting round two likewise.
     let second = second_round(&mut tables, &first);
     let table = &mut tables[0];
     assert_eq!(table.waiting(), [(7, Stage::AwaitsRoundTwo)]);
-    refused(table, 11, |t| round_one(t, 7, &first, 14));
+    refused(table, 11, |t| round_one(t, 7, &first, TWO_BYTES));
     refused(table, 11, |t| close(t, ROOM));
-    assert_eq!(table.waiting_message(7).unwrap(), second[..14]);
+    assert_eq!(table.waiting_message(7).unwrap(), &second[..TWO_BYTES]);
     assert_eq!(drop(&mut table.clone(), 7), Ok(()));
     assert_eq!(round_two(table, 7, &second), Ok(Verdict::Accepted));
     assert_eq!(table.waiting(), []);
@@ -159,8 +159,8 @@ fn stages() {
     // Closed takes nothing.
     close(table, ROOM).unwrap();
     assert!(table.closed());
-    refused(table, 11, |t| share(t, &shares[0], 100, 0, 14));
-    refused(table, 11, |t| round_one(t, 7, &first, 14));
+    refused(table, 11, |t| share(t, &shares[0], 100, 0, ONE_BYTES));
+    refused(table, 11, |t| round_one(t, 7, &first, TWO_BYTES));
     refused(table, 11, |t| round_two(t, 7, &second));
     refused(table, 11, |t| drop(t, 7));
     refused(table, 11, |t| close(t, ROOM));
@@ -169,14 +169,15 @@ fn stages() {
 /// Joined messages with every kind of fault, one at a time.
 fn damaged(joined: &[u8]) -> Vec<Vec<u8>> {
     // Every shorter length, some longer ones.
-    let lengths = (0..joined.len()).chain([joined.len() + 1, joined.len() + 14]);
+    let length = message_length(joined);
+    let lengths = (0..joined.len()).chain([joined.len() + 1, joined.len() + length]);
     let mut all: Vec<Vec<u8>> = lengths.map(|length| resized(joined, length)).collect();
-    for start in [0, 14] {
+    for start in [0, length] {
         // Kind, id and server bytes.
         for at in start..start + 6 {
             all.extend((0..8).map(|bit| with(joined, at, &[joined[at] ^ 1 << bit])));
         }
-        for at in [start + 6, start + 10] {
+        for at in (start + 6..start + length).step_by(4) {
             all.extend(
                 [P32, P32 + 1, u32::MAX].map(|large| with(joined, at, &large.to_le_bytes())),
             );
@@ -188,17 +189,19 @@ fn damaged(joined: &[u8]) -> Vec<Vec<u8>> {
 /// Joined messages of two servers as they are and the other way round, with the place of a
 /// server's own message.
 fn both_orders(joined: &[u8], own: usize) -> [(Vec<u8>, usize); 2] {
-    let other = [&joined[14..], &joined[..14]].concat();
-    [(joined.to_vec(), own), (other, 1 - own)]
+    let (one, two) = joined.split_at(message_length(joined));
+    [(joined.to_vec(), own), ([two, one].concat(), 1 - own)]
 }
 
-/// Joined messages with one of the elements at a place altered.
-fn altered(joined: &[u8], place: usize) -> [Vec<u8>; 2] {
-    [6, 10].map(|at| {
-        let at = 14 * place + at;
+/// Joined messages with one of the elements at a place altered, each in turn.
+fn altered(joined: &[u8], place: usize) -> Vec<Vec<u8>> {
+    let length = message_length(joined);
+    let elements = (length * place + 6..length * (place + 1)).step_by(4);
+    let changed = elements.map(|at| {
         let old = u32::from_le_bytes(joined[at..at + 4].try_into().unwrap());
         with(joined, at, &((old + 1) % P32).to_le_bytes())
-    })
+    });
+    changed.collect()
 }
 
 #[test]
@@ -223,18 +226,23 @@ fn joined_rounds() {
 /// Round one's messages, and faults in them; the own one stands at a place.
 fn joined_first(table: &mut Table, first: &[u8], place: usize) {
     for wrong in damaged(first) {
-        refused(table, 12, |t| round_one(t, 7, &wrong, 14));
+        refused(table, 12, |t| round_one(t, 7, &wrong, TWO_BYTES));
         refused(table, 12, |t| round_one(t, 7, &wrong, 0));
     }
     for wrong in altered(first, place) {
-        refused(table, 12, |t| round_one(t, 7, &wrong, 14));
+        refused(table, 12, |t| round_one(t, 7, &wrong, TWO_BYTES));
     }
-    refused(table, 14, |t| round_one(t, 7, first, 13));
+    refused(table, 14, |t| round_one(t, 7, first, TWO_BYTES - 1));
     refused(table, 14, |t| round_one(t, 7, first, 0));
-    assert!(round_one(&mut table.clone(), 7, first, 14).is_ok());
-    // The others' messages may be any sound ones.
-    for other in altered(first, 1 - place) {
-        assert!(round_one(&mut table.clone(), 7, &other, 14).is_ok());
+    assert!(round_one(&mut table.clone(), 7, first, TWO_BYTES).is_ok());
+    // The others' d and e may be any, their r and s may not.
+    let others = altered(first, 1 - place);
+    for other in &others[..2] {
+        assert!(round_one(&mut table.clone(), 7, other, TWO_BYTES).is_ok());
+    }
+    for other in &others[2..] {
+        refused(table, 16, |t| round_one(t, 7, other, TWO_BYTES));
+        refused(table, 16, |t| round_one(t, 7, other, 0));
     }
 }
 
@@ -266,21 +274,21 @@ fn decided_ids_and_the_limit() {
     assert_eq!(judge(&mut tables, &rejected, 5, 1).2, Verdict::Rejected);
     // Accepted and rejected ids are used; so are dropped ones.
     for (server, table) in tables.iter_mut().enumerate() {
-        refused(table, 10, |t| share(t, &accepted[server], 5, 1, 14));
-        refused(table, 10, |t| share(t, &rejected[server], 5, 1, 14));
+        refused(table, 10, |t| share(t, &accepted[server], 5, 1, ONE_BYTES));
+        refused(table, 10, |t| share(t, &rejected[server], 5, 1, ONE_BYTES));
         let third = honest(&sheet, 2, 3);
-        share(table, &third[server], 5, 1, 14).unwrap();
+        share(table, &third[server], 5, 1, ONE_BYTES).unwrap();
         drop(table, 3).unwrap();
         assert_eq!(table.decided(), [1, 2, 3]);
         // All three count towards N.
-        refused(table, 13, |t| share(t, &third[server], 5, 1, 14));
+        refused(table, 13, |t| share(t, &third[server], 5, 1, ONE_BYTES));
         refused(table, 13, |t| {
-            share(t, &honest(&sheet, 2, 4)[server], 5, 1, 14)
+            share(t, &honest(&sheet, 2, 4)[server], 5, 1, ONE_BYTES)
         });
     }
     // A dropped id is refused 10 while N is not reached.
     let mut table = open(2, 0, &sheet, 2, 1).unwrap();
-    share(&mut table, &accepted[0], 5, 1, 14).unwrap();
+    share(&mut table, &accepted[0], 5, 1, ONE_BYTES).unwrap();
     drop(&mut table, 1).unwrap();
-    refused(&mut table, 10, |t| share(t, &accepted[0], 5, 1, 14));
+    refused(&mut table, 10, |t| share(t, &accepted[0], 5, 1, ONE_BYTES));
 }

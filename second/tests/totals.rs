@@ -90,7 +90,7 @@ fn a_full_pool() {
         let shares: Vec<Vec<u8>> = messages.chunks(42).map(<[u8]>::to_vec).collect();
         if rng.chance(10) {
             for (table, message) in tables.iter_mut().zip(&shares) {
-                share(table, message, 2, 0, 14).unwrap();
+                share(table, message, 2, 0, ONE_BYTES).unwrap();
                 drop(table, id).unwrap();
             }
         } else {
@@ -215,7 +215,7 @@ fn a_dropped_share_leaves_no_trace_in_the_totals() {
     let mut tables = open_all(2, &[19, 4], 3);
     judge(&mut tables, &other.shares, other.r, other.s);
     for (own, table) in tables.iter_mut().enumerate() {
-        share(table, &given.shares[own], given.r, given.s, 14).unwrap();
+        share(table, &given.shares[own], given.r, given.s, ONE_BYTES).unwrap();
         drop(table, 1).unwrap();
         let total = field::elements(&other.shares[own][6..10]).unwrap()[0] as u32;
         assert_eq!(close(table, 10), Ok(closing(own as u8, 1, &[total])));

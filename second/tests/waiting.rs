@@ -95,7 +95,7 @@ fn share_of(message: Vec<u8>, r: u64) -> Call {
         message,
         r,
         s: 3,
-        room: 14,
+        room: ONE_BYTES,
     }
 }
 
@@ -103,7 +103,7 @@ fn one(id: u32, joined: &[u8]) -> Call {
     Call::RoundOne {
         id,
         joined: joined.to_vec(),
-        room: 14,
+        room: TWO_BYTES,
     }
 }
 
@@ -171,7 +171,7 @@ fn an_id_that_waits_is_refused_10() {
         pool.refused(7, share_of(with(&large, 0, &[34]), 0));
         pool.refused(7, share_of(with(&large, 5, &[1]), 0));
         pool.refused(8, share_of(large, 0));
-        for (r, room) in [(0, 0), (P, 14), (100, 0), (100, 14)] {
+        for (r, room) in [(0, 0), (P, ONE_BYTES), (100, 0), (100, ONE_BYTES)] {
             let message = good.clone();
             let call = Call::Share {
                 message,
@@ -224,7 +224,8 @@ fn messages_of_another_id() {
     let mut pool = Pool::waiting(20, [1, 2, 3]);
     pool.refused(12, one(1, &pool.first[&2]));
     pool.refused(12, one(2, &pool.first[&1]));
-    let mixed = [&pool.first[&1][..14], &pool.first[&2][14..]].concat();
+    let (own, other) = (&pool.first[&1], &pool.first[&2]);
+    let mixed = [&own[..ONE_BYTES], &other[ONE_BYTES..]].concat();
     pool.refused(12, one(1, &mixed));
     pool.refused(12, one(2, &mixed));
     pool.one_all(1);

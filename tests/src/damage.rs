@@ -96,31 +96,32 @@ fn elements(rng: &mut Rng, elements: &mut Vec<u32>) {
     }
 }
 
-/// A few changes of the joined messages that server `own` is handed. Some leave them sound.
-pub fn damaged_joined(rng: &mut Rng, own: usize, joined: &mut Vec<u8>) {
+/// A few changes of the joined messages of so many bytes that server `own` is handed. Some leave them sound.
+pub fn damaged_joined(rng: &mut Rng, own: usize, length: usize, joined: &mut Vec<u8>) {
     for _ in 0..rng.pick([1, 1, 1, 2, 3]) {
-        let places = joined.len() / 14;
+        let places = joined.len() / length;
         if places == 0 {
             return;
         }
-        let [one, two] = [(); 2].map(|()| 14 * rng.index(places));
-        let mut messages = joined.chunks_exact(14);
-        let mine = messages.position(|message| usize::from(message[5]) == own).map_or(one, |place| 14 * place);
+        let [one, two] = [(); 2].map(|()| length * rng.index(places));
+        let mut messages = joined.chunks_exact(length);
+        let mine = messages.position(|message| usize::from(message[5]) == own).map_or(one, |place| length * place);
         let from = rng.pick([one, mine]);
         let number = rng.index(places + 1) as u8;
-        match rng.below(8) {
-            0 => joined.copy_within(from..from + 14, two),
+        let element = from + 6 + 4 * rng.index((length - 6) / 4);
+        match rng.below(9) {
+            0 => joined.copy_within(from..from + length, two),
             1 => joined.swap(from + 5, two + 5),
             2 => joined[from + 5] = rng.pick([number, number, 8, 16 + number, 64 + number, 255]),
             3 => joined[from + rng.index(5)] ^= rng.pick([1, 2, 128]),
-            4 => joined[from + rng.pick([6, 9, 10, 13])] ^= rng.pick([1, 2, 128]),
-            5 => joined[from + 6..from + 14].fill(rng.pick([0, 127, 255])),
-            6 => {
-                let message = joined[one..one + 14].to_vec();
+            4 | 5 => joined[element + rng.pick([0, 3])] ^= rng.pick([1, 2, 128]),
+            6 => joined[from + 6..from + length].fill(rng.pick([0, 127, 255])),
+            7 => {
+                let message = joined[one..one + length].to_vec();
                 joined.splice(two..two, message);
             }
             _ => {
-                joined.drain(from..from + rng.pick([1, 14, 14]));
+                joined.drain(from..from + rng.pick([1, length, length]));
             }
         }
     }

@@ -7,6 +7,7 @@ use second::Sheet;
 use crate::calls::{plain, Call, Function};
 use crate::layout::word;
 use crate::pools::Pool;
+use crate::reference::{message_length, ONE_BYTES};
 use crate::suite::{Suite, Verdict};
 
 const P: u64 = 2_147_483_647;
@@ -22,9 +23,10 @@ fn equal<T: PartialEq + std::fmt::Debug>(what: &str, is: T, must: T) -> Verdict 
     Err(format!("{what} is {is:?}\nmust be {must:?}"))
 }
 
-/// The sums of the two elements of joined round messages.
+/// The sums of the first two elements of joined round messages.
 fn sums(joined: &[u8]) -> (u64, u64) {
-    let add = |at: usize| joined.chunks(14).fold(0, |sum, message| (sum + word(message, at)) % P);
+    let messages = joined.chunks(message_length(joined));
+    let add = |at: usize| messages.clone().fold(0, |sum, message| (sum + word(message, at)) % P);
     (add(6), add(10))
 }
 
@@ -105,7 +107,7 @@ pub fn cheating(suite: &mut Suite) -> Verdict {
     let pool = Pool::open(suite, 2, &[17], 10)?;
     for (r, number) in [(1, 9), (2, 0), (P - 1, 0), (P, 9)] {
         let (table, message) = (pool.tables[0].clone(), shares[0].clone());
-        suite.number(&Call { table, message, r, s: 5, room: 14, ..Call::of(Function::Share) }, number)?;
+        suite.number(&Call { table, message, r, s: 5, room: ONE_BYTES, ..Call::of(Function::Share) }, number)?;
     }
     Ok(())
 }

@@ -5,6 +5,7 @@ use second::gen::Rng;
 use crate::calls::{Call, Function};
 use crate::layout::{Parts, CLOSED, SLOTS};
 use crate::pools::Pool;
+use crate::reference::{ONE_BYTES, TWO_BYTES};
 use crate::suite::Suite;
 
 /// The id that every table has decided.
@@ -121,12 +122,12 @@ impl Fixture {
 
     pub fn share(&self) -> Call {
         let (table, message) = (self.idle.clone(), self.share.clone());
-        Call { table, message, r: self.r, s: self.s, room: 14, ..Call::of(Function::Share) }
+        Call { table, message, r: self.r, s: self.s, room: ONE_BYTES, ..Call::of(Function::Share) }
     }
 
     pub fn round_one(&self) -> Call {
         let (table, message) = (self.first.clone(), self.joined_one.clone());
-        Call { table, id: NEXT, message, room: 14, ..Call::of(Function::RoundOne) }
+        Call { table, id: NEXT, message, room: TWO_BYTES, ..Call::of(Function::RoundOne) }
     }
 
     pub fn round_two(&self) -> Call {

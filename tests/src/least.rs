@@ -5,6 +5,7 @@ use crate::decided::{take, End, ENDS};
 use crate::fixture::Fixture;
 use crate::layout::{put_short, Parts};
 use crate::pools::Pool;
+use crate::reference::ONE_BYTES;
 use crate::suite::{Suite, Verdict};
 use crate::tables::{changed, fixtures};
 
@@ -194,7 +195,7 @@ pub fn never(suite: &mut Suite) -> Verdict {
         for id in 0..6 {
             rooms(suite, &pool.tables[0], 15, 15)?;
             let (table, message) = (pool.tables[0].clone(), pool.make_zeros(suite, &mut rng, id)?[0].clone());
-            let share = Call { table, message, r: 1_000_003, s: 19, room: 14, ..Call::of(Function::Share) };
+            let share = Call { table, message, r: 1_000_003, s: 19, room: ONE_BYTES, ..Call::of(Function::Share) };
             suite.number(&share, 13)?;
             suite.number(&Call { message: Vec::new(), ..share.clone() }, 13)?;
             suite.number(&Call { id, ..Call { function: Function::Drop, ..share } }, 11)?;

@@ -7,6 +7,7 @@ use crate::calls::{Call, Function};
 use crate::fixture::Fixture;
 use crate::layout::put_word;
 use crate::pools::Pool;
+use crate::reference::ONE_BYTES;
 use crate::suite::{Suite, Verdict};
 use crate::tops::{longest_sheet, top_column};
 
@@ -176,7 +177,7 @@ fn id_used(suite: &mut Suite, id: u32) -> Verdict {
     pool.judge(suite, &shares, 9, 9)?;
     for byte in 0..4 {
         let mut message = shares[1].clone();
-        let (table, r, s, room) = (pool.tables[1].clone(), 9, 9, 14);
+        let (table, r, s, room) = (pool.tables[1].clone(), 9, 9, ONE_BYTES);
         let call = Call { table, message: message.clone(), r, s, room, ..Call::of(Function::Share) };
         suite.number(&call, 10)?;
         message[1 + byte] ^= 1 << (2 * byte + 1);
@@ -211,7 +212,7 @@ pub fn rooms(suite: &mut Suite) -> Verdict {
         room(suite, &open, 14 + bytes.len() + 4 * sheet.published() + 8)?;
         opening_rooms(suite, &open, 8 * (sheet.entries() + 2 * sheet.multiplications() + 8))?;
         let fixture = Fixture::new(suite, servers, 1, &bytes, 2)?;
-        room(suite, &fixture.share(), 14)?;
+        room(suite, &fixture.share(), 22)?;
         room(suite, &fixture.round_one(), 14)?;
         room(suite, &fixture.close(), 6 + 4 * sheet.published())?;
         let mut pool = Pool::open(suite, servers, &bytes, 2)?;

@@ -3,6 +3,7 @@
 #[path = "../../include/pool.rs"]
 mod c;
 mod calls;
+mod challenges;
 mod circuits;
 mod counts;
 mod damage;
@@ -56,7 +57,7 @@ const REFUSALS: [(Function, &[u32]); 14] = [
     (Function::Make, &[0, 1, 2, 5, 6, 14]),
     (Function::Open, &[0, 1, 2, 4, 14]),
     (Function::Share, &[0, 7, 8, 9, 10, 11, 13, 14]),
-    (Function::RoundOne, &[0, 11, 12, 14]),
+    (Function::RoundOne, &[0, 11, 12, 14, 16]),
     (Function::RoundTwo, &[0, 11, 12]),
     (Function::Drop, &[0, 11]),
     (Function::Close, &[0, 11, 14, 15]),
@@ -68,7 +69,7 @@ const REFUSALS: [(Function, &[u32]); 14] = [
 type Test = fn(&mut Suite) -> Verdict;
 
 /// Named tests without a seed of their own.
-const NAMED: [(&str, Test); 102] = [
+const NAMED: [(&str, Test); 109] = [
     ("header: constants", sizes::constants),
     ("header: a slot", sizes::slot),
     ("header: sizes", sizes::lengths),
@@ -139,6 +140,13 @@ const NAMED: [(&str, Test); 102] = [
     ("orders: 11, 12 and 14", orders::order),
     ("orders: totals messages", orders::totals),
     ("orders: random orders and damage", orders::random),
+    ("challenges: in the message", challenges::told),
+    ("challenges: another r or s", challenges::numbers),
+    ("challenges: every place", challenges::places),
+    ("challenges: servers that slipped", challenges::slips),
+    ("challenges: 11, 12, 16 and 14", challenges::order),
+    ("challenges: until it is dropped", challenges::dropped),
+    ("challenges: lengths of messages", challenges::lengths),
     ("least count: opening", least::opening),
     ("least count: order of opening", least::opening_order),
     ("least count: closing from Q on", least::from),
@@ -228,8 +236,9 @@ fn named(tally: &mut Tally, suite: &mut Suite, text: &str) {
 fn fixed(tally: &mut Tally) {
     let mut suite = Suite::new();
     named(tally, &mut suite, "");
-    let before = suite.calls;
+    let (before, unequal) = (suite.calls, scripts::unequal(&suite));
     tally.blocks(&mut suite, "whole runs", SCRIPT_BLOCKS, scripts::script);
+    tally.note("whole runs: challenges that differ", scripts::often(&suite, unequal));
     tally.blocks(&mut suite, "single calls", CASE_BLOCKS, scripts::cases);
     tally.blocks(&mut suite, "pools made by the library", POOL_BLOCKS, pools::pool);
     tally.blocks(&mut suite, "mixed returns", MIXED_BLOCKS, mixed::mix);

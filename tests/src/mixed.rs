@@ -9,6 +9,7 @@ use crate::calls::{plain, Call, Function};
 use crate::layout::{read, words, Slot, SLOTS};
 use crate::orders::shuffled;
 use crate::pools::Pool;
+use crate::reference::{ONE_BYTES, TWO_BYTES};
 use crate::suite::{Suite, Verdict};
 use crate::tops::{largest_sheet, longest_sheet};
 
@@ -56,9 +57,9 @@ fn call(given: &Return, phase: Phase, server: usize, last: &[Given]) -> Call {
     match phase {
         Phase::Share => {
             let message = given.shares[server].clone();
-            Call { message, r: given.r, s: given.s, room: 14, ..Call::of(Function::Share) }
+            Call { message, r: given.r, s: given.s, room: ONE_BYTES, ..Call::of(Function::Share) }
         }
-        Phase::One => Call { id, message, room: 14, ..Call::of(Function::RoundOne) },
+        Phase::One => Call { id, message, room: TWO_BYTES, ..Call::of(Function::RoundOne) },
         Phase::Two => Call { id, message, ..Call::of(Function::RoundTwo) },
         Phase::Drop => Call { id, ..Call::of(Function::Drop) },
     }

@@ -5,10 +5,10 @@ mod messages;
 use crate::calls::{Call, Function};
 use crate::damage::{damaged, damaged_joined};
 use crate::fixture::{Fixture, UNKNOWN};
-use crate::reference::ROUND;
+use crate::reference::{message_length, TWO_BYTES};
 use crate::suite::{Suite, Verdict};
-use messages::{altered, every_order, exchanged, picked, reversed};
-pub use messages::{ordered, shuffled};
+use messages::{altered, exchanged, picked};
+pub use messages::{altered_challenges, every_order, ordered, put, reversed, shuffled, start};
 
 const SHEET: [u8; 3] = [17, 18, 3];
 
@@ -55,9 +55,15 @@ impl Round {
         [self.call.message.clone(), reversed(&self.call.message)]
     }
 
+    /// The length of each message.
+    fn length(&self) -> usize {
+        message_length(&self.call.message)
+    }
+
     /// Where each message starts.
     fn starts(&self) -> impl Iterator<Item = usize> + Clone {
-        (0..self.servers).map(|place| ROUND * place)
+        let length = self.length();
+        (0..self.servers).map(move |place| length * place)
     }
 }
 
@@ -77,9 +83,9 @@ pub fn turned(suite: &mut Suite) -> Verdict {
 /// in server order, all others are refused 12.
 pub fn every_run(suite: &mut Suite) -> Verdict {
     for round in Round::all(suite, 4)? {
-        let mut messages = round.call.message.clone();
-        messages.extend_from_within(..ROUND);
-        messages[4 * ROUND + 5] = 4;
+        let (length, mut messages) = (round.length(), round.call.message.clone());
+        messages.extend_from_within(..length);
+        messages[4 * length + 5] = 4;
         let mut taken = 0;
         for run in 0..625 {
             let order = [run % 5, run / 5 % 5, run / 25 % 5, run / 125];
@@ -109,7 +115,7 @@ pub fn twice(suite: &mut Suite) -> Verdict {
                     let mut number = message.clone();
                     number[to + 5] = message[from + 5];
                     round.refused(suite, number)?;
-                    message.copy_within(from..from + ROUND, to);
+                    message.copy_within(from..from + round.length(), to);
                     round.refused(suite, message)?;
                 }
             }
@@ -158,8 +164,8 @@ fn all_orders(suite: &mut Suite, servers: usize) -> Result<Vec<(Round, Vec<usize
     Ok(rounds.iter().flat_map(|round| orders.iter().map(|order| (round.clone(), order.clone()))).collect())
 }
 
-/// Another server's message altered is not noticed, wherever it stands: it is taken with other sums, and a return is
-/// rejected then. Where two others have each other's number, the sums are the same.
+/// Another server's first two elements altered are not noticed, wherever they stand: they are taken with other sums, and a
+/// return is rejected then. Where two others have each other's number, the sums are the same.
 pub fn others(suite: &mut Suite) -> Verdict {
     for (round, order) in all_orders(suite, 3)? {
         let message = ordered(&round.call.message, &order);
@@ -185,14 +191,15 @@ pub fn lengths(suite: &mut Suite) -> Verdict {
         for round in Round::all(suite, servers)? {
             for (at, message) in round.starts().flat_map(|at| round.both().map(|message| (at, message))) {
                 let (before, after) = message.split_at(at);
-                round.refused(suite, [before, &after[ROUND..]].concat())?;
-                let mut past = after[..ROUND].to_vec();
+                let (one, others) = after.split_at(round.length());
+                round.refused(suite, [before, others].concat())?;
+                let mut past = one.to_vec();
                 past[5] = servers as u8;
-                for more in [&after[..ROUND], &past] {
+                for more in [one, &past] {
                     round.refused(suite, [before, more, after].concat())?;
                     round.refused(suite, [&message, more].concat())?;
                 }
-                round.refused(suite, message[..at + 13].to_vec())?;
+                round.refused(suite, message[..at + one.len() - 1].to_vec())?;
                 round.refused(suite, [&message[..], &[0]].concat())?;
             }
         }
@@ -206,7 +213,7 @@ pub fn order(suite: &mut Suite) -> Verdict {
         for round in Round::all(suite, servers)? {
             let good = round.with(reversed(&round.call.message));
             let mut wrong = good.clone();
-            wrong.message.copy_within(..ROUND, ROUND);
+            wrong.message.copy_within(..round.length(), round.length());
             suite.number(&Call { id: UNKNOWN, ..wrong.clone() }, 11)?;
             let other = match good.function {
                 Function::RoundOne => Function::RoundTwo,
@@ -215,7 +222,7 @@ pub fn order(suite: &mut Suite) -> Verdict {
             suite.number(&Call { function: other, ..good.clone() }, 11)?;
             suite.number(&Call { room: 0, ..wrong }, 12)?;
             let short = if good.function == Function::RoundOne { 14 } else { 0 };
-            suite.number(&Call { room: 13, ..good }, short)?;
+            suite.number(&Call { room: TWO_BYTES - 1, ..good }, short)?;
         }
     }
     Ok(())
@@ -245,9 +252,9 @@ pub fn random(suite: &mut Suite) -> Verdict {
         for _ in 0..1500 {
             let round = &rounds[rng.index(rounds.len())];
             let mut call = round.with(shuffled(&mut rng, &round.call.message));
-            call.room = rng.pick([ROUND, ROUND, ROUND + 1, 100, ROUND - 1, 0]);
+            call.room = rng.pick([TWO_BYTES, TWO_BYTES, TWO_BYTES + 1, 100, TWO_BYTES - 1, 0]);
             if rng.chance(50) {
-                damaged_joined(&mut rng, round.own, &mut call.message);
+                damaged_joined(&mut rng, round.own, round.length(), &mut call.message);
             }
             if rng.chance(10) {
                 call.table = damaged(&mut rng, &call.table);

@@ -5,8 +5,10 @@ use second::gen::{self, Rng};
 use second::{Column, Sheet};
 
 use crate::calls::{plain, Call, Done, Function};
+use crate::challenges;
 use crate::layout::{id_of, put_word, word, Parts};
 use crate::orders::shuffled;
+use crate::reference::{ONE_BYTES, TWO_BYTES};
 use crate::suite::{Suite, Verdict};
 use crate::tops::{largest_sheet, longest_sheet};
 
@@ -73,9 +75,19 @@ impl Pool {
 
     /// Every server takes its share; gives the joined round-one messages.
     pub fn share(&mut self, suite: &mut Suite, shares: &[Vec<u8>], r: u64, s: u64) -> Result<Vec<u8>, String> {
+        self.share_with(suite, shares, &vec![(r, s); shares.len()])
+    }
+
+    /// The same, each server with its own r and s.
+    pub fn share_with(
+        &mut self,
+        suite: &mut Suite,
+        shares: &[Vec<u8>],
+        pairs: &[(u64, u64)],
+    ) -> Result<Vec<u8>, String> {
         let mut joined = Vec::new();
-        for (server, message) in shares.iter().enumerate() {
-            let call = Call { message: message.clone(), r, s, room: 14, ..Call::of(Function::Share) };
+        for (server, (message, &(r, s))) in shares.iter().zip(pairs).enumerate() {
+            let call = Call { message: message.clone(), r, s, room: ONE_BYTES, ..Call::of(Function::Share) };
             joined.extend(self.at(suite, server, call)?.bytes);
         }
         Ok(joined)
@@ -86,7 +98,7 @@ impl Pool {
         let mut next = Vec::new();
         for server in 0..self.tables.len() {
             let (id, message) = (id_of(joined), joined.to_vec());
-            let call = Call { id, message, room: 14, ..Call::of(Function::RoundOne) };
+            let call = Call { id, message, room: TWO_BYTES, ..Call::of(Function::RoundOne) };
             next.extend(self.at(suite, server, call)?.bytes);
         }
         Ok(next)
@@ -153,8 +165,9 @@ fn add_values(sheet: &Sheet, values: &[u8], totals: &mut [u64]) {
     }
 }
 
-/// Honest returns of random values, their messages in random orders, now and then one dropped: all others are accepted.
-/// Until they are Q every close is refused 15; then the joined totals are their sums.
+/// Honest returns of random values, their messages in random orders. Now and then one is dropped, or has challenges that
+/// differ among the servers; all others are accepted. Until they are Q every close is refused 15; then the joined totals
+/// are their sums.
 fn honest(suite: &mut Suite, rng: &mut Rng, pool: &mut Pool, count: u32) -> Verdict {
     let mut totals = vec![0; pool.sheet.published()];
     let mut accepted = 0;
@@ -168,6 +181,10 @@ fn honest(suite: &mut Suite, rng: &mut Rng, pool: &mut Pool, count: u32) -> Verd
         if rng.chance(10) {
             pool.share(suite, &shares, r, s)?;
             pool.drop(suite, id)?;
+            continue;
+        }
+        if rng.chance(10) {
+            challenges::random_slip(suite, rng, pool, &shares, (r, s))?;
             continue;
         }
         let joined = pool.share(suite, &shares, r, s)?;
@@ -237,7 +254,7 @@ pub fn many(suite: &mut Suite) -> Verdict {
     // A ninth: 11 while eight wait, 13 from then on.
     let one_more = |pool: &Pool| {
         let (table, message) = (pool.tables[0].clone(), last.clone());
-        Call { table, message, r: 5, s: 6, room: 14, ..Call::of(Function::Share) }
+        Call { table, message, r: 5, s: 6, room: ONE_BYTES, ..Call::of(Function::Share) }
     };
     suite.number(&one_more(&pool), 11)?;
     for joined in waiting.iter().rev() {
@@ -258,7 +275,7 @@ fn used(suite: &mut Suite, pool: &Pool, share: &[u8]) -> Verdict {
     for (id, number) in ids.into_iter().chain([(1 << 16, 0), (1 << 24, 0), ((1 << 32) - 1, 0)]) {
         let (table, mut message) = (pool.tables[0].clone(), share.to_vec());
         put_word(&mut message, 1, id);
-        suite.number(&Call { table, message, r: 5, s: 6, room: 14, ..Call::of(Function::Share) }, number)?;
+        suite.number(&Call { table, message, r: 5, s: 6, room: ONE_BYTES, ..Call::of(Function::Share) }, number)?;
     }
     Ok(())
 }

@@ -5,7 +5,7 @@ use second::gen::Rng;
 use crate::calls::{Call, Function};
 use crate::fixture::{other, Fixture, NEXT};
 use crate::layout::{read, Parts, Slot, AWAITS_ONE, AWAITS_TWO, FREE, SLOTS};
-use crate::reference::own_message;
+use crate::reference::{own_message, ONE_BYTES};
 use crate::suite::{Suite, Verdict};
 use crate::tables::{all_calls, changed, fixtures, refused, taken};
 
@@ -203,21 +203,25 @@ pub fn own(suite: &mut Suite) -> Verdict {
         let table = read(&fixture.first)?;
         let (record, share) = (fixture.record, table.at.share);
         let more = |number: u64| (number + 5) % P;
-        for k in 0..4 {
+        for k in 0..6 {
             let first = fixture.first.with(|t| match k {
                 0 => t.slots[record].d = more(t.slots[record].d),
                 1 => t.slots[record].e = more(t.slots[record].e),
+                2 => t.slots[record].r = more(t.slots[record].r),
+                3 => t.slots[record].s = more(t.slots[record].s),
                 _ => {
-                    let number = &mut table.place_mut(t, record)[share + k - 2];
+                    let number = &mut table.place_mut(t, record)[share + k - 4];
                     *number = more(u64::from(*number)) as u32;
                 }
             });
-            // The own message now holds the changed d or e.
+            // The own message now holds the changed d, e, r or s; the others' r and s differ then.
             let own = own_message(&table, &first, record);
             let mut call = Call { table: first, ..fixture.round_one() };
-            let place = 14 * table.own as usize;
-            suite.number(&call, if k < 2 { 12 } else { 0 })?;
-            call.message[place..place + 14].copy_from_slice(&own);
+            suite.number(&call, if k < 4 { 12 } else { 0 })?;
+            let place = ONE_BYTES * table.own as usize;
+            call.message[place..place + ONE_BYTES].copy_from_slice(&own);
+            suite.number(&call, if k == 2 || k == 3 { 16 } else { 0 })?;
+            call.message.chunks_mut(ONE_BYTES).for_each(|message| message[14..].copy_from_slice(&own[14..]));
             suite.number(&call, 0)?;
         }
     }

@@ -11,8 +11,18 @@ use crate::layout::put_word;
 use crate::tell::told;
 pub use tables::own_message;
 
-/// The length of a round message.
-pub const ROUND: usize = 14;
+/// The lengths of round one and of round two messages.
+pub const ONE_BYTES: usize = 22;
+pub const TWO_BYTES: usize = 14;
+
+/// The length of each of the joined messages of a round, by the first kind byte.
+pub fn message_length(joined: &[u8]) -> usize {
+    if joined.first() == Some(&34) {
+        ONE_BYTES
+    } else {
+        TWO_BYTES
+    }
+}
 
 /// The answer to a call. An error tells that the two answers to a call on a table differ.
 pub fn answer(call: &Call) -> Result<Outcome, String> {
@@ -73,13 +83,10 @@ fn join(call: &Call) -> Outcome {
     plain(vec![u64::from(joined.count)], joined.totals)
 }
 
-/// A round message: kind, id, server, two elements.
-pub fn round_message(kind: u8, id: u32, server: u32, x: u64, y: u64) -> Vec<u8> {
-    let mut message = vec![0; ROUND];
-    message[0] = kind;
+/// A round message: kind, id, server, elements.
+pub fn round_message(kind: u8, id: u32, server: u32, elements: &[u64]) -> Vec<u8> {
+    let mut message = vec![kind, 0, 0, 0, 0, server as u8];
     put_word(&mut message, 1, id.into());
-    message[5] = server as u8;
-    put_word(&mut message, 6, x);
-    put_word(&mut message, 10, y);
+    message.extend(elements.iter().flat_map(|&element| (element as u32).to_le_bytes()));
     message
 }

@@ -2,6 +2,7 @@
 
 use second::gen::Call as Step;
 use second::gen::{Answer, Case, CaseAnswer, Exchange, Rng, Script, Shelf};
+use second::refusal;
 use second::Verdict::{Accepted, Rejected};
 
 use crate::calls::{plain, Call, Done, Function, Outcome};
@@ -86,6 +87,19 @@ pub fn script(suite: &mut Suite, seed: u64) -> Verdict {
         exchanged(suite, exchange)?;
     }
     truth(suite, &script)
+}
+
+/// How many round ones were refused 16.
+pub fn unequal(suite: &Suite) -> u64 {
+    suite.seen.get(&(Function::RoundOne, refusal::UNEQUAL)).copied().unwrap_or(0)
+}
+
+/// At least a thousand more were than before.
+pub fn often(suite: &Suite, before: u64) -> Verdict {
+    match unequal(suite) - before {
+        0..1000 => Err(format!("{} round ones were refused 16", unequal(suite) - before)),
+        _ => Ok(()),
+    }
 }
 
 /// Where an orderly script's pool reaches Q, the closing messages join to the sums that its returns add up to.

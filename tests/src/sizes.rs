@@ -27,12 +27,12 @@ extern "C" {
 }
 
 /// The refusals.
-const REFUSALS: [usize; 18] = [0, 1, 2, 3, 4, 5, 6, 7, 8, 9, 10, 11, 12, 13, 14, 15, 17, 19];
+const REFUSALS: [usize; 19] = [0, 1, 2, 3, 4, 5, 6, 7, 8, 9, 10, 11, 12, 13, 14, 15, 16, 17, 19];
 
-/// After the refusals: p, S from and to, the most returns and entries, the column kinds, a round message's length, and
-/// the largest sizes; R and W at most, and their product; lists at most, and their bytes; slots, the most numbers, and a
-/// slot's stages.
-const CONSTANTS: [usize; 25] = [
+/// After the refusals: p, S from and to, the most returns and entries, the column kinds, the lengths of round one and
+/// round two messages, and the largest sizes; R and W at most, and their product; lists at most, and their bytes; slots,
+/// the most numbers, and a slot's stages.
+const CONSTANTS: [usize; 26] = [
     2_147_483_647,
     2,
     8,
@@ -42,6 +42,7 @@ const CONSTANTS: [usize; 25] = [
     18,
     19,
     20,
+    22,
     14,
     426,
     7161,

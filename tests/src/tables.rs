@@ -4,6 +4,7 @@ use crate::calls::{Call, Function};
 use crate::damage::damaged;
 use crate::fixture::Fixture;
 use crate::layout::{id_of, put_short, put_word, read, sound, Parts, Slot};
+use crate::reference::TWO_BYTES;
 use crate::suite::{Suite, Verdict};
 use crate::tops::top_column;
 
@@ -245,7 +246,7 @@ pub fn random(suite: &mut Suite) -> Verdict {
                 let id = table.slots.get(id).map_or(0, |slot| slot.id);
                 for function in [Function::RoundOne, Function::RoundTwo, Function::Drop] {
                     let (table, message) = (table.clone(), fixture.joined_one.clone());
-                    suite.agrees(&Call { table, id, message, room: 14, ..Call::of(function) })?;
+                    suite.agrees(&Call { table, id, message, room: TWO_BYTES, ..Call::of(function) })?;
                 }
             }
         }

@@ -5,6 +5,7 @@ use second::gen::Rng;
 use crate::calls::{Call, Function};
 use crate::layout::{put_word, read, word, Parts, Slot, AWAITS_ONE, AWAITS_TWO, SLOTS};
 use crate::pools::Pool;
+use crate::reference::{ONE_BYTES, TWO_BYTES};
 use crate::suite::{Suite, Verdict};
 
 /// The table that is looked at.
@@ -54,13 +55,13 @@ impl Hall {
     fn share(&mut self, suite: &mut Suite, id: u32) -> Result<Call, String> {
         let shares = self.pool.make_zeros(suite, &mut self.rng, id)?;
         let (table, message) = (self.table(), shares[OWN].clone());
-        Ok(Call { table, message, r: R, s: 3, room: 14, ..Call::of(Function::Share) })
+        Ok(Call { table, message, r: R, s: 3, room: ONE_BYTES, ..Call::of(Function::Share) })
     }
 
     /// A round under an id with the messages of a record.
     fn round(&self, function: Function, id: u32, record: usize) -> Call {
         let joined = if function == Function::RoundOne { &self.joined_one } else { &self.joined_two };
-        Call { table: self.table(), id, message: joined[record].clone(), room: 14, ..Call::of(function) }
+        Call { table: self.table(), id, message: joined[record].clone(), room: TWO_BYTES, ..Call::of(function) }
     }
 
     fn drop(&self, id: u32) -> Call {
@@ -197,7 +198,7 @@ pub fn others(suite: &mut Suite) -> Verdict {
         }
         // One server's message of another id.
         let mut call = hall.round(Function::RoundOne, id(named), named);
-        call.message[28..].copy_from_slice(&hall.joined_one[of][28..]);
+        call.message[2 * ONE_BYTES..].copy_from_slice(&hall.joined_one[of][2 * ONE_BYTES..]);
         let number = if named % 2 == 1 { 11 } else { 12 * u32::from(named != of) };
         suite.number(&call, number)?;
     }
@@ -278,7 +279,7 @@ pub fn told(suite: &mut Suite) -> Verdict {
     let table = hall.table();
     for record in 0..SLOTS {
         let joined = &hall.joined_one[record];
-        let pair = |server: usize| [6, 10].map(|at| word(joined, 14 * server + at));
+        let pair = |server: usize| [6, 10].map(|at| word(joined, ONE_BYTES * server + at));
         let sums = [0, 1].map(|k| (0..3).map(|server| pair(server)[k]).sum::<u64>() % 2_147_483_647);
         let first =
             Slot { id: id(record), stage: AWAITS_ONE, r: R + record as u64, s: 19, d: pair(OWN)[0], e: pair(OWN)[1] };

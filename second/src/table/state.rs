@@ -3,8 +3,8 @@
 use super::{Stage, Verdict, Worked, CLOSING, PLACES};
 use crate::field::{self, P};
 use crate::judging::{
-    check_challenges, round_message, round_sums, share_parts, sigma, Findings, Round, ROUND_LENGTH,
-    ROUND_ONE, ROUND_TWO,
+    check_challenges, round_one_message, round_one_sums, round_two_message, round_two_sums,
+    share_parts, sigma, Findings, ROUND_ONE_LENGTH, ROUND_TWO_LENGTH,
 };
 use crate::limits::{check_opening, check_servers};
 use crate::refusal;
@@ -33,11 +33,32 @@ pub(super) struct State {
 #[derive(Clone, Debug, PartialEq, Eq)]
 pub(super) struct Waiting {
     pub id: u32,
-    pub stage: Stage,
     findings: Findings,
     published: Vec<u64>,
-    /// The message that this server wrote for the round it waits for.
-    pub message: [u8; ROUND_LENGTH],
+    written: Written,
+}
+
+/// The message that this server wrote for the round that a return waits for.
+#[derive(Clone, Debug, PartialEq, Eq)]
+enum Written {
+    One([u8; ROUND_ONE_LENGTH]),
+    Two([u8; ROUND_TWO_LENGTH]),
+}
+
+impl Waiting {
+    pub fn stage(&self) -> Stage {
+        match self.written {
+            Written::One(_) => Stage::AwaitsRoundOne,
+            Written::Two(_) => Stage::AwaitsRoundTwo,
+        }
+    }
+
+    pub fn message(&self) -> &[u8] {
+        match &self.written {
+            Written::One(message) => message,
+            Written::Two(message) => message,
+        }
+    }
 }
 
 impl State {
@@ -115,7 +136,7 @@ impl State {
             return Err(refusal::DECIDED);
         }
         check_challenges(self.sheet.multiplications(), r, s)?;
-        if room < ROUND_LENGTH {
+        if room < ROUND_ONE_LENGTH {
             return Err(refusal::ROOM);
         }
         Ok((id, elements))
@@ -123,40 +144,34 @@ impl State {
 
     /// "A share leads to the first wait." Gives the round one message. Refusal 11 where no
     /// place is free, which a share's refusals leave out.
-    pub fn note_share(&mut self, id: u32, worked: Worked) -> Result<[u8; ROUND_LENGTH], u32> {
+    pub fn note_share(
+        &mut self,
+        id: u32,
+        r: u64,
+        s: u64,
+        worked: Worked,
+    ) -> Result<[u8; ROUND_ONE_LENGTH], u32> {
         let Worked {
             findings,
             published,
         } = worked;
         let free = self.free().ok_or(refusal::STAGE)?;
-        let message = round_message(ROUND_ONE, id, self.own, findings.d, findings.e);
+        let message = round_one_message(id, self.own, [findings.d, findings.e], [r, s]);
         self.places[free] = Some(Waiting {
             id,
-            stage: Stage::AwaitsRoundOne,
             findings,
             published,
-            message,
+            written: Written::One(message),
         });
         Ok(message)
     }
 
-    /// The place of the return that waits under an id for a round, and the sums of that
-    /// round's joined messages. Refusals: 11, 12.
-    fn sums(&self, stage: Stage, id: u32, joined: &[u8]) -> Result<(usize, (u64, u64)), u32> {
+    /// The place of the return that waits under an id, and the message that this server wrote
+    /// for the round it waits for. Refusal 11.
+    fn written(&self, id: u32) -> Result<(usize, &Written), u32> {
         let place = self.place(id).ok_or(refusal::STAGE)?;
-        let waiting = self.places[place].as_ref().filter(|own| own.stage == stage);
-        let waiting = waiting.ok_or(refusal::STAGE)?;
-        let round = Round {
-            servers: self.servers,
-            kind: match stage {
-                Stage::AwaitsRoundOne => ROUND_ONE,
-                Stage::AwaitsRoundTwo => ROUND_TWO,
-            },
-            id,
-            own: self.own,
-            written: &waiting.message,
-        };
-        Ok((place, round_sums(&round, joined)?))
+        let waiting = self.places[place].as_ref().ok_or(refusal::STAGE)?;
+        Ok((place, &waiting.written))
     }
 
     pub fn round_one(
@@ -164,23 +179,28 @@ impl State {
         id: u32,
         joined: &[u8],
         room: usize,
-    ) -> Result<[u8; ROUND_LENGTH], u32> {
-        let (place, (d, e)) = self.sums(Stage::AwaitsRoundOne, id, joined)?;
-        if room < ROUND_LENGTH {
+    ) -> Result<[u8; ROUND_TWO_LENGTH], u32> {
+        let (place, Written::One(written)) = self.written(id)? else {
+            return Err(refusal::STAGE);
+        };
+        let (d, e) = round_one_sums(self.servers, written, joined)?;
+        if room < ROUND_TWO_LENGTH {
             return Err(refusal::ROOM);
         }
         // "Round one [leads] to the second [wait]."
         let first = self.first();
         let waiting = self.places[place].as_mut().ok_or(refusal::STAGE)?;
         let sigma = sigma(&waiting.findings, first, d, e);
-        let tau = waiting.findings.tau;
-        waiting.message = round_message(ROUND_TWO, id, self.own, sigma, tau);
-        waiting.stage = Stage::AwaitsRoundTwo;
-        Ok(waiting.message)
+        let message = round_two_message(id, self.own, sigma, waiting.findings.tau);
+        waiting.written = Written::Two(message);
+        Ok(message)
     }
 
     pub fn round_two(&mut self, id: u32, joined: &[u8]) -> Result<Verdict, u32> {
-        let (place, sums) = self.sums(Stage::AwaitsRoundTwo, id, joined)?;
+        let (place, Written::Two(written)) = self.written(id)? else {
+            return Err(refusal::STAGE);
+        };
+        let sums = round_two_sums(self.servers, written, joined)?;
         let waiting = self.decide(place)?;
         // "Accepted when both sums are 0 modulo p. Then the published entries are added
         // to the totals."

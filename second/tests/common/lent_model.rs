@@ -1,7 +1,7 @@
 //! Lent tables at every stage, and a plain reading of which tables obey the limits.
 
-use super::id_of;
 use super::lent_table::{Lent, LONGEST};
+use super::{id_of, ONE_BYTES, TWO_BYTES};
 use second::field::{self, P};
 use second::gen::{Answer, Call, Origin, Return, Rng, Server};
 use second::lent::{self, Slot};
@@ -55,7 +55,7 @@ fn share(given: &Return, own: usize) -> Call {
         message: given.shares[own].clone(),
         r: given.r,
         s: given.s,
-        room: 14,
+        room: ONE_BYTES,
     }
 }
 
@@ -66,7 +66,7 @@ fn shared(lents: &mut [Lent], given: &Return) -> Call {
     Call::RoundOne {
         id: given.id,
         joined: joined.collect(),
-        room: 14,
+        room: TWO_BYTES,
     }
 }
 

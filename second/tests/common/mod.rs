@@ -14,6 +14,10 @@ use second::{make, open, round_one, round_two, share, Sheet, Table, Verdict};
 /// p as a 4-byte number.
 pub const P32: u32 = P as u32;
 
+/// The lengths of the messages of round one and of round two.
+pub const ONE_BYTES: usize = 22;
+pub const TWO_BYTES: usize = 14;
+
 /// Room that never runs out.
 pub const ROOM: usize = usize::MAX;
 
@@ -79,17 +83,39 @@ pub fn closing(server: u8, count: u32, totals: &[u32]) -> Vec<u8> {
     message
 }
 
-/// The two elements of a round message.
+/// The length of each of the joined messages of a round, by the first kind byte.
+pub fn message_length(joined: &[u8]) -> usize {
+    match joined[0] {
+        34 => ONE_BYTES,
+        35 => TWO_BYTES,
+        kind => panic!("no round message starts with {kind}"),
+    }
+}
+
+/// The messages of a round, one by one.
+pub fn each_message(joined: &[u8]) -> std::slice::Chunks<'_, u8> {
+    joined.chunks(message_length(joined))
+}
+
+/// The first two elements of a round message: d and e, or sigma and tau.
 pub fn pair_of(message: &[u8]) -> (u64, u64) {
     let elements = field::elements(&message[6..14]).unwrap();
     (elements[0], elements[1])
 }
 
-/// The sums of two elements over joined messages.
+/// r and s of a round one message.
+pub fn challenges_of(message: &[u8]) -> (u64, u64) {
+    let elements = field::elements(&message[14..22]).unwrap();
+    (elements[0], elements[1])
+}
+
+/// The sums of the first two elements over joined messages.
 pub fn sums(joined: &[u8]) -> (u64, u64) {
-    joined.chunks(14).map(pair_of).fold((0, 0), |sums, pair| {
-        ((sums.0 + pair.0) % P, (sums.1 + pair.1) % P)
-    })
+    each_message(joined)
+        .map(pair_of)
+        .fold((0, 0), |sums, pair| {
+            ((sums.0 + pair.0) % P, (sums.1 + pair.1) % P)
+        })
 }
 
 /// Opens S tables alike, with Q = 1.
@@ -115,11 +141,11 @@ pub fn judge(
     let id = id_of(&shares[0]);
     let mut first = Vec::new();
     for (table, message) in tables.iter_mut().zip(shares) {
-        first.extend(share(table, message, r, s, 14).unwrap());
+        first.extend(share(table, message, r, s, ONE_BYTES).unwrap());
     }
     let mut second = Vec::new();
     for table in tables.iter_mut() {
-        second.extend(round_one(table, id, &first, 14).unwrap());
+        second.extend(round_one(table, id, &first, TWO_BYTES).unwrap());
     }
     let verdicts: Vec<Verdict> = tables
         .iter_mut()

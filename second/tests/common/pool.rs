@@ -2,7 +2,7 @@
 
 use super::rounds::messages;
 use super::twins::Twins;
-use super::{closing, honest, sums, words, P32, ROOM};
+use super::{closing, honest, sums, words, ONE_BYTES, P32, ROOM, TWO_BYTES};
 use second::field;
 use second::gen::{Answer, Call, Server};
 use second::{join, Joined, Verdict};
@@ -51,7 +51,7 @@ impl Pool {
             message: self.shares(id)[own].clone(),
             r: 100,
             s: 3,
-            room: 14,
+            room: ONE_BYTES,
         }
     }
 
@@ -67,7 +67,7 @@ impl Pool {
 
     /// Every server takes round one of the last return.
     pub fn one(&mut self, id: u32) {
-        let (joined, room) = (self.joined.clone(), 14);
+        let (joined, room) = (self.joined.clone(), TWO_BYTES);
         let call = Call::RoundOne { id, joined, room };
         self.joined = messages(&mut self.tables, |_| call.clone());
     }
@@ -108,7 +108,7 @@ impl Pool {
         let servers = self.tables.len();
         for own in 0..servers {
             let mut joined = self.joined.clone();
-            let at = 14 * ((own + 1) % servers) + 6;
+            let at = TWO_BYTES * ((own + 1) % servers) + 6;
             let old = u32::from_le_bytes(joined[at..at + 4].try_into().unwrap());
             joined[at..at + 4].copy_from_slice(&((old + 1) % P32).to_le_bytes());
             assert_eq!(sums(&joined), (1, 0));

@@ -1,11 +1,13 @@
 //! Both rounds of a return, and their joined messages in other orders and altered.
 
 use super::twins::Twins;
-use super::{honest, with, P32};
+use super::{each_message, honest, message_length, with, ONE_BYTES, P32, TWO_BYTES};
 use second::gen::{Answer, Call, Server};
 
 pub const SHEET: [u8; 5] = [17, 18, 3, 19, 4];
 pub const ID: u32 = 0x0403_0201;
+/// The r and s of every server.
+pub const PAIR: (u64, u64) = (100, 3);
 
 /// The tables of S servers that await a round, and its messages in server order.
 pub struct Round {
@@ -21,7 +23,7 @@ impl Round {
             false => Call::RoundOne {
                 id,
                 joined,
-                room: 14,
+                room: TWO_BYTES,
             },
             true => Call::RoundTwo { id, joined },
         }
@@ -45,28 +47,41 @@ impl Round {
     /// All servers refuse the messages 12.
     pub fn refused(&self, joined: &[u8]) {
         for own in 0..self.tables.len() {
-            let (answer, after) = self.answer(own, joined);
-            assert_eq!(answer, Answer::Refused(12), "{own}: {joined:?}");
-            assert!(after == self.tables[own]);
+            self.refuses(own, 12, joined);
         }
+    }
+
+    /// A server refuses the messages with this number, and its table stays as it was.
+    pub fn refuses(&self, own: usize, number: u32, joined: &[u8]) {
+        let (answer, after) = self.answer(own, joined);
+        assert_eq!(answer, Answer::Refused(number), "{own}: {joined:?}");
+        assert!(after == self.tables[own]);
+    }
+
+    /// The length of each message.
+    pub fn length(&self) -> usize {
+        message_length(&self.joined)
+    }
+}
+
+/// Round one of an honest return; each server took its share with its own r and s.
+pub fn first_round(pairs: &[(u64, u64)]) -> Round {
+    let servers = pairs.len() as u32;
+    let mut tables = Twins::open_all(servers, &SHEET, 5, 1);
+    let joined = messages(&mut tables, |own| {
+        share_call(servers, own, ID, pairs[own], ONE_BYTES)
+    });
+    Round {
+        tables,
+        joined,
+        second: false,
     }
 }
 
 /// Both rounds of an honest return at S servers.
 pub fn rounds(servers: u32) -> [Round; 2] {
-    let mut tables = Twins::open_all(servers, &SHEET, 5, 1);
-    let shares = honest(&SHEET, servers, ID);
-    let joined = messages(&mut tables, |own| Call::Share {
-        message: shares[own].clone(),
-        r: 100,
-        s: 3,
-        room: 14,
-    });
-    let one = Round {
-        tables: tables.clone(),
-        joined,
-        second: false,
-    };
+    let one = first_round(&vec![PAIR; servers as usize]);
+    let mut tables = one.tables.clone();
     let joined = messages(&mut tables, |_| one.call(&one.joined));
     let two = Round {
         tables,
@@ -74,6 +89,17 @@ pub fn rounds(servers: u32) -> [Round; 2] {
         second: true,
     };
     [one, two]
+}
+
+/// An honest share of one of S servers.
+pub fn share_call(servers: u32, own: usize, id: u32, (r, s): (u64, u64), room: usize) -> Call {
+    let message = honest(&SHEET, servers, id)[own].clone();
+    Call::Share {
+        message,
+        r,
+        s,
+        room,
+    }
 }
 
 /// A call at every server; gives the messages in server order.
@@ -86,15 +112,20 @@ pub fn messages(tables: &mut [Twins], call: impl Fn(usize) -> Call) -> Vec<u8> {
     messages.collect::<Vec<_>>().concat()
 }
 
-/// The messages of so many bytes each, in an order of their servers.
-pub fn ordered(joined: &[u8], length: usize, order: &[usize]) -> Vec<u8> {
-    let messages = order.iter().map(|&server| &joined[length * server..]);
+/// The messages of so many bytes each, in an order of their places.
+pub fn picked(joined: &[u8], length: usize, order: &[usize]) -> Vec<u8> {
+    let messages = order.iter().map(|&place| &joined[length * place..]);
     messages.flat_map(|from| &from[..length]).copied().collect()
+}
+
+/// Round messages in an order of their places.
+pub fn ordered(joined: &[u8], order: &[usize]) -> Vec<u8> {
+    picked(joined, message_length(joined), order)
 }
 
 /// The messages from the last to the first.
 pub fn reversed(joined: &[u8]) -> Vec<u8> {
-    joined.chunks(14).rev().collect::<Vec<_>>().concat()
+    each_message(joined).rev().collect::<Vec<_>>().concat()
 }
 
 /// Every order of so many servers.
@@ -109,19 +140,26 @@ pub fn orders(servers: usize) -> Vec<Vec<usize>> {
 }
 
 /// Where the message of a server starts.
-fn start(joined: &[u8], server: usize) -> usize {
-    let mut messages = joined.chunks(14);
+pub fn start(joined: &[u8], server: usize) -> usize {
+    let mut messages = each_message(joined);
     let place = messages.position(|message| usize::from(message[5]) == server);
-    14 * place.unwrap()
+    message_length(joined) * place.unwrap()
 }
 
-/// The messages with 1 added to one of the two elements of a server's.
+/// The messages with 1 added to one of the first two elements of a server's.
 pub fn altered(joined: &[u8], server: usize) -> [Vec<u8>; 2] {
-    [6, 10].map(|at| {
-        let at = start(joined, server) + at;
-        let old = u32::from_le_bytes(joined[at..at + 4].try_into().unwrap());
-        with(joined, at, &((old + 1) % P32).to_le_bytes())
-    })
+    [6, 10].map(|at| one_more(joined, start(joined, server) + at))
+}
+
+/// Round one's messages with 1 added to r or to s of a server's.
+pub fn altered_challenges(joined: &[u8], server: usize) -> [Vec<u8>; 2] {
+    [14, 18].map(|at| one_more(joined, start(joined, server) + at))
+}
+
+/// The messages with 1 added to the element at a place.
+fn one_more(joined: &[u8], at: usize) -> Vec<u8> {
+    let old = u32::from_le_bytes(joined[at..at + 4].try_into().unwrap());
+    with(joined, at, &((old + 1) % P32).to_le_bytes())
 }
 
 /// The messages of two servers with each other's number.

@@ -5,6 +5,7 @@ use crate::calls::{Call, Function};
 use crate::fixture::{other, Fixture, DECIDED, NEXT, UNKNOWN};
 use crate::layout::{put_short, put_word, Parts};
 use crate::orders::ordered;
+use crate::reference::{ONE_BYTES, TWO_BYTES};
 use crate::suite::{Suite, Verdict};
 
 const SHEET: [u8; 5] = [17, 18, 3, 19, 4];
@@ -122,7 +123,7 @@ pub fn share(suite: &mut Suite) -> Verdict {
         let m = fixture.multiplications;
         faults.extend([0, 1, m, P, P + 1, (1 << 32) + m + 1, u64::MAX].map(r));
         faults.extend([P, P + 1, 1 << 32, u64::MAX].map(|s| fault(5, 9, "s", move |call| call.s = s)));
-        faults.extend(rooms(6, 14));
+        faults.extend(rooms(6, ONE_BYTES));
         let resized = |length: usize| fault(2, 7, "length", move |call| call.message.resize(length, 0));
         faults.extend([0, 1, 6, length - 4, length - 1, length + 1, length + 4].map(resized));
         faults.extend(parts(0, 11, fixture.idle.elements.len()));
@@ -134,10 +135,15 @@ pub fn share(suite: &mut Suite) -> Verdict {
 /// The orders in which the messages of three servers stand: that of the servers, and one with none in its own place.
 const ORDERS: [[usize; 3]; 2] = [[0, 1, 2], [1, 2, 0]];
 
-/// Joined round messages at fault, at server 1 of 3; `kind` is the round's. They stand in this order. No two changes of
-/// server numbers give two others each other's: that is no fault.
-fn joined(order: u32, kind: u8, places: [usize; 3]) -> Vec<Fault> {
-    let at = |server: usize, at: usize| 14 * places.iter().position(|&place| place == server).unwrap_or(0) + at;
+/// Where a byte of the message of a server stands in messages of so many bytes each, in this order.
+fn place_of(length: usize, order: [usize; 3], server: usize, at: usize) -> usize {
+    length * order.iter().position(|&place| place == server).unwrap_or(0) + at
+}
+
+/// Joined round messages at fault, at server 1 of 3; `kind` is the round's and `length` that of each. They stand in this
+/// order. No two changes of server numbers give two others each other's: that is no fault.
+fn joined(order: u32, kind: u8, length: usize, places: [usize; 3]) -> Vec<Fault> {
+    let at = |server: usize, at: usize| place_of(length, places, server, at);
     let byte =
         |place: &'static str, at: usize, change: u8| fault(order, 12, place, move |call| call.message[at] ^= change);
     let mut faults = vec![
@@ -153,28 +159,39 @@ fn joined(order: u32, kind: u8, places: [usize; 3]) -> Vec<Fault> {
         byte("server 1", at(1, 5), 32),
         byte("server 2", at(2, 5), 1),
         byte("server 2", at(2, 5), 128),
-        byte("own", at(1, 6), 1),
-        byte("own", at(1, 13), 1),
     ];
+    faults.extend((6..length).step_by(4).flat_map(|k| [k, k + 3]).map(|k| byte("own", at(1, k), 1)));
     faults.extend([1, 2, 3, 4].map(|k| byte("id 0", at(0, k), 1)));
     faults.extend([1, 2, 3, 4].map(|k| byte("id 2", at(2, k), 128)));
     let element =
         |at: usize, wrong: u64| fault(order, 12, "element", move |call| put_word(&mut call.message, at, wrong));
-    faults.extend([element(at(0, 6), P), element(at(0, 10), P)]);
-    faults.extend([element(at(2, 6), P), element(at(2, 10), (1 << 32) - 1)]);
+    let inside = |at: &usize| *at < length;
+    faults.extend([6, 10, 14].into_iter().filter(inside).map(|k| element(at(0, k), P)));
+    faults.extend([6, 10, 18].into_iter().filter(inside).map(|k| element(at(2, k), P)));
+    faults.push(element(at(2, 10), (1 << 32) - 1));
     // A server twice: the first stands for the second too.
     let twice = |(from, to): (usize, usize)| {
         let (from, to) = (at(from, 0), at(to, 0));
-        fault(order, 12, "twice", move |call| call.message.copy_within(from..from + 14, to))
+        fault(order, 12, "twice", move |call| call.message.copy_within(from..from + length, to))
     };
     faults.extend([(0, 1), (0, 2), (1, 0), (1, 2), (2, 0), (2, 1)].map(twice));
     faults
 }
 
-/// Wrong lengths of joined round messages of three servers.
-fn lengths(order: u32) -> Vec<Fault> {
+/// Challenges that differ: s of server 0, or r of server 2. No other fault changes these.
+fn unequal(order: u32, places: [usize; 3]) -> Vec<Fault> {
+    let put = |place: &'static str, at: usize, number: u64| {
+        fault(order, 16, place, move |call| put_word(&mut call.message, at, number))
+    };
+    let (s, r) = (place_of(ONE_BYTES, places, 0, 18), place_of(ONE_BYTES, places, 2, 14));
+    [0, 1, P - 1].into_iter().flat_map(|number| [put("other s", s, number), put("other r", r, number)]).collect()
+}
+
+/// Wrong lengths of joined round messages of three servers, of so many bytes each.
+fn lengths(order: u32, length: usize) -> Vec<Fault> {
     let resized = |length: usize| fault(order, 12, "length", move |call| call.message.resize(length, 0));
-    [0, 14, 28, 41, 43, 56].map(resized).into()
+    let other = 3 * (ONE_BYTES + TWO_BYTES - length);
+    [0, length, 2 * length, 3 * length - 1, 3 * length + 1, 4 * length, other].map(resized).into()
 }
 
 /// Tables in which nothing waits under the named id, or not for this round.
@@ -195,15 +212,16 @@ fn named(fixture: &Fixture, odd: bool) -> Vec<Fault> {
     faults
 }
 
-/// Round one: 11, 12, 14.
+/// Round one: 11, 12, 16, 14.
 pub fn round_one(suite: &mut Suite) -> Verdict {
     for (fixture, order) in fixtures(suite)?.iter().flat_map(|fixture| ORDERS.map(|order| (fixture, order))) {
         let mut faults = named(fixture, false);
         faults.extend(stages(&[&fixture.idle, &fixture.second, &fixture.full]));
         faults.extend(tables(fixture));
-        faults.extend(joined(1, 34, order));
-        faults.extend(rooms(2, 14));
-        faults.extend(lengths(1));
+        faults.extend(joined(1, 34, ONE_BYTES, order));
+        faults.extend(unequal(2, order));
+        faults.extend(rooms(3, TWO_BYTES));
+        faults.extend(lengths(1, ONE_BYTES));
         faults.extend(parts(0, 11, fixture.idle.elements.len()));
         let message = ordered(&fixture.joined_one, &order);
         alone_and_in_pairs(suite, &Call { message, ..fixture.round_one() }, &faults)?;
@@ -217,8 +235,8 @@ pub fn round_two(suite: &mut Suite) -> Verdict {
         let mut faults = named(fixture, true);
         faults.extend(stages(&[&fixture.idle, &fixture.first, &fixture.full]));
         faults.extend(tables(fixture));
-        faults.extend(joined(1, 35, order));
-        faults.extend(lengths(1));
+        faults.extend(joined(1, 35, TWO_BYTES, order));
+        faults.extend(lengths(1, TWO_BYTES));
         faults.extend(parts(0, 11, fixture.idle.elements.len()));
         let message = ordered(&fixture.joined_two, &order);
         alone_and_in_pairs(suite, &Call { message, ..fixture.round_two() }, &faults)?;

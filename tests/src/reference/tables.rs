@@ -4,7 +4,7 @@
 use second::field::{self, P};
 use second::{fast, refusal, Sheet};
 
-use super::{round_message, ROUND};
+use super::{round_message, ONE_BYTES, TWO_BYTES};
 use crate::calls::{Call, Done, Outcome};
 use crate::layout::{self, id_of, put_short, put_word, word, Parts, Slot, Table};
 
@@ -66,19 +66,16 @@ pub fn share(call: &Call) -> Outcome {
 }
 
 /// r × h(r) and tau of a share that the second program just took. They are read off its round two message when the
-/// other servers' numbers are 0: then d and e are its own.
+/// other servers' d and e are 0: then the sums are its own.
 fn hidden(fresh: &mut fast::Table, table: &Table, share: &[u64], message: &[u8]) -> (u64, u64) {
-    let mut joined = Vec::new();
-    for server in 0..table.servers {
-        if server == table.own {
-            joined.extend_from_slice(message);
-        } else {
-            joined.extend_from_slice(&message[..5]);
-            joined.push(server as u8);
-            joined.extend([0; 8]);
+    let mut joined = message.repeat(table.servers as usize);
+    for (server, other) in (0..).zip(joined.chunks_mut(ONE_BYTES)) {
+        other[5] = server;
+        if u32::from(server) != table.own {
+            other[6..14].fill(0);
         }
     }
-    let next = fast::round_one(fresh, id_of(message), &joined, ROUND).expect("sound messages");
+    let next = fast::round_one(fresh, id_of(message), &joined, TWO_BYTES).expect("sound messages");
     let whole = sigma(table, share, word(message, 6), word(message, 10), 0);
     (field::sub(whole, word(&next, 6)), word(&next, 10))
 }
@@ -93,33 +90,33 @@ fn sigma(table: &Table, share: &[u64], d: u64, e: u64, rh: u64) -> u64 {
 
 /// The message that the table wrote for the round that a record awaits.
 pub fn own_message(table: &Table, parts: &Parts, record: usize) -> Vec<u8> {
-    let Slot { id, stage, d, e, .. } = parts.slots[record];
+    let Slot { id, stage, r, s, d, e } = parts.slots[record];
     let numbers: Vec<u64> = table.place(parts, record).iter().map(|&number| u64::from(number)).collect();
     let (rh, tau) = (numbers[table.at.share], numbers[table.at.share + 1]);
     match stage {
-        layout::AWAITS_ONE => round_message(34, id, table.own, d, e),
-        _ => round_message(35, id, table.own, sigma(table, &numbers, d, e, rh), tau),
+        layout::AWAITS_ONE => round_message(34, id, table.own, &[d, e, r, s]),
+        _ => round_message(35, id, table.own, &[sigma(table, &numbers, d, e, rh), tau]),
     }
 }
 
-/// The sums of joined round messages for a record, or refusal 12. They may stand in any order: sorted by their server
-/// numbers, message k is server k's.
+/// The sums of the first two elements of joined round messages for a record, or refusal 12. They may stand in any order:
+/// sorted by their server numbers, message k is server k's.
 fn sums(table: &Table, parts: &Parts, record: usize, joined: &[u8]) -> Result<(u64, u64), u32> {
     let mine = own_message(table, parts, record);
-    if joined.len() != ROUND * table.servers as usize {
+    if joined.len() != mine.len() * table.servers as usize {
         return Err(refusal::JOINED);
     }
-    let mut messages: Vec<&[u8]> = joined.chunks(ROUND).collect();
+    let mut messages: Vec<&[u8]> = joined.chunks(mine.len()).collect();
     messages.sort_by_key(|message| message[5]);
     let mut sums = (0, 0);
     for (server, message) in messages.into_iter().enumerate() {
-        let (x, y) = (word(message, 6), word(message, 10));
-        let alike = message[..5] == mine[..5] && usize::from(message[5]) == server && x < P && y < P;
+        let elements = layout::words(message, 6, (message.len() - 6) / 4);
+        let alike = message[..5] == mine[..5] && usize::from(message[5]) == server;
         let own = server != table.own as usize || message == mine;
-        if !alike || !own {
+        if !alike || !own || elements.iter().any(|&element| element >= P) {
             return Err(refusal::JOINED);
         }
-        sums = (field::add(sums.0, x), field::add(sums.1, y));
+        sums = (field::add(sums.0, elements[0]), field::add(sums.1, elements[1]));
     }
     Ok(sums)
 }
@@ -128,7 +125,11 @@ pub fn round_one(call: &Call) -> Outcome {
     let table = open_table(call)?;
     let record = awaits(call, layout::AWAITS_ONE)?;
     let (d, e) = sums(&table, &call.table, record, &call.message)?;
-    if call.room < ROUND {
+    // Each message has the r and s of the first.
+    if call.message.chunks(ONE_BYTES).any(|message| message[14..] != call.message[14..ONE_BYTES]) {
+        return Err(refusal::UNEQUAL);
+    }
+    if call.room < TWO_BYTES {
         return Err(refusal::ROOM);
     }
     let mut after = call.table.clone();

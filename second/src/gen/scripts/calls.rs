@@ -1,6 +1,5 @@
 //! The calls of a script, their answers, and the tables that take them.
 
-use crate::judging::ROUND_LENGTH;
 use crate::table::{self, Form, Table, Verdict};
 
 /// A call on a table.
@@ -41,6 +40,13 @@ pub enum Answer {
     Refused(u32),
 }
 
+impl Answer {
+    /// A message of so many bytes.
+    fn of<const N: usize>(message: [u8; N]) -> Answer {
+        Answer::Message(message.to_vec())
+    }
+}
+
 /// One call at one server, with the plain form's answer.
 #[derive(Clone, Debug, PartialEq, Eq)]
 pub struct Step {
@@ -61,16 +67,15 @@ pub trait Server {
 /// Tables of the plain and the fast form.
 impl<F: Form> Server for Table<F> {
     fn call(&mut self, call: &Call) -> Answer {
-        let message = |bytes: [u8; ROUND_LENGTH]| Answer::Message(bytes.to_vec());
         let answer = match call {
             Call::Share {
-                message: share,
+                message,
                 r,
                 s,
                 room,
-            } => table::share(self, share, *r, *s, *room).map(message),
+            } => table::share(self, message, *r, *s, *room).map(Answer::of),
             Call::RoundOne { id, joined, room } => {
-                table::round_one(self, *id, joined, *room).map(message)
+                table::round_one(self, *id, joined, *room).map(Answer::of)
             }
             Call::RoundTwo { id, joined } => {
                 table::round_two(self, *id, joined).map(Answer::Verdict)

@@ -1,11 +1,12 @@
 //! Refused calls between the others.
 
 use super::builder::Builder;
+use super::joined::length_of;
 use super::{Answer, Call, Server};
 use crate::field::P;
 use crate::gen::any::{any_id, any_room};
 use crate::gen::{pair, sheets, Rng};
-use crate::judging::{ROUND_LENGTH, ROUND_ONE, ROUND_TWO};
+use crate::judging::{ROUND_ONE, ROUND_ONE_LENGTH, ROUND_TWO, ROUND_TWO_LENGTH};
 use crate::making::header;
 
 impl Builder {
@@ -65,9 +66,9 @@ impl Builder {
             let far = rng.between(P, u64::MAX - 1);
             s = rng.pick([P, P + 1, 1 << 32, (1 << 32) + 1, far, u64::MAX]);
         }
-        let mut room = ROUND_LENGTH;
+        let mut room = ROUND_ONE_LENGTH;
         if rng.chance(percent) {
-            room = rng.index(ROUND_LENGTH);
+            room = rng.index(ROUND_ONE_LENGTH);
         }
         Call::Share {
             message,
@@ -84,13 +85,13 @@ impl Builder {
         let other = self.some_id(server);
         let of = if self.rng.chance(25) { other } else { id };
         let mut joined = self.joined(of, kind);
-        let mut room = ROUND_LENGTH;
+        let mut room = ROUND_TWO_LENGTH;
         for _ in 0..self.rng.below(3) {
-            if joined.len() < ROUND_LENGTH {
+            if joined.len() < length_of(kind) {
                 break;
             }
             if self.rng.chance(10) {
-                room = self.rng.index(ROUND_LENGTH);
+                room = self.rng.index(ROUND_TWO_LENGTH);
             } else {
                 self.damage_joined(server, kind, &mut joined);
             }

@@ -4,7 +4,7 @@ use super::builder::Builder;
 use super::{Answer, Call};
 use crate::gen::any::any_room;
 use crate::gen::pair;
-use crate::judging::{ROUND_LENGTH, ROUND_ONE, ROUND_TWO};
+use crate::judging::{ROUND_ONE, ROUND_ONE_LENGTH, ROUND_TWO, ROUND_TWO_LENGTH};
 use crate::table::Table;
 
 /// A return on its way through the pool.
@@ -15,8 +15,10 @@ struct Course {
     left: Vec<u32>,
     /// The servers that took their share.
     reached: Vec<u32>,
-    /// Whether the servers use different pairs.
-    uneven: bool,
+    /// The r and s that each server uses.
+    pairs: Vec<(u64, u64)>,
+    /// Whether a server refused round one, for challenges that differ.
+    refused: bool,
 }
 
 /// The calls that a return meets at the servers, one phase after the other.
@@ -69,8 +71,7 @@ impl Builder {
         self.tables.iter().all(Table::closed)
     }
 
-    /// A new return. Now and then some servers never get their share; now and then the servers
-    /// use different pairs.
+    /// A new return. Now and then some servers never get their share.
     fn start(&mut self) -> Course {
         let number = self.new_return();
         let mut left = self.order();
@@ -82,8 +83,28 @@ impl Builder {
             phase: Phase::Share,
             left,
             reached: Vec::new(),
-            uneven: self.rng.chance(5),
+            pairs: self.pairs(number),
+            refused: false,
         }
+    }
+
+    /// The r and s that each server uses for a return: all the same; now and then another r or
+    /// s, or both, at one server; now and then any at each.
+    fn pairs(&mut self, number: usize) -> Vec<(u64, u64)> {
+        let (r, s) = (self.returns[number].r, self.returns[number].s);
+        let gates = self.sheet.multiplications();
+        let rng = &mut self.rng;
+        let mut pairs = vec![(r, s); self.servers as usize];
+        match rng.below(20) {
+            0 | 1 => {
+                let other = pair(rng, gates);
+                let slip = rng.index(pairs.len());
+                pairs[slip] = rng.pick([(other.0, s), (r, other.1), other]);
+            }
+            2 => pairs.fill_with(|| pair(rng, gates)),
+            _ => {}
+        }
+        pairs
     }
 
     /// Makes a return's next call; tells whether more are to come.
@@ -91,53 +112,63 @@ impl Builder {
         if let Some(server) = course.left.pop() {
             self.noise(server);
             let call = self.next_call(course, server);
-            let answer = self.call(server, call);
-            // A share may be refused: 13 past N, 11 where eight wait.
-            if course.phase == Phase::Share && matches!(answer, Answer::Message(_)) {
-                course.reached.push(server);
+            let taken = matches!(self.call(server, call), Answer::Message(_));
+            // A share may be refused: 13 past N, 11 where eight wait. Round one may be refused 16.
+            match course.phase {
+                Phase::Share if taken => course.reached.push(server),
+                Phase::One => course.refused |= !taken,
+                _ => {}
             }
         }
         if !course.left.is_empty() {
             return true;
         }
-        let whole = course.reached.len() == self.servers as usize;
-        let drop = !whole || self.rng.chance(6);
-        course.phase = match course.phase {
-            Phase::Two | Phase::Drop => return false,
-            _ if drop => Phase::Drop,
-            Phase::Share => Phase::One,
-            Phase::One => Phase::Two,
+        let Some(phase) = self.next_phase(course) else {
+            return false;
         };
+        course.phase = phase;
         course.left = self.order();
         course.left.retain(|server| course.reached.contains(server));
         !course.left.is_empty()
+    }
+
+    /// The phase after one that every server was called in. "With unaltered messages the return
+    /// keeps waiting, and only dropping ends it", where the challenges differ: some servers
+    /// try once more.
+    fn next_phase(&mut self, course: &Course) -> Option<Phase> {
+        let whole = course.reached.len() == self.servers as usize;
+        let drop = !whole || self.rng.chance(6);
+        match course.phase {
+            Phase::Two | Phase::Drop => None,
+            Phase::One if course.refused && self.rng.chance(20) => Some(Phase::One),
+            _ if drop || course.refused => Some(Phase::Drop),
+            Phase::Share => Some(Phase::One),
+            Phase::One => Some(Phase::Two),
+        }
     }
 
     /// The call of a return's phase at a server.
     fn next_call(&mut self, course: &Course, server: u32) -> Call {
         let given = &self.returns[course.number];
         let id = given.id;
-        let (mut r, mut s) = (given.r, given.s);
         let message = given.shares[server as usize].clone();
-        if course.uneven && course.phase == Phase::Share {
-            (r, s) = pair(&mut self.rng, self.sheet.multiplications());
-        }
-        let room = any_room(&mut self.rng, ROUND_LENGTH, 0);
+        let (r, s) = course.pairs[server as usize];
         match course.phase {
             Phase::Share => Call::Share {
                 message,
                 r,
                 s,
-                room,
+                room: any_room(&mut self.rng, ROUND_ONE_LENGTH, 0),
             },
-            Phase::One => {
-                let joined = self.joined(id, ROUND_ONE);
-                Call::RoundOne { id, joined, room }
-            }
-            Phase::Two => {
-                let joined = self.joined(id, ROUND_TWO);
-                Call::RoundTwo { id, joined }
-            }
+            Phase::One => Call::RoundOne {
+                id,
+                joined: self.joined(id, ROUND_ONE),
+                room: any_room(&mut self.rng, ROUND_TWO_LENGTH, 0),
+            },
+            Phase::Two => Call::RoundTwo {
+                id,
+                joined: self.joined(id, ROUND_TWO),
+            },
             Phase::Drop => Call::Drop { id },
         }
     }

@@ -1,12 +1,14 @@
 //! Scripts with calls in any order and with any arguments.
 
 use super::builder::Builder;
-use super::joined::start_of;
+use super::joined::{length_of, start_of};
 use super::{Answer, Call};
-use crate::field;
+use crate::field::{self, WIDTH};
 use crate::gen::any::any_room;
 use crate::gen::pair;
-use crate::judging::{round_message, ROUND_LENGTH, ROUND_ONE, ROUND_TWO};
+use crate::judging::{
+    CHALLENGES, ELEMENTS, ROUND_ONE, ROUND_ONE_LENGTH, ROUND_TWO, ROUND_TWO_LENGTH,
+};
 use crate::refusal;
 use crate::table::{Stage, PLACES};
 
@@ -77,7 +79,7 @@ impl Builder {
             Stage::AwaitsRoundOne => Call::RoundOne {
                 id,
                 joined: self.wild_joined(server, id, ROUND_ONE),
-                room: any_room(&mut self.rng, ROUND_LENGTH, 5),
+                room: any_room(&mut self.rng, ROUND_TWO_LENGTH, 5),
             },
             Stage::AwaitsRoundTwo => Call::RoundTwo {
                 id,
@@ -108,7 +110,7 @@ impl Builder {
         if self.rng.chance(10) {
             (r, s) = pair(&mut self.rng, self.sheet.multiplications());
         }
-        let room = any_room(&mut self.rng, ROUND_LENGTH, 5);
+        let room = any_room(&mut self.rng, ROUND_ONE_LENGTH, 5);
         Call::Share {
             message,
             r,
@@ -119,22 +121,43 @@ impl Builder {
 
     /// Joined messages for a return that waits at a server: those that were written, made-up
     /// ones for the servers that wrote none, one of them sometimes such that the sums are 0.
+    /// Round one's mostly all have the server's own challenges, whatever was written.
     fn wild_joined(&mut self, server: u32, id: u32, kind: u8) -> Vec<u8> {
         let mut joined = self.joined(id, kind);
-        let other = (server + 1) % self.servers;
-        let Some(start) = start_of(&joined, other).filter(|_| self.rng.chance(60)) else {
-            return joined;
-        };
-        let mut sums = [0, 0];
-        joined[start + 6..start + ROUND_LENGTH].fill(0);
-        for message in joined.chunks_exact(ROUND_LENGTH) {
-            for (sum, word) in sums.iter_mut().zip(field::words(&message[6..])) {
-                *sum = field::add(*sum, u64::from(word));
-            }
+        if kind == ROUND_ONE && self.rng.chance(70) {
+            make_even(&mut joined, server);
         }
-        let [x, y] = sums.map(|sum| field::sub(0, sum));
-        let message = round_message(kind, id, other, x, y);
-        joined[start..start + ROUND_LENGTH].copy_from_slice(&message);
+        let other = (server + 1) % self.servers;
+        let start = start_of(&joined, length_of(kind), other);
+        if let Some(start) = start.filter(|_| self.rng.chance(60)) {
+            balance(&mut joined, length_of(kind), start);
+        }
         joined
     }
+}
+
+/// Gives all messages of round one the challenges of a server's.
+fn make_even(joined: &mut [u8], server: u32) {
+    let Some(own) = start_of(joined, ROUND_ONE_LENGTH, server) else {
+        return;
+    };
+    let pair = joined[own + CHALLENGES..own + ROUND_ONE_LENGTH].to_vec();
+    for message in joined.chunks_exact_mut(ROUND_ONE_LENGTH) {
+        message[CHALLENGES..].copy_from_slice(&pair);
+    }
+}
+
+/// Makes the sums of the first and of the second elements 0, by those of the message that starts
+/// at a place.
+fn balance(joined: &mut [u8], length: usize, start: usize) {
+    let (from, end) = (start + ELEMENTS, start + ELEMENTS + 2 * WIDTH);
+    joined[from..end].fill(0);
+    let mut sums = [0, 0];
+    for message in joined.chunks_exact(length) {
+        for (sum, word) in sums.iter_mut().zip(field::words(&message[ELEMENTS..])) {
+            *sum = field::add(*sum, u64::from(word));
+        }
+    }
+    let [x, y] = sums.map(|sum| field::bytes(field::sub(0, sum)));
+    joined[from..end].copy_from_slice(&[x, y].concat());
 }

@@ -9,9 +9,9 @@
  *     an author         pool_every_return -> every legal return of a small sheet
  *     workshop          pool_make ------> S share messages, one for each server
  *     each server       pool_open         once: a table, in three parts
- *                       pool_share ------> its round-one message (14 bytes)    } for each return: up to eight
- *                       pool_round_one --> its round-two message (14 bytes)    } are under way at a time,
- *                       pool_round_two --> accepted or rejected                } each in its own stage
+ *                       pool_share ------> its round-one message    } for each return: up to eight
+ *                       pool_round_one --> its round-two message    } are under way at a time,
+ *                       pool_round_two --> accepted or rejected     } each in its own stage
  *                       pool_drop          in place of a round, for a return that cannot be finished
  *                       pool_close ------> its totals message, at the end, when enough returns are accepted
  *     anyone            pool_join -------> the count of accepted returns and the totals
@@ -23,9 +23,10 @@
  *
  * Round messages. A server is handed the S messages of a round of one return one after another as they arrived: in any order,
  * which may be another at each server; one of each server, the own one, unaltered, among them. They need no sorting, for each
- * says whose it is: byte 0 is 34 in round one and 35 in round two, bytes 1 to 4 are the id, byte 5 is the server. A server
- * twice or missing, or a byte 5 of S or more, is refused 12. A host takes one message of each server, told by the connection
- * that it came on, and hands them in when it has all S. Totals messages are joined in server order (pool_join).
+ * says whose it is: byte 0 is 34 in round one and 35 in round two, bytes 1 to 4 are the id, byte 5 is the server. Elements
+ * follow: d, e, r and s in round one (r from byte 14 on, s from byte 18), sigma and tau in round two. A server twice or missing,
+ * or a byte 5 of S or more, is refused 12. A host takes one message of each server, told by the connection that it came on, and
+ * hands them in when it has all S. Totals messages are joined in server order (pool_join).
  *
  * Answers. Every function returns 0 when it is done, and else the number of the refusal (POOL_...). The first refusal in
  * the order given at each function counts. A refusal changes nothing: buffers, all three parts of tables and results behind
@@ -48,8 +49,9 @@
  * Slots are aligned to 8 bytes and elements to 4, as C wants; the bytes may stand anywhere. Stored parts are copied back into
  * pool_slot and uint32_t arrays: a cast pointer into a byte buffer need not be aligned. There are exactly eight slots. The
  * bytes and the elements may stand at the start of longer buffers: what lies past them is never read nor written. Slots and
- * elements hold numbers as the machine does. A host may read the slots; it writes to none of the parts. A table of an earlier
- * version of the library is refused 11: a pool is closed by the version that opened it.
+ * elements hold numbers as the machine does. A host may read the slots; it writes to none of the parts. A pool is finished by
+ * the version of the library that opened it. A table of an earlier layout is refused 11; where the layout is the same, round-one
+ * messages of an earlier length are refused 12, and the returns that await round one with them are dropped at every server.
  *
  * THE THREE PARTS ARE STORED TOGETHER, with the message that a call wrote, before the message is sent: so a table survives a
  * restart. A message cannot be written a second time. Parts that were stored at different times are no table: calls cannot
@@ -74,7 +76,7 @@
  * Several returns under way. Each call names its return: a share by the id in its message, the rounds and pool_drop by an
  * id. What becomes of a return that was taken does not depend on the calls on others between its own, and returns may be
  * finished in any order. A keeper takes what comes, in the order in which it comes (T stands for the three parts with their
- * lengths):
+ * lengths; out has POOL_ROUND_ONE_BYTES, which is enough for both rounds):
  *
  *     while (next(&m)) {                        // what is ready: a share with its r and s, all S messages of a round, or a drop
  *         switch (m.what) {
@@ -100,7 +102,8 @@
  *         if (answer != POOL_DONE && m.what == A_SHARE && used(m.id))
  *             continue;                         // another return has or had this id: it goes on, this share is left
  *         if (answer != POOL_DONE)
- *             tell_others(m.id, answer);        // all drop the return where it waits; in round two only as said under Dropping
+ *             tell_others(m.id, answer);        // all drop the return where it waits; in round two only as said under Dropping;
+ *                                               // at a 16 the keepers look for the slip (see A slip in r or s)
  *         else if (store(T, out, out_len) && out_len > 0) // all together; a store that fails: stop, nothing more is sent
  *             send_others(m.id, out, out_len);  // only now
  *     }
@@ -116,6 +119,13 @@
  * neither finished nor dropped keeps its slot, and counts towards N. Once its round-two message has been sent, a server
  * drops a return only when it knows that no other server has decided it by round two, or can: a return that is accepted at
  * one server and dropped at another makes the totals wrong, and joining notices only counts that differ.
+ *
+ * A slip in r or s. Each round-one message says with which r and s its server took the share. Where they differ, each server
+ * refuses round one 16 and nothing has changed: the return goes on awaiting round one, is accepted and rejected nowhere, and only
+ * dropping ends it. The keepers compare the r and s that each server was given for the id: they stand in its slot and in its
+ * message. Where the slots have one pair, a message was altered on its way. They drop the id at every server: none can have decided
+ * it, for round two needs a message of each. The id stays used, and the shares are never judged again: the workshop makes its return
+ * anew, with new random elements and under a new id, and a new pair is given, the same at every server.
  *
  * Small pools. The totals of few returns show much of each. So a table opens with a least count Q, from 1 to N, the same at every
  * server: with fewer than Q returns accepted pool_close is refused 15 and gives no totals. Nothing has changed then: the table
@@ -155,6 +165,7 @@ extern "C" {
 #define POOL_FULL 13    /* N returns are decided or wait */
 #define POOL_ROOM 14    /* an output buffer is too short; in opening also a part of the table, or slots_len is not POOL_SLOTS */
 #define POOL_FEW 15     /* close: fewer than Q returns are accepted; take more, or, where N are decided, open a new pool */
+#define POOL_UNEQUAL 16 /* round one: r or s is not the same in all messages; drop the return everywhere (see A slip in r or s) */
 #define POOL_MANY 17    /* the sheet has more than 4,096 legal lists of values */
 #define POOL_RUN 19     /* shelf: the run is not R messages of W bytes */
 
@@ -211,7 +222,8 @@ typedef struct {
 #define POOL_VALUES_BYTES(columns) (4 * (size_t)(columns))
 #define POOL_RANDOM_BYTES(servers, share_bytes) (((size_t)(servers) - 1) * ((size_t)(share_bytes) - 6) + 16)
 #define POOL_MAKE_BYTES(servers, share_bytes) ((size_t)(servers) * (size_t)(share_bytes))
-#define POOL_ROUND_BYTES 14
+#define POOL_ROUND_ONE_BYTES 22
+#define POOL_ROUND_TWO_BYTES 14
 #define POOL_TOTALS_BYTES(published) (6 + 4 * (size_t)(published))
 #define POOL_JOIN_BYTES(published) (4 * (size_t)(published))
 #define POOL_TABLE_BYTES(sheet_len, published, returns) \
@@ -310,9 +322,9 @@ uint32_t pool_open(uint32_t servers, uint32_t own, const uint8_t *sheet, size_t 
                    uint32_t *elements, size_t elements_len, size_t *written);
 
 /*
- * Takes a share into the first free slot and its place, and writes the server's round-one message, POOL_ROUND_BYTES. The bytes
- * of the table stay as they are.
- *     r         from M + 1 to p - 1; s from 0 to p - 1: the same at every server
+ * Takes a share into the first free slot and its place, and writes the server's round-one message, POOL_ROUND_ONE_BYTES, which
+ * tells r and s. The bytes of the table stay as they are.
+ *     r         from M + 1 to p - 1; s from 0 to p - 1: the same at every server, or each refuses round one 16
  * A ninth share is refused 11 and handed in again, before any later share and with the same r and s, once a return is decided.
  * Refusals: 11 for a table that is unsound (other than eight slots or too few numbers included) or closed, or in which eight
  * returns wait; 13 for N returns that are decided or wait; 7, 8, 10 for an id that was decided or waits, 9, 14.
@@ -323,12 +335,13 @@ uint32_t pool_share(const uint8_t *table, size_t table_len, pool_slot *slots, si
 
 /*
  * Takes the round-one messages of all servers for the return `id` and writes the server's round-two message,
- * POOL_ROUND_BYTES. Only the slot of this return changes: it awaits round two.
- *     joined    S x POOL_ROUND_BYTES: one message of each server, one after another in any order, the own one among them as
+ * POOL_ROUND_TWO_BYTES. Only the slot of this return changes: it awaits round two.
+ *     joined    S x POOL_ROUND_ONE_BYTES: one message of each server, one after another in any order, the own one among them as
  *               pool_share wrote it
+ * Refused 16, the return goes on awaiting round one until it is dropped (see A slip in r or s).
  * Refusals: 11 for a table that is unsound or closed, or where no return of this id awaits round one; 12 for another length, a
- * message of another round or id, a server twice, missing or not below S, an element not below p, or an own message that was
- * altered, wherever it stands; 14.
+ * message of another round or id, a server twice, missing or not below S, an element, r and s too, not below p, or an own
+ * message that was altered, wherever it stands; 16 for r or s not the same in all messages, another's r of 0 to M included; 14.
  */
 uint32_t pool_round_one(const uint8_t *table, size_t table_len, pool_slot *slots, size_t slots_len,
                         const uint32_t *elements, size_t elements_len, uint32_t id,
@@ -337,7 +350,7 @@ uint32_t pool_round_one(const uint8_t *table, size_t table_len, pool_slot *slots
 /*
  * Takes the round-two messages of all servers for the return `id` and decides it: *accepted is 1 or 0. Its slot and its place
  * in the elements are erased; the slot is free again.
- *     joined    as in pool_round_one, the own message as pool_round_one wrote it
+ *     joined    S x POOL_ROUND_TWO_BYTES, as in pool_round_one, the own message as pool_round_one wrote it
  * Refusals: 11 for a table that is unsound or closed, or where no return of this id awaits round two; 12 as in pool_round_one.
  */
 uint32_t pool_round_two(uint8_t *table, size_t table_len, pool_slot *slots, size_t slots_len,

@@ -1,17 +1,18 @@
 /*
  * A whole pool on one machine: eleven watchmakers' workshops, three servers, one sheet. Up to eight returns wait at a server
  * at a time, and they are finished in another order than they came. The messages of a round are handed in as they arrive, in
- * another order at each server. With fewer returns accepted than the least count no server closes; one more workshop files, and
- * they do. Prints what happens to each return and the totals, and checks them against the plain sums, which no real pool has.
+ * another order at each server. One keeper types r wrongly for a return: no server judges it, and it is dropped and filed anew.
+ * With fewer returns accepted than the least count no server closes; one more workshop files, and they do. Prints what happens to
+ * each return and the totals, and checks them against the plain sums, which no real pool has.
  *
- * Exit status: 0, or 1 where a call is refused that must be done or the totals are not the plain sums.
+ * Exit status: 0, or 1 where a call has another answer than it must have or the totals are not the plain sums.
  */
 #define _DEFAULT_SOURCE /* getrandom */
 #include <string.h>
 
 #include "host.h"
 
-enum { SERVERS = 3, RETURNS = 16, LEAST = 8, COLUMNS = 3, PUBLISHED = 6, JOINED = SERVERS * POOL_ROUND_BYTES };
+enum { SERVERS = 3, RETURNS = 16, LEAST = 8, COLUMNS = 3, PUBLISHED = 6 };
 
 /* Hours stop at 200: a top in 4 bytes, lowest byte first. */
 static const uint8_t sheet[] = {POOL_YES_NO, POOL_CHOICE, 4, POOL_TOP, 200, 0, 0, 0};
@@ -40,41 +41,30 @@ static const struct workshop {
 };
 
 /* What comes after the shares, in the order in which it comes. A message of Fuchs's return is lost. */
-enum what { SHARE_AGAIN, ROUND_ONE, ROUND_TWO, DROP };
+enum what { SHARE_AGAIN, ROUND_ONE, SLIPPED_ONE, ROUND_TWO, DROP, FILE_ANEW };
 static const struct {
     int who;
     enum what what;
 } timetable[] = {
-    {CLASEN, ROUND_ONE}, {ALBERS, ROUND_ONE}, {GROSS, ROUND_ONE}, {CLASEN, ROUND_TWO}, {JANSEN, SHARE_AGAIN},
-    {DORN, ROUND_ONE},   {GROSS, ROUND_TWO},  {EBERT, ROUND_ONE}, {FUCHS, DROP},       {JANSEN, ROUND_ONE},
-    {DORN, ROUND_TWO},   {JANSEN, ROUND_TWO}, {IHDE, ROUND_ONE},  {BRANDT, ROUND_ONE}, {IHDE, ROUND_TWO},
-    {ALBERS, ROUND_TWO}, {EBERT, ROUND_TWO},  {BRANDT, ROUND_TWO},
+    {CLASEN, ROUND_ONE}, {ALBERS, ROUND_ONE}, {GROSS, ROUND_ONE},   {CLASEN, ROUND_TWO}, {JANSEN, SHARE_AGAIN},
+    {DORN, ROUND_ONE},   {GROSS, ROUND_TWO},  {EBERT, ROUND_ONE},   {FUCHS, DROP},       {JANSEN, ROUND_ONE},
+    {DORN, ROUND_TWO},   {JANSEN, ROUND_TWO}, {IHDE, SLIPPED_ONE},  {BRANDT, ROUND_ONE}, {IHDE, DROP},
+    {ALBERS, ROUND_TWO}, {IHDE, FILE_ANEW},   {EBERT, ROUND_TWO},   {IHDE, ROUND_ONE},   {BRANDT, ROUND_TWO},
+    {IHDE, ROUND_TWO},
 };
 
 /* Orders in which the messages of a round arrive: another at each server. */
 static const uint8_t arrivals[][SERVERS] = {{2, 0, 1}, {1, 0, 2}, {0, 1, 2}, {2, 1, 0}, {1, 2, 0}};
 
-/* What the sheet comes to: every party asks once. */
-static struct {
-    uint32_t columns, entries, published, wires, multiplications, tests, circuit_bytes, share_bytes, greatest_returns;
-} sizes;
+static struct host_sizes sizes;           /* what the sheet comes to */
+static struct host_table tables[SERVERS]; /* each server has its own */
 
-/* A server has its table: three parts in one place, so that they are stored together. */
-static struct server {
-    uint8_t bytes[POOL_MAX_TABLE_BYTES];
-    size_t bytes_len;
-    pool_slot slots[POOL_SLOTS];
-    uint32_t elements[POOL_MAX_ELEMENTS];
-} servers[SERVERS];
-
-/* The table of server v, as every call takes it. */
-#define TABLE(v) (v)->bytes, (v)->bytes_len, (v)->slots, POOL_SLOTS, (v)->elements, POOL_MAX_ELEMENTS
-
-/* What is on the way for each return: its shares, its challenges, and the messages that the servers wrote last for it. */
+/* What is on the way for each return: its id, its shares, its challenges, and the messages that the servers wrote for it. */
 static struct under_way {
+    uint32_t id;
     uint8_t shares[SERVERS * POOL_MAX_SHARE_BYTES];
     uint64_t r, s;
-    uint8_t messages[JOINED];
+    uint8_t ones[SERVERS * POOL_ROUND_ONE_BYTES], twos[SERVERS * POOL_ROUND_TWO_BYTES];
 } under_way[WORKSHOPS];
 
 /* The plain sums of the accepted returns. */
@@ -87,9 +77,7 @@ static void read_sheet(void)
     static uint8_t every[POOL_MAX_EVERY_RETURN_BYTES];
     uint32_t lists;
     size_t written;
-    host_must("pool_sizes", pool_sizes(sheet, sizeof sheet, &sizes.columns, &sizes.entries, &sizes.published,
-                                       &sizes.wires, &sizes.multiplications, &sizes.tests, &sizes.circuit_bytes,
-                                       &sizes.share_bytes, &sizes.greatest_returns));
+    host_must("pool_sizes", host_sizes_of(sheet, sizeof sheet, &sizes));
     host_must("pool_every_return", pool_every_return(sheet, sizeof sheet, every, sizeof every, &lists, &written));
     printf("The sheet: %u questions, %u entries, %u totals; a circuit of %u wires, %u multiplications and %u tests.\n",
            (unsigned)sizes.columns, (unsigned)sizes.entries, (unsigned)sizes.published, (unsigned)sizes.wires,
@@ -101,9 +89,9 @@ static void read_sheet(void)
 static void open_servers(void)
 {
     for (uint32_t i = 0; i < SERVERS; i++) {
-        struct server *v = &servers[i];
-        host_must("pool_open", pool_open(SERVERS, i, sheet, sizeof sheet, RETURNS, LEAST, v->bytes, sizeof v->bytes,
-                                         v->slots, POOL_SLOTS, v->elements, POOL_MAX_ELEMENTS, &v->bytes_len));
+        struct host_table *t = &tables[i];
+        host_must("pool_open", pool_open(SERVERS, i, sheet, sizeof sheet, RETURNS, LEAST, t->bytes, sizeof t->bytes,
+                                         t->slots, POOL_SLOTS, t->elements, POOL_MAX_ELEMENTS, &t->bytes_len));
     }
 }
 
@@ -135,45 +123,53 @@ static int take_shares(int k)
     struct under_way *u = &under_way[k];
     size_t written;
     for (size_t i = 0; i < SERVERS; i++) {
-        struct server *v = &servers[i];
-        uint32_t answer = pool_share(TABLE(v), u->shares + i * sizes.share_bytes, sizes.share_bytes, u->r, u->s,
-                                     u->messages + i * POOL_ROUND_BYTES, POOL_ROUND_BYTES, &written);
-        if (answer == POOL_STAGE && host_waiting(v->slots) == POOL_SLOTS)
+        struct host_table *t = &tables[i];
+        /* The last keeper slips for Ihde's first return: he types the r of another one. */
+        int slips = i == SERVERS - 1 && u->id == id_of(IHDE);
+        uint32_t answer = pool_share(HOST_TABLE(t), u->shares + i * sizes.share_bytes, sizes.share_bytes,
+                                     slips ? under_way[ALBERS].r : u->r, u->s, u->ones + i * POOL_ROUND_ONE_BYTES,
+                                     POOL_ROUND_ONE_BYTES, &written);
+        if (answer == POOL_STAGE && host_waiting(t->slots) == POOL_SLOTS)
             return 0; /* the servers took the same shares before: the others refuse it too */
         host_must("pool_share", answer);
     }
     return 1;
 }
 
-/* The messages of a round of return k, as they arrived at server i. */
-static void arrived(int k, size_t i, const uint8_t *messages, uint8_t joined[JOINED])
+/* The messages of a round of return k, each of this length, as they arrived at server i. */
+static void arrived(int k, size_t i, const uint8_t *messages, size_t length, uint8_t *joined)
 {
     const uint8_t *from = arrivals[((size_t)k + i) % (sizeof arrivals / sizeof arrivals[0])];
     for (size_t n = 0; n < SERVERS; n++)
-        memcpy(joined + n * POOL_ROUND_BYTES, messages + from[n] * POOL_ROUND_BYTES, POOL_ROUND_BYTES);
+        memcpy(joined + n * length, messages + from[n] * length, length);
 }
 
-static void round_one(int k)
+/* Every server answers round one so: done, or refused 16 where r or s differs in the messages. */
+static void round_one(int k, uint32_t want)
 {
     struct under_way *u = &under_way[k];
-    uint8_t ones[JOINED], joined[JOINED];
+    uint8_t joined[sizeof u->ones];
     size_t written;
-    memcpy(ones, u->messages, sizeof ones);
     for (size_t i = 0; i < SERVERS; i++) {
-        arrived(k, i, ones, joined);
-        host_must("pool_round_one", pool_round_one(TABLE(&servers[i]), id_of(k), joined, sizeof joined,
-                                                   u->messages + i * POOL_ROUND_BYTES, POOL_ROUND_BYTES, &written));
+        arrived(k, i, u->ones, POOL_ROUND_ONE_BYTES, joined);
+        uint32_t answer = pool_round_one(HOST_TABLE(&tables[i]), u->id, joined, sizeof joined,
+                                         u->twos + i * POOL_ROUND_TWO_BYTES, POOL_ROUND_TWO_BYTES, &written);
+        if (answer != want) {
+            fprintf(stderr, "pool_round_one: %u, not %u\n", (unsigned)answer, (unsigned)want);
+            exit(1);
+        }
     }
 }
 
 /* Says whether the return was accepted. Every server decides by itself, and all decide alike. */
 static int round_two(int k)
 {
+    struct under_way *u = &under_way[k];
+    uint8_t joined[sizeof u->twos];
     uint32_t verdicts = 0, accepted;
-    uint8_t joined[JOINED];
     for (size_t i = 0; i < SERVERS; i++) {
-        arrived(k, i, under_way[k].messages, joined);
-        host_must("pool_round_two", pool_round_two(TABLE(&servers[i]), id_of(k), joined, sizeof joined, &accepted));
+        arrived(k, i, u->twos, POOL_ROUND_TWO_BYTES, joined);
+        host_must("pool_round_two", pool_round_two(HOST_TABLE(&tables[i]), u->id, joined, sizeof joined, &accepted));
         verdicts += accepted;
     }
     if (verdicts != 0 && verdicts != SERVERS) {
@@ -186,16 +182,27 @@ static int round_two(int k)
 /* What a call came to, and how many returns wait now. */
 static void say(const char *became)
 {
-    int waiting = host_waiting(servers[0].slots);
+    int waiting = host_waiting(tables[0].slots);
     printf("   %-30s %d %s\n", became, waiting, waiting == 1 ? "waits" : "wait");
 }
 
-/* A workshop makes its return, and the servers take its shares if they can. */
+/* A workshop makes its return under this id, or is refused. The challenges are drawn after it: the workshop could not know them. */
+static uint32_t file(int k, uint32_t id)
+{
+    struct under_way *u = &under_way[k];
+    uint32_t answer = make(id, workshops[k].values, u->shares, sizeof u->shares);
+    u->id = id;
+    u->r = host_challenge(sizes.multiplications);
+    u->s = host_element();
+    return answer;
+}
+
+/* A workshop files, and the servers take its shares if they can. */
 static void arrive(int k)
 {
     const struct workshop *w = &workshops[k];
     struct under_way *u = &under_way[k];
-    uint32_t answer = make(id_of(k), w->values, u->shares, sizeof u->shares);
+    uint32_t answer = file(k, id_of(k));
     printf("  %-7s", w->name);
     if (w->conduct == SLIPS && answer == POOL_VALUE) {
         printf(" %11s %11s %11s   not made: %u hours, refused 5\n", "-", "-", "-", (unsigned)w->values[2]);
@@ -206,9 +213,6 @@ static void arrive(int k)
         alter(u->shares);
     for (size_t i = 0; i < SERVERS; i++)
         printf(" %11u", (unsigned)host_u32(u->shares + i * sizes.share_bytes + 6));
-    /* The challenges are drawn now: the workshop could not know them. */
-    u->r = host_challenge(sizes.multiplications);
-    u->s = host_element();
     say(take_shares(k) ? "taken" : "refused 11, to come again");
 }
 
@@ -221,25 +225,39 @@ static void add_plain(const struct workshop *w)
     plain[5] += w->values[2];
 }
 
+/* What the keepers look at where round one is refused 16: each message says with which pair its server took the share. */
+static void show_pairs(const uint8_t *ones)
+{
+    for (size_t i = 0; i < SERVERS; i++, ones += POOL_ROUND_ONE_BYTES)
+        printf("%23s server %zu has r %10u, s %10u\n", "", i, (unsigned)host_message_r(ones), (unsigned)host_message_s(ones));
+}
+
 /* One line of the timetable. */
 static void handle(int k, enum what what)
 {
-    static const char *const names[] = {"share again", "round one", "round two", "drop"};
+    static const char *const names[] = {"share again", "round one", "round one", "round two", "drop", "filed anew"};
     printf("  %-7s %-11s", workshops[k].name, names[what]);
     if (what == SHARE_AGAIN) {
         say(take_shares(k) ? "taken" : "refused 11");
+    } else if (what == FILE_ANEW) {
+        host_must("pool_make", file(k, id_of(k) + WORKSHOPS));
+        say(take_shares(k) ? "taken, under a new id" : "refused 11");
     } else if (what == ROUND_ONE) {
-        round_one(k);
+        round_one(k, POOL_DONE);
         say("goes on to round two");
+    } else if (what == SLIPPED_ONE) {
+        round_one(k, POOL_UNEQUAL);
+        say("refused 16, must be dropped");
+        show_pairs(under_way[k].ones);
     } else if (what == ROUND_TWO) {
         int accepted = round_two(k);
         say(accepted ? "accepted" : "rejected: not a legal return");
         if (accepted)
             add_plain(&workshops[k]);
     } else {
-        for (struct server *v = servers; v < servers + SERVERS; v++)
-            host_must("pool_drop", pool_drop(TABLE(v), id_of(k)));
-        say("dropped, a message was lost");
+        for (struct host_table *t = tables; t < tables + SERVERS; t++)
+            host_must("pool_drop", pool_drop(HOST_TABLE(t), under_way[k].id));
+        say(k == FUCHS ? "dropped, a message was lost" : "dropped, to be filed anew");
     }
 }
 
@@ -251,8 +269,8 @@ static int close_and_join(uint32_t totals[PUBLISHED], uint32_t *accepted)
 {
     uint8_t joined[SERVERS * POOL_MAX_TOTALS_BYTES], out[POOL_JOIN_BYTES(PUBLISHED)];
     size_t written, len = 0;
-    for (struct server *v = servers; v < servers + SERVERS; v++, len += written) {
-        uint32_t answer = pool_close(TABLE(v), joined + len, sizeof joined - len, &written);
+    for (struct host_table *t = tables; t < tables + SERVERS; t++, len += written) {
+        uint32_t answer = pool_close(HOST_TABLE(t), joined + len, sizeof joined - len, &written);
         if (answer == POOL_FEW)
             return 0; /* the servers accepted the same returns: the others refuse it too */
         host_must("pool_close", answer);

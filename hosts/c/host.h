@@ -1,6 +1,7 @@
 /*
- * host.h: what a C host of the pool brings along: random numbers from the system, numbers in buffers, refusals in
- * words, how many returns wait. Functions are static, so that a program has only to include it.
+ * host.h: what a C host of the pool brings along: refusals in words, what a sheet comes to, a table with how many returns wait in
+ * it, numbers in buffers, the r and s of a message, random numbers from the system. Functions are static, so that a program has
+ * only to include it.
  */
 #ifndef POOL_HOST_H
 #define POOL_HOST_H
@@ -32,7 +33,8 @@ static inline const char *host_words(uint32_t refusal)
         "N returns are decided or wait",
         "an output buffer is too short; in opening also a part of the table, or slots_len is not POOL_SLOTS",
         "fewer returns are accepted than the least count: take more and close again; where N are decided, open a new pool",
-        [POOL_MANY] = "the sheet has more than 4,096 legal lists of values",
+        "r or s differs among the servers: see whose is wrong, drop the return at each, have it made anew under a new id, with one pair",
+        "the sheet has more than 4,096 legal lists of values",
         [POOL_RUN] = "the run is not so many messages of this length",
     };
     return refusal < sizeof words / sizeof words[0] && words[refusal] ? words[refusal] : "unknown refusal";
@@ -46,6 +48,28 @@ static inline void host_must(const char *call, uint32_t answer)
     fprintf(stderr, "%s: refused %u: %s\n", call, (unsigned)answer, host_words(answer));
     exit(1);
 }
+
+/* What a sheet comes to: every party asks once. */
+struct host_sizes {
+    uint32_t columns, entries, published, wires, multiplications, tests, circuit_bytes, share_bytes, greatest_returns;
+};
+
+static inline uint32_t host_sizes_of(const uint8_t *sheet, size_t len, struct host_sizes *s)
+{
+    return pool_sizes(sheet, len, &s->columns, &s->entries, &s->published, &s->wires, &s->multiplications, &s->tests,
+                      &s->circuit_bytes, &s->share_bytes, &s->greatest_returns);
+}
+
+/* A table: its three parts in one place, so that they are stored together. The sizes are enough for every sheet. */
+struct host_table {
+    uint8_t bytes[POOL_MAX_TABLE_BYTES];
+    size_t bytes_len;
+    pool_slot slots[POOL_SLOTS];
+    uint32_t elements[POOL_MAX_ELEMENTS];
+};
+
+/* The table t, as every call takes it. */
+#define HOST_TABLE(t) (t)->bytes, (t)->bytes_len, (t)->slots, POOL_SLOTS, (t)->elements, POOL_MAX_ELEMENTS
 
 /* How many returns wait in a table. With eight of them a share is refused 11, and handed in again later. */
 static inline int host_waiting(const pool_slot slots[POOL_SLOTS])
@@ -66,6 +90,11 @@ static inline uint32_t host_u32(const uint8_t *at)
 {
     return at[0] | (uint32_t)at[1] << 8 | (uint32_t)at[2] << 16 | (uint32_t)at[3] << 24;
 }
+
+/* The r and the s of a round-one message: where messages differ in them, they show which server slipped. */
+static inline uint32_t host_message_r(const uint8_t *message) { return host_u32(message + POOL_ROUND_ONE_BYTES - 8); }
+
+static inline uint32_t host_message_s(const uint8_t *message) { return host_u32(message + POOL_ROUND_ONE_BYTES - 4); }
 
 /* Fills a buffer with random bytes of the system. */
 static inline void host_random(uint8_t *out, size_t len)

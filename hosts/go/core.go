@@ -18,7 +18,8 @@ const (
 	minServers   = C.POOL_MIN_SERVERS
 	maxServers   = C.POOL_MAX_SERVERS
 	maxReturns   = C.POOL_MAX_RETURNS
-	roundBytes   = C.POOL_ROUND_BYTES
+	oneBytes     = C.POOL_ROUND_ONE_BYTES // of a round-one message
+	twoBytes     = C.POOL_ROUND_TWO_BYTES // of a round-two message
 	maxTotals    = C.POOL_MAX_TOTALS_BYTES
 	kindYesNo    = C.POOL_YES_NO
 	kindChoice   = C.POOL_CHOICE

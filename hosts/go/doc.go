@@ -7,6 +7,7 @@
 // Up to eight returns are under way in a table at a time, so that servers far apart need not wait for one another's messages.
 //
 // The program that uses the package carries the messages. It hands those of a round in as they arrive, in any order, one of
-// each server. It encrypts what it sends, knows who is at the other end, and gives each return an id of its own. It keeps a
-// table as it keeps a share while a return waits, copies of it included.
+// each server. It encrypts what it sends, knows who is at the other end, and gives each return an id of its own. It has every
+// server take a return with the same pair (Pair); where one slips, none judges the return, and it is dropped and made anew
+// (Unequal). It keeps a table as it keeps a share while a return waits, copies of it included.
 package pool

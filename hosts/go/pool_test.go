@@ -184,12 +184,12 @@ func TestRefusalInWords(t *testing.T) {
 	if got := Refusal(99).Error(); got != "refused 99: unknown refusal" {
 		t.Errorf("got %s", got)
 	}
-	for k := Kind; k <= Few; k++ {
+	for k := Kind; k <= Many; k++ {
 		if words[k] == "" {
 			t.Errorf("no words for %d", uint32(k))
 		}
 	}
-	for _, k := range []Refusal{0, Few + 1, Many + 1} {
+	for _, k := range []Refusal{0, Many + 1} {
 		if got, want := k.Error(), fmt.Sprintf("refused %d: unknown refusal", uint32(k)); got != want {
 			t.Errorf("got %s, want %s", got, want)
 		}
@@ -199,6 +199,11 @@ func TestRefusalInWords(t *testing.T) {
 	}
 	if got := Few.Error(); !strings.HasPrefix(got, "refused 15: fewer returns are accepted") || !strings.HasSuffix(got, "open a new pool") {
 		t.Errorf("got %s", got)
+	}
+	for _, says := range []string{"refused 16: the pairs r, s differ", "drop the return at every server", "made anew under a new id"} {
+		if got := Unequal.Error(); !strings.Contains(got, says) {
+			t.Errorf("got %s, which does not say %q", got, says)
+		}
 	}
 	if got := Run.Error(); !strings.HasPrefix(got, "refused 19: not so many messages") {
 		t.Errorf("got %s", got)

@@ -29,6 +29,7 @@ const (
 	Full    Refusal = 13 // N returns are decided or wait
 	Room    Refusal = 14 // an output buffer is too short; in opening also a part of the table, or slots_len is not POOL_SLOTS
 	Few     Refusal = 15 // close: fewer returns are accepted than the least count Q
+	Unequal Refusal = 16 // round one: the servers took their shares of the return with different pairs r, s
 	Many    Refusal = 17 // the sheet has more than 4,096 legal returns
 	Run     Refusal = 19 // messages that are not of one length, or a stored run of another length
 )
@@ -49,6 +50,7 @@ var words = [...]string{
 	Full:    "N returns are decided or wait: this table takes no more",
 	Room:    "an output buffer is too short; in opening also a part of the table, or slots_len is not POOL_SLOTS",
 	Few:     "fewer returns are accepted than the least count: take more and close again; where N are decided, open a new pool",
+	Unequal: "the pairs r, s differ: see whose is wrong, drop the return at every server, have it made anew under a new id, with one pair",
 	Many:    "more than 4,096 legal returns: take fewer columns, options or bits, or lower tops",
 	Run:     "not so many messages of one length: give whole messages, and the number and length that were stored",
 }

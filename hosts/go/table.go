@@ -48,11 +48,11 @@ func Open(servers, own uint32, sheet *Sheet, returns, least uint32) (*Table, err
 	return t, nil
 }
 
-// Share takes the server's share of a return and gives its round-one message. A ninth return is refused (Stage): hand it in
-// again, before any later share and with the same pair, once one of the eight is decided. The servers take the shares of
-// returns in the same order.
+// Share takes the server's share of a return and gives its round-one message, which tells the pair: the same one at every server.
+// A ninth return is refused (Stage): hand it in again, before any later share and with the same pair, once one of the eight is
+// decided. The servers take the shares of returns in the same order.
 func (t *Table) Share(message []byte, pair Pair) ([]byte, error) {
-	out := make([]byte, roundBytes)
+	out := make([]byte, oneBytes)
 	n, number := coreShare(t, message, pair.R, pair.S, out)
 	if number != 0 {
 		return nil, answer("share", number)
@@ -61,8 +61,12 @@ func (t *Table) Share(message []byte, pair Pair) ([]byte, error) {
 }
 
 // RoundOne takes the round-one messages of all servers for a return, in any order, and gives the own round-two message.
+//
+// Where the servers took their shares with different pairs, each of them refuses (Unequal) and is as it was: the return is
+// accepted and rejected nowhere, and waits until it is dropped. RoundOnePair says which server had which pair. Drop the return at
+// every server; its id stays used. The workshop makes it anew (Client.Make) under a new id.
 func (t *Table) RoundOne(id uint32, messages [][]byte) ([]byte, error) {
-	out := make([]byte, roundBytes)
+	out := make([]byte, twoBytes)
 	n, number := coreRoundOne(t, id, bytes.Join(messages, nil), out)
 	if number != 0 {
 		return nil, answer("round one", number)

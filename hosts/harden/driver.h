@@ -90,10 +90,10 @@ void open_tables(void);
 /* orders.c */
 
 /*
- * A round of a return at server i, whose messages are all there, in server order in `messages`. In every order it has the same
- * outcome; with a fault it is refused 12.
+ * A round of a return at server i, whose messages are all there, in server order in `messages`. In every order it has this answer
+ * and the same outcome; with a fault it is refused 12, and without, but with another's r or s in round one, 16.
  */
-void check_orders(uint32_t i, uint32_t id, int round, const uint8_t *messages);
+void check_orders(uint32_t i, uint32_t id, uint8_t kind, const uint8_t *messages, uint32_t answer);
 
 /* The joined totals messages, given in server order, are refused 12 where one stands in another's place. */
 void check_totals(const struct run *totals);

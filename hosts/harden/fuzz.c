@@ -16,7 +16,8 @@ __attribute__((section("__libfuzzer_extra_counters"))) static uint8_t seen[OPERA
 
 static struct table tables[SERVERS];
 static struct run sheet, values, random_elements, shares[IDS], totals, message, out;
-static uint8_t rounds[2][IDS][SERVERS * POOL_ROUND_BYTES]; /* what the servers wrote for each return */
+/* What the servers wrote for each return. */
+static uint8_t ones[IDS][SERVERS * POOL_ROUND_ONE_BYTES], twos[IDS][SERVERS * POOL_ROUND_TWO_BYTES];
 static struct sheet_sizes sizes;
 static uint32_t before; /* the operation before */
 
@@ -62,37 +63,38 @@ static void take_share(uint32_t own)
     message.len = shares[id].len < SERVERS * each ? 0 : each;
     memcpy(message.at, shares[id].at + own * each, message.len);
     alter(&message);
-    uint32_t answer = call_share(&tables[own], 0, &message, r, s, POOL_ROUND_BYTES, &out);
+    uint32_t answer = call_share(&tables[own], 0, &message, r, s, POOL_ROUND_ONE_BYTES, &out);
     if (answer == 0)
-        memcpy(rounds[0][id] + own * POOL_ROUND_BYTES, out.at, out.len);
+        memcpy(ones[id] + own * POOL_ROUND_ONE_BYTES, out.at, out.len);
     note(1, kind, answer);
 }
 
-/* Both messages of a round as the input has them arrive: in either order, one twice, with a server byte past S, or one missing. */
-static void arrive(const uint8_t *messages)
+/* Both messages of a round as the input has them arrive: in either order, one twice, with a server byte past S, one missing, altered. */
+static void arrive(const uint8_t *messages, size_t each)
 {
     const uint8_t past[] = {SERVERS, POOL_MAX_SERVERS, 255};
     uint8_t how = byte();
     message.len = 0;
     for (uint32_t k = 0; k < SERVERS; k++)
-        append(&message, messages + ((k ^ how >> k) & 1) * POOL_ROUND_BYTES, POOL_ROUND_BYTES);
+        append(&message, messages + ((k ^ how >> k) & 1) * each, each);
     if (how & 0x0c)
-        message.at[(how >> 4 & 1) * POOL_ROUND_BYTES + SERVER_AT] = past[(how >> 2 & 3) - 1];
+        message.at[(how >> 4 & 1) * each + SERVER_AT] = past[(how >> 2 & 3) - 1];
     if (how >> 5 == 7)
-        message.len -= POOL_ROUND_BYTES;
+        message.len -= each;
+    alter(&message);
 }
 
 static void take_round(uint32_t own, uint32_t round)
 {
     uint32_t id = byte() % IDS, accepted, kind = kind_of(&tables[own]), answer;
-    arrive(rounds[round - 1][id]);
-    alter(&message);
     if (round == 2) {
+        arrive(twos[id], POOL_ROUND_TWO_BYTES);
         answer = call_round_two(&tables[own], 0, id, &message, &accepted);
     } else {
-        answer = call_round_one(&tables[own], 0, id, &message, POOL_ROUND_BYTES, &out);
+        arrive(ones[id], POOL_ROUND_ONE_BYTES);
+        answer = call_round_one(&tables[own], 0, id, &message, POOL_ROUND_TWO_BYTES, &out);
         if (answer == 0)
-            memcpy(rounds[1][id] + own * POOL_ROUND_BYTES, out.at, out.len);
+            memcpy(twos[id] + own * POOL_ROUND_TWO_BYTES, out.at, out.len);
     }
     note(1 + round, kind, answer);
 }
@@ -167,7 +169,8 @@ static void play(void)
         return;
     for (int k = 0; k < IDS; k++)
         shares[k].len = 0;
-    memset(rounds, 0, sizeof rounds);
+    memset(ones, 0, sizeof ones);
+    memset(twos, 0, sizeof twos);
     memset(totals.at, 0, SERVERS * POOL_MAX_TOTALS_BYTES);
     while (input_left() > 0)
         operate();
@@ -188,8 +191,8 @@ static void arbitrary_table(void)
     t->elements.len -= t->elements.len % 4;
     id = t->slots.len >= SLOT_BYTES ? slot_of(t, 0).id : 0;
     copy_table(u, t);
-    note(1, 11, call_share(t, 0, &message, 1000, 5, POOL_ROUND_BYTES, &out));
-    note(2, 11, call_round_one(u, 0, id, &message, POOL_ROUND_BYTES, &out));
+    note(1, 11, call_share(t, 0, &message, 1000, 5, POOL_ROUND_ONE_BYTES, &out));
+    note(2, 11, call_round_one(u, 0, id, &message, POOL_ROUND_TWO_BYTES, &out));
     note(3, 11, call_round_two(u, 0, id, &message, &accepted));
     note(4, 11, call_drop(u, 0, id));
     note(5, 11, call_close(u, 0, POOL_MAX_TOTALS_BYTES, &out));

@@ -13,30 +13,41 @@ static bool same(const struct run *a, const struct run *b)
 }
 
 /* A round of a return with what is joined, on a copy of the table of server i. In round one there is no verdict: 2. */
-static uint32_t take_round(struct table *on, uint32_t i, uint32_t id, int round, struct run *wrote, uint32_t *verdict)
+static uint32_t take_round(struct table *on, uint32_t i, uint32_t id, uint8_t kind, struct run *wrote, uint32_t *verdict)
 {
     copy_table(on, &pool.tables[i]);
     *verdict = 2;
-    if (round == 1)
-        return call_round_one(on, some_extra(), id, &joined, POOL_ROUND_BYTES, wrote);
     wrote->len = 0;
+    if (kind == KIND_ONE)
+        return call_round_one(on, some_extra(), id, &joined, POOL_ROUND_TWO_BYTES, wrote);
     return call_round_two(on, some_extra(), id, &joined, verdict);
 }
 
-void check_orders(uint32_t i, uint32_t id, int round, const uint8_t *messages)
+/* The joined messages of round one with another's r or s, in any room. */
+static void check_apart(uint32_t i, uint32_t id)
+{
+    set_apart(&joined, pool.servers, i);
+    copy_table(&u, &pool.tables[i]);
+    if (call_round_one(&u, some_extra(), id, &joined, wild_room(POOL_ROUND_TWO_BYTES), &other) != POOL_UNEQUAL)
+        fail("messages with different pairs are not refused 16");
+}
+
+void check_orders(uint32_t i, uint32_t id, uint8_t kind, const uint8_t *messages, uint32_t answer)
 {
     uint32_t verdict, another;
     joined.len = 0;
-    append(&joined, messages, pool.servers * POOL_ROUND_BYTES);
-    must(take_round(&t, i, id, round, &out, &verdict), "a round in server order");
+    append(&joined, messages, pool.servers * round_bytes(kind));
+    if (take_round(&t, i, id, kind, &out, &verdict) != answer)
+        fail("the answer of a round in server order");
     for (int k = 0; k < 4; k++) {
-        join_shuffled(&joined, messages, pool.servers);
-        must(take_round(&u, i, id, round, &other, &another), "a round in another order");
-        if (verdict != another || !same(&out, &other) || !same(&t.bytes, &u.bytes) || !same(&t.slots, &u.slots) ||
-            !same(&t.elements, &u.elements))
+        join_shuffled(&joined, kind, messages, pool.servers);
+        if (take_round(&u, i, id, kind, &other, &another) != answer || verdict != another || !same(&out, &other) ||
+            !same(&t.bytes, &u.bytes) || !same(&t.slots, &u.slots) || !same(&t.elements, &u.elements))
             fail("another order has another outcome");
-        spoil(&joined, pool.servers, i);
-        if (take_round(&u, i, id, round, &other, &another) != POOL_JOINED)
+        if (kind == KIND_ONE && answer == POOL_DONE && k % 2 == 0)
+            check_apart(i, id);
+        spoil(&joined, kind, pool.servers, i);
+        if (take_round(&u, i, id, kind, &other, &another) != POOL_JOINED)
             fail("joined messages with a fault are not refused 12");
     }
 }

@@ -32,7 +32,7 @@ static struct table {
 #define TABLE(t) (t)->bytes, (t)->len, (t)->slots, POOL_SLOTS, (t)->elements, POOL_MAX_ELEMENTS
 
 static uint8_t shares[IDS][SERVERS * POOL_MAX_SHARE_BYTES], random_bytes[POOL_MAX_RANDOM_BYTES];
-static uint8_t ones[IDS][SERVERS * POOL_ROUND_BYTES], twos[IDS][SERVERS * POOL_ROUND_BYTES];
+static uint8_t ones[IDS][SERVERS * POOL_ROUND_ONE_BYTES], twos[IDS][SERVERS * POOL_ROUND_TWO_BYTES];
 static uint8_t stored[sizeof shares[0]], back[sizeof shares[0]];
 static size_t share_len, random_len, written;
 
@@ -73,17 +73,17 @@ static uint32_t shelve(void)
 static void say(const char *call) { VALGRIND_PRINTF("secret: %s\n", call); }
 
 /* Where the message of server i goes: round messages may stand in any order, and here it is the reverse one. */
-static size_t place_of(size_t i) { return (SERVERS - 1 - i) * POOL_ROUND_BYTES; }
+static size_t place_of(size_t i, size_t bytes) { return (SERVERS - 1 - i) * bytes; }
 
 /* Every server takes its share of a return, whose elements are secret. */
 static uint32_t take_shares(uint32_t id)
 {
     uint32_t refused = 0;
     for (size_t i = 0; i < SERVERS; i++) {
-        uint8_t *message = shares[id] + i * share_len, *out = ones[id] + place_of(i);
+        uint8_t *message = shares[id] + i * share_len, *out = ones[id] + place_of(i, POOL_ROUND_ONE_BYTES);
         (void)VALGRIND_MAKE_MEM_UNDEFINED(message + 6, share_len - 6);
-        refused |= pool_share(TABLE(&tables[i]), message, share_len, 123456789, 987654321, out, POOL_ROUND_BYTES, &written);
-        (void)VALGRIND_MAKE_MEM_DEFINED(out, POOL_ROUND_BYTES);
+        refused |= pool_share(TABLE(&tables[i]), message, share_len, 123456789, 987654321, out, POOL_ROUND_ONE_BYTES, &written);
+        (void)VALGRIND_MAKE_MEM_DEFINED(out, POOL_ROUND_ONE_BYTES);
         (void)VALGRIND_MAKE_MEM_DEFINED(tables[i].slots, sizeof tables[i].slots);
     }
     return refused;
@@ -93,9 +93,9 @@ static uint32_t round_one(uint32_t id)
 {
     uint32_t refused = 0;
     for (size_t i = 0; i < SERVERS; i++) {
-        uint8_t *out = twos[id] + place_of(i);
-        refused |= pool_round_one(TABLE(&tables[i]), id, ones[id], sizeof ones[id], out, POOL_ROUND_BYTES, &written);
-        (void)VALGRIND_MAKE_MEM_DEFINED(out, POOL_ROUND_BYTES);
+        uint8_t *out = twos[id] + place_of(i, POOL_ROUND_TWO_BYTES);
+        refused |= pool_round_one(TABLE(&tables[i]), id, ones[id], sizeof ones[id], out, POOL_ROUND_TWO_BYTES, &written);
+        (void)VALGRIND_MAKE_MEM_DEFINED(out, POOL_ROUND_TWO_BYTES);
         (void)VALGRIND_MAKE_MEM_DEFINED(tables[i].slots, sizeof tables[i].slots);
     }
     return refused;

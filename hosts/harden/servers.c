@@ -4,7 +4,8 @@
 #include "driver.h"
 
 enum { NOT_YET, AWAITS_ONE, AWAITS_TWO, ENDED }; /* where a return is at a server */
-enum conduct { HONEST, ALTERED, PAST_TOP, DROP_ONE, DROP_TWO };
+#define KIND_OF(round) ((round) == AWAITS_ONE ? KIND_ONE : KIND_TWO) /* of the messages that it awaits */
+enum conduct { HONEST, ALTERED, PAST_TOP, DROP_ONE, DROP_TWO, SLIPPED }; /* SLIPPED: the servers have different pairs */
 
 /* A return: what its workshop sent, how far it is at each server, and what the servers wrote for it. */
 static struct course {
@@ -13,9 +14,11 @@ static struct course {
     uint32_t accepted; /* what the verdict must be */
     uint32_t sums[POOL_MAX_ENTRIES];
     uint8_t shares[POOL_MAX_MAKE_BYTES];
-    uint64_t r, s;
+    struct pair {
+        uint64_t r, s;
+    } pairs[POOL_MAX_SERVERS];
     uint8_t at[POOL_MAX_SERVERS];
-    uint8_t ones[POOL_MAX_SERVERS * POOL_ROUND_BYTES], twos[POOL_MAX_SERVERS * POOL_ROUND_BYTES];
+    uint8_t ones[POOL_MAX_SERVERS * POOL_ROUND_ONE_BYTES], twos[POOL_MAX_SERVERS * POOL_ROUND_TWO_BYTES];
 } courses[MOST_RETURNS];
 static uint32_t course_count;
 static uint32_t decided_before, accepted_before; /* of earlier returns, at every server */
@@ -32,7 +35,7 @@ static void message_of(const struct course *c, uint32_t i, int round)
     if (round == 0)
         append(&message, c->shares + i * pool.sizes.share_bytes, pool.sizes.share_bytes);
     else
-        join_shuffled(&message, round == 1 ? c->ones : c->twos, pool.servers);
+        join_shuffled(&message, KIND_OF(round), round == 1 ? c->ones : c->twos, pool.servers);
 }
 
 /*
@@ -57,16 +60,18 @@ void wild_call(uint32_t i)
     int round = (int)random_below(3);
     message_of(c, i, round);
     copy(&b, &message);
+    if (round == 1 && random_below(4) == 0)
+        set_apart(&b, pool.servers, i);
     if (round > 0 && random_below(3) == 0)
-        spoil(&b, pool.servers, i);
+        spoil(&b, KIND_OF(round), pool.servers, i);
     if (random64() % 2)
         wild(&b);
     switch (random_below(3) ? round : 3 + (int)random_below(2)) {
     case 0:
-        call_share(&t, extra, &b, wild64(c->r), wild64(c->s), wild_room(POOL_ROUND_BYTES), &out);
+        call_share(&t, extra, &b, wild64(c->pairs[i].r), wild64(c->pairs[i].s), wild_room(POOL_ROUND_ONE_BYTES), &out);
         break;
     case 1:
-        call_round_one(&t, extra, id, &b, wild_room(POOL_ROUND_BYTES), &out);
+        call_round_one(&t, extra, id, &b, wild_room(POOL_ROUND_TWO_BYTES), &out);
         break;
     case 2:
         call_round_two(&t, extra, id, &b, &accepted);
@@ -81,7 +86,7 @@ void wild_call(uint32_t i)
 }
 
 /* Whether a return is accepted once it is decided. */
-static int accepts(const struct course *c) { return c->accepted && c->conduct != DROP_ONE && c->conduct != DROP_TWO; }
+static int accepts(const struct course *c) { return c->accepted && c->conduct < DROP_ONE; }
 
 struct counts counts_at(uint32_t i)
 {
@@ -106,7 +111,7 @@ static void refused_shares(uint32_t i)
         if (fresh)
             put_u32(message.at + 1, pool.first_id - 1);
         copy_table(&t, &pool.tables[i]);
-        if (call_share(&t, 0, &message, c->r, c->s, POOL_ROUND_BYTES, &out) != (fresh ? early : known))
+        if (call_share(&t, 0, &message, c->pairs[i].r, c->pairs[i].s, POOL_ROUND_ONE_BYTES, &out) != (fresh ? early : known))
             fail("the refusal of a share: eight wait, N are decided or wait, or its id is used");
     }
 }
@@ -115,7 +120,7 @@ static void refused_shares(uint32_t i)
 static void renamed(const struct course *c, uint32_t i, uint8_t round)
 {
     message_of(c, i, round);
-    for (size_t at = 1; c->at[i] == round && at < message.len; at += POOL_ROUND_BYTES)
+    for (size_t at = 1; c->at[i] == round && at < message.len; at += round_bytes(KIND_OF(round)))
         put_u32(message.at + at, c->id + 1);
 }
 
@@ -127,7 +132,7 @@ static void refused_rounds(uint32_t i)
     uint32_t accepted;
     copy_table(&t, &pool.tables[i]);
     renamed(c, i, AWAITS_ONE);
-    if (call_round_one(&t, 0, c->id, &message, POOL_ROUND_BYTES, &out) != (at == AWAITS_ONE ? POOL_JOINED : POOL_STAGE))
+    if (call_round_one(&t, 0, c->id, &message, POOL_ROUND_TWO_BYTES, &out) != (at == AWAITS_ONE ? POOL_JOINED : POOL_STAGE))
         fail("the refusal of a round one");
     renamed(c, i, AWAITS_TWO);
     if (call_round_two(&t, 0, c->id, &message, &accepted) != (at == AWAITS_TWO ? POOL_JOINED : POOL_STAGE))
@@ -138,14 +143,27 @@ static void refused_rounds(uint32_t i)
 
 /* Returns */
 
-/* A random return: honest, altered, past its tops or to be dropped. */
+/* The same pair for every server; where one slips, it has another r or s, or both. */
+static void new_pairs(struct course *c)
+{
+    uint32_t low = pool.sizes.multiplications + 1, high = POOL_PRIME - low, r = random_below(high), s = random_below(POOL_PRIME);
+    struct pair *slip = &c->pairs[random_below(pool.servers)];
+    uint32_t which = c->conduct == SLIPPED ? 1 + random_below(3) : 0;
+    for (uint32_t i = 0; i < pool.servers; i++)
+        c->pairs[i] = (struct pair){low + r, s};
+    if (which & 1)
+        slip->r = low + (r + 1 + random_below(high - 1)) % high;
+    if (which & 2)
+        slip->s = (s + 1 + random_below(POOL_PRIME - 1)) % POOL_PRIME;
+}
+
+/* A random return: honest, altered, past its tops, to be dropped or with a slip. */
 static void new_course(struct course *c, uint32_t id)
 {
     memset(c, 0, sizeof *c);
     c->id = id;
-    c->conduct = random_below(2) ? HONEST : (enum conduct)random_below(DROP_TWO + 1);
-    c->r = pool.sizes.multiplications + 1 + random_below(POOL_PRIME - pool.sizes.multiplications - 1);
-    c->s = random_below(POOL_PRIME);
+    c->conduct = random_below(2) ? HONEST : (enum conduct)random_below(SLIPPED + 1);
+    new_pairs(c);
     new_values(c->sums);
     new_random();
     make_return(id);
@@ -170,13 +188,30 @@ static uint8_t least(const struct course *c)
     return stage;
 }
 
+/* What a round with the messages of all servers answers. */
+static uint32_t round_answer(const struct course *c) { return c->conduct == SLIPPED ? POOL_UNEQUAL : POOL_DONE; }
+
 /* Other orders and faults in the messages of a return, where they are all there for the round that it awaits at server i. */
 static void other_orders(uint32_t i)
 {
     const struct course *c = &courses[random_below(course_count)];
     uint8_t at = c->at[i];
     if ((at == AWAITS_ONE || at == AWAITS_TWO) && least(c) >= at)
-        check_orders(i, c->id, at, at == AWAITS_ONE ? c->ones : c->twos);
+        check_orders(i, c->id, KIND_OF(at), at == AWAITS_ONE ? c->ones : c->twos, round_answer(c));
+}
+
+/* Round one with the messages of all servers. A return with a slip is refused and waits; it ends by a drop. */
+static uint8_t take_round_one(struct course *c, uint32_t i)
+{
+    struct table *table = &pool.tables[i];
+    if (call_round_one(table, some_extra(), c->id, &message, POOL_ROUND_TWO_BYTES, &out) != round_answer(c))
+        fail("round one, sound or with a slip");
+    if (c->conduct != SLIPPED) {
+        memcpy(c->twos + i * POOL_ROUND_TWO_BYTES, out.at, POOL_ROUND_TWO_BYTES);
+        return AWAITS_TWO;
+    }
+    must(call_drop(table, some_extra(), c->id), "dropping after a slip");
+    return ENDED;
 }
 
 static void decide(struct course *c, uint32_t i)
@@ -197,13 +232,12 @@ static void step(struct course *c, uint32_t i)
         must(call_drop(table, some_extra(), c->id), "dropping");
         c->at[i] = ENDED;
     } else if (stage == NOT_YET) {
-        must(call_share(table, some_extra(), &message, c->r, c->s, POOL_ROUND_BYTES, &out), "a sound share");
-        memcpy(c->ones + i * POOL_ROUND_BYTES, out.at, POOL_ROUND_BYTES);
+        struct pair p = c->pairs[i];
+        must(call_share(table, some_extra(), &message, p.r, p.s, POOL_ROUND_ONE_BYTES, &out), "a sound share");
+        memcpy(c->ones + i * POOL_ROUND_ONE_BYTES, out.at, POOL_ROUND_ONE_BYTES);
         c->at[i] = AWAITS_ONE;
     } else if (stage == AWAITS_ONE && least(c) >= AWAITS_ONE) {
-        must(call_round_one(table, some_extra(), c->id, &message, POOL_ROUND_BYTES, &out), "sound round one");
-        memcpy(c->twos + i * POOL_ROUND_BYTES, out.at, POOL_ROUND_BYTES);
-        c->at[i] = AWAITS_TWO;
+        c->at[i] = take_round_one(c, i);
     } else if (stage == AWAITS_TWO && least(c) >= AWAITS_TWO) {
         decide(c, i);
         c->at[i] = ENDED;

@@ -68,7 +68,7 @@ static void open_tables(void)
 }
 
 /* Where the message of server i goes: round messages may stand in any order, and here it is the reverse one. */
-static size_t place_of(size_t i) { return (SERVERS - 1 - i) * POOL_ROUND_BYTES; }
+static size_t place_of(size_t i, size_t bytes) { return (SERVERS - 1 - i) * bytes; }
 
 /* The shares of the return, with the ids from `from` to `to`. The messages of the last one stay. */
 static void take_ids(uint8_t from, uint8_t to)
@@ -77,7 +77,7 @@ static void take_ids(uint8_t from, uint8_t to)
         for (size_t i = 0; i < SERVERS; i++) {
             shares[i * share_bytes + 1] = id;
             refused |= pool_share(TABLE(&tables[i]), shares + i * share_bytes, share_bytes, 123456789, 987654321,
-                                  joined + place_of(i), POOL_ROUND_BYTES, &written);
+                                  joined + place_of(i, POOL_ROUND_ONE_BYTES), POOL_ROUND_ONE_BYTES, &written);
         }
 }
 
@@ -95,14 +95,14 @@ static void drop_seven(void)
 static void round_one(void)
 {
     for (size_t i = 0; i < SERVERS; i++)
-        refused |= pool_round_one(TABLE(&tables[i]), POOL_SLOTS, joined, SERVERS * POOL_ROUND_BYTES,
-                                  other + place_of(i), POOL_ROUND_BYTES, &written);
+        refused |= pool_round_one(TABLE(&tables[i]), POOL_SLOTS, joined, SERVERS * POOL_ROUND_ONE_BYTES,
+                                  other + place_of(i, POOL_ROUND_TWO_BYTES), POOL_ROUND_TWO_BYTES, &written);
 }
 
 static void round_two(void)
 {
     for (size_t i = 0; i < SERVERS; i++)
-        refused |= pool_round_two(TABLE(&tables[i]), POOL_SLOTS, other, SERVERS * POOL_ROUND_BYTES, &accepted);
+        refused |= pool_round_two(TABLE(&tables[i]), POOL_SLOTS, other, SERVERS * POOL_ROUND_TWO_BYTES, &accepted);
 }
 
 static void close_tables(void)

@@ -190,8 +190,10 @@ static void shared(struct lent_table t, const struct table *was, const struct ru
     pool_slot slot = slot_at(lents[t.slots].at, k);
     kept_others(t, was, k);
     if (slot.id != get_u32(message->at + 1) || slot.stage != POOL_AWAITS_ONE || slot.r != r || slot.s != s ||
-        slot.d != get_u32(out->at + 6) || slot.e != get_u32(out->at + 10))
+        slot.d != get_u32(out->at + D_AT) || slot.e != get_u32(out->at + E_AT))
         fail("the slot of a share");
+    if (get_u32(out->at + R_AT) != r || get_u32(out->at + S_AT) != s)
+        fail("a round-one message that tells another pair");
     if (memcmp(lents[t.elements].at + k * place, message->at + 6, place - 8) != 0)
         fail("the elements of a share");
 }
@@ -208,7 +210,7 @@ uint32_t call_share(struct table *table, size_t extra, const struct run *message
                          MAY(POOL_PAIR) | MAY(POOL_ROOM));
     kept(m);
     take(o, &w, answer, out);
-    if (answer == 0 && out->len != POOL_ROUND_BYTES)
+    if (answer == 0 ? out->len != POOL_ROUND_ONE_BYTES : answer == POOL_ROOM && room >= POOL_ROUND_ONE_BYTES)
         fail("a length that the header does not give");
     if (answer == 0)
         shared(t, table, message, r, s, out);
@@ -224,8 +226,8 @@ uint32_t call_round_one(struct table *table, size_t extra, uint32_t id, const st
     int j = lend(joined), o = lend_room(room);
     struct result_size w = RESULT_SIZE;
     uint32_t answer = pool_round_one(LENT_TABLE(t), id, LENT(j), LENT(o), &w.value);
-    answered(answer, MAY(POOL_STAGE) | MAY(POOL_JOINED) | MAY(POOL_ROOM));
-    check_round(table, id, KIND_ONE, joined, answer);
+    answered(answer, MAY(POOL_STAGE) | MAY(POOL_JOINED) | MAY(POOL_UNEQUAL) | MAY(POOL_ROOM));
+    check_round_one(table, id, joined, room, answer);
     kept(j);
     take(o, &w, answer, out);
     if (answer == 0) {
@@ -235,7 +237,7 @@ uint32_t call_round_one(struct table *table, size_t extra, uint32_t id, const st
         if (was.stage != POOL_AWAITS_ONE || now.stage != POOL_AWAITS_TWO || now.id != id || now.r != was.r ||
             now.s != was.s)
             fail("the slot of a round one");
-        if (out->len != POOL_ROUND_BYTES)
+        if (out->len != POOL_ROUND_TWO_BYTES)
             fail("a length that the header does not give");
     }
     take_table(t, answer, SLOTS, table);
@@ -250,7 +252,7 @@ uint32_t call_round_two(struct table *table, size_t extra, uint32_t id, const st
     struct result32 a = RESULT32;
     uint32_t answer = pool_round_two(LENT_TABLE(t), id, LENT(j), &a.value);
     answered(answer, MAY(POOL_STAGE) | MAY(POOL_JOINED));
-    check_round(table, id, KIND_TWO, joined, answer);
+    check_round_two(table, id, joined, answer);
     kept(j);
     check32(&a, answer);
     if (answer == 0) {

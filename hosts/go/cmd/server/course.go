@@ -2,6 +2,7 @@ package main
 
 import (
 	"encoding/binary"
+	"errors"
 	"fmt"
 	"log"
 
@@ -54,13 +55,16 @@ func (s *server) take(c *course, messages [][]byte) error {
 		if err != nil {
 			return err
 		}
-		message, refused = s.table.Share(c.share, pair)
+		message, refused = s.table.Share(c.share, s.typed(c.id, pair))
 		c.taken = refused == nil
 	} else {
 		message, refused = s.table.RoundOne(c.id, messages)
 	}
 	if refused != nil {
 		log.Printf("return %d: %v", c.id, refused)
+	}
+	if errors.Is(refused, pool.Unequal) {
+		logPairs(c.id, messages)
 	}
 	s.say(c, c.step, message)
 	return nil

@@ -94,6 +94,8 @@ func TestNumbersOfFlags(t *testing.T) {
 		{"-least 65537", "refused 2"},
 		{"-least 101", "refused 2"},
 		{"-least 0", "refused 2"},
+		{"-least 1 -slip 4294967296", "out of range"},
+		{"-least 1 -slip 1,2", "invalid"},
 		{"", "refused 2"},
 	} {
 		cmd := exec.CommandContext(ctx, os.Args[0], append([]string{"-sheet", "17"}, strings.Fields(test.args)...)...)

@@ -7,8 +7,10 @@
 // return is next. Up to eight returns are under way at a time. After -handle returns they close, exchange totals messages
 // and print the joined totals, each line with column, option and total. With fewer than -least accepted they say so and take
 // more returns; once so many can not be accepted any more, they end without totals. With -distance 100ms each message to the
-// other server takes so long, as between two countries. The example sends in the clear, on one machine, and stores nothing: a
-// pool encrypts, knows who calls, and stores its table with each message before it is sent.
+// other server takes so long, as between two countries. With -slip 3 at one of them return 3 is taken there with a wrong r, as by
+// a keeper who types it wrongly: both refuse round one, say which pair each has, and drop it, to be filed anew under a new id. The
+// example sends in the clear, on one machine, and stores nothing: a pool encrypts, knows who calls, and stores its table with each
+// message before it is sent.
 package main
 
 import (
@@ -35,6 +37,7 @@ type options struct {
 	peer      string
 	wait      time.Duration
 	distance  time.Duration
+	slip      string
 }
 
 func main() {
@@ -49,6 +52,7 @@ func main() {
 	flag.StringVar(&o.peer, "peer", "127.0.0.1:0", "where server 0 awaits server 1")
 	flag.DurationVar(&o.wait, "wait", 5*time.Second, "how long to wait for the own share of a return")
 	flag.DurationVar(&o.distance, "distance", 0, "how long a message to the other server takes")
+	flag.StringVar(&o.slip, "slip", "", "ids of returns to take with a wrong r here, in decimal")
 	flag.Parse()
 	log.SetPrefix(fmt.Sprintf("server %d: ", o.own))
 	if err := run(o); err != nil {
@@ -69,6 +73,10 @@ func run(o options) error {
 	if err != nil {
 		return err
 	}
+	s, err := newServer(o, sheet, table)
+	if err != nil {
+		return err
+	}
 	listener, err := net.Listen("tcp", o.workshops)
 	if err != nil {
 		return err
@@ -83,7 +91,6 @@ func run(o options) error {
 		return err
 	}
 	defer conn.Close()
-	s := newServer(o, sheet, table)
 	s.peer, s.shares = newPeer(conn, o.distance), shares
 	totals, err := s.run()
 	if err != nil {

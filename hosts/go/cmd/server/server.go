@@ -8,6 +8,7 @@ import (
 	"time"
 
 	"yimakohe.example/pool"
+	"yimakohe.example/pool/internal/frame"
 )
 
 // server handles returns together with its peer, up to eight at a time. Server 0 begins them, in the order in which its shares
@@ -23,6 +24,7 @@ type server struct {
 	returns int           // N
 	least   int           // Q
 	handle  int           // returns to handle before the table is closed, whatever becomes of them
+	slips   []uint32      // ids of returns whose r is typed wrongly here
 
 	begun, ended      int
 	decided, accepted int                // in the own table
@@ -30,9 +32,10 @@ type server struct {
 	late              chan uint32        // numbers of returns that have waited for their share
 }
 
-func newServer(o options, sheet *pool.Sheet, table *pool.Table) *server {
+func newServer(o options, sheet *pool.Sheet, table *pool.Table) (*server, error) {
+	slips, err := frame.Numbers(o.slip, 32)
 	return &server{own: uint(o.own), sheet: sheet, table: table, wait: o.wait, returns: int(o.returns), least: int(o.least),
-		handle: o.handle, courses: map[uint32]*course{}, late: make(chan uint32)}
+		handle: o.handle, slips: slips, courses: map[uint32]*course{}, late: make(chan uint32)}, err
 }
 
 // run handles returns, closes the table and joins both servers' totals. Where too few are accepted to close, it handles more.

@@ -88,12 +88,18 @@ func send(t *testing.T, address string, share []byte) {
 	}
 }
 
-// startTwo starts two servers and gives what a workshop needs to deliver returns to them.
+// startTwo starts two servers with the same arguments.
 func startTwo(ctx context.Context, t *testing.T, sheet []byte, args ...string) (both []*process, deliver deliverer) {
 	t.Helper()
-	args = append([]string{"-sheet", strings.Trim(fmt.Sprint(sheet), "[]")}, args...)
-	zero := start(ctx, t, append(args, "-own", "0")...)
-	one := start(ctx, t, append(args, "-own", "1", "-peer", zero.line(t, "peer"))...)
+	return startApart(ctx, t, sheet, [servers][]string{args, args})
+}
+
+// startApart starts two servers, each with its arguments, and gives what a workshop needs to deliver returns to them.
+func startApart(ctx context.Context, t *testing.T, sheet []byte, args [servers][]string) (both []*process, deliver deliverer) {
+	t.Helper()
+	common := []string{"-sheet", strings.Trim(fmt.Sprint(sheet), "[]"), "-own"}
+	zero := start(ctx, t, append(append(common, "0"), args[0]...)...)
+	one := start(ctx, t, append(append(common, "1", "-peer", zero.line(t, "peer")), args[1]...)...)
 	read, err := pool.ReadSheet(sheet)
 	if err != nil {
 		t.Fatal(err)

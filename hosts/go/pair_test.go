@@ -1,0 +1,159 @@
+package pool
+
+import (
+	"bytes"
+	"encoding/binary"
+	"testing"
+)
+
+// edit puts a number into the message of a server, at a place.
+type edit struct {
+	server, at int
+	number     uint32
+}
+
+// Places in a round-one message.
+const (
+	dPlace = 6
+	ePlace = 10
+	rPlace = 14
+	sPlace = 18
+)
+
+// edited gives copies of the messages, altered and in this order.
+func edited(messages [][]byte, edits []edit, order ...int) [][]byte {
+	all := ordered(messages, 0, 1, 2)
+	for _, e := range edits {
+		binary.LittleEndian.PutUint32(all[e.server][e.at:], e.number)
+	}
+	return ordered(all, order...)
+}
+
+// pairFault is something in the round-one messages that server 1 of three has, all three with the pair 1000, 7.
+type pairFault struct {
+	want  Refusal // 0 where the messages are taken
+	edits []edit
+}
+
+// The faults of 12 come before 16, and in another's r and s only an element not below p is one of them.
+var pairFaults = map[string]pairFault{
+	"another's r is 0":           {Unequal, []edit{{0, rPlace, 0}}},
+	"another's r is M":           {Unequal, []edit{{2, rPlace, 1}}},
+	"another's r is p - 1":       {Unequal, []edit{{2, rPlace, prime - 1}}},
+	"another's s is 0":           {Unequal, []edit{{0, sPlace, 0}}},
+	"another's s is p - 1":       {Unequal, []edit{{2, sPlace, prime - 1}}},
+	"another's r for s":          {Unequal, []edit{{0, rPlace, 7}, {0, sPlace, 1000}}},
+	"both others' r":             {Unequal, []edit{{0, rPlace, 1001}, {2, rPlace, 1001}}},
+	"another's r and d":          {Unequal, []edit{{0, rPlace, 1001}, {0, dPlace, 12345}}},
+	"another's r is p":           {Joined, []edit{{0, rPlace, prime}}},
+	"another's r is 2^32 - 1":    {Joined, []edit{{2, rPlace, 1<<32 - 1}}},
+	"another's s is p":           {Joined, []edit{{2, sPlace, prime}}},
+	"another's s is 2^31 + 7":    {Joined, []edit{{0, sPlace, 1<<31 + 7}}},
+	"the own r":                  {Joined, []edit{{1, rPlace, 1001}}},
+	"the own r is 0":             {Joined, []edit{{1, rPlace, 0}}},
+	"the own s":                  {Joined, []edit{{1, sPlace, 8}}},
+	"everyone's r":               {Joined, []edit{{0, rPlace, 1001}, {1, rPlace, 1001}, {2, rPlace, 1001}}},
+	"everyone's s":               {Joined, []edit{{0, sPlace, 8}, {1, sPlace, 8}, {2, sPlace, 8}}},
+	"r 0 and another p":          {Joined, []edit{{0, rPlace, 0}, {2, rPlace, prime}}},
+	"another's r and the own d":  {Joined, []edit{{0, rPlace, 1001}, {1, dPlace, 12345}}},
+	"another's s, and an e of p": {Joined, []edit{{0, sPlace, 8}, {2, ePlace, prime}}},
+	"another's r and its id":     {Joined, []edit{{0, rPlace, 1001}, {0, 1, 601}}},
+	"another's d and e":          {0, []edit{{0, dPlace, 12345}, {2, ePlace, 54321}}},
+	"another's pair, as it was":  {0, []edit{{0, rPlace, 1000}, {0, sPlace, 7}}},
+}
+
+// waitingThree has three servers take their shares of return 600 with the pair 1000, 7.
+func waitingThree(t *testing.T) (all servers, ones [][]byte) {
+	t.Helper()
+	sheet := sheetOf(t, YesNo())
+	client := Client{Sheet: sheet, Servers: 3}
+	all = openAll(t, 3, sheet, 1)
+	shares, err := client.Make(600, []uint32{1})
+	if err != nil {
+		t.Fatal(err)
+	}
+	return all, all.startWith(t, shares, alike(3, Pair{1000, 7}))
+}
+
+// tryRoundOne tries round one on copies of a table, in room enough and in too little.
+func tryRoundOne(t *testing.T, table *Table, name string, messages [][]byte, want Refusal) {
+	t.Helper()
+	before := stored(t, table)
+	for _, room := range []int{14, 13} {
+		again := new(Table)
+		if err := again.UnmarshalBinary(before); err != nil {
+			t.Fatal(err)
+		}
+		if room < 14 && want == 0 {
+			want = Room
+		}
+		_, number := coreRoundOne(again, 600, bytes.Join(messages, nil), make([]byte, room))
+		if Refusal(number) != want {
+			t.Errorf("%s, room %d: %d, want %d", name, room, number, want)
+		}
+		if number != 0 && !bytes.Equal(before, stored(t, again)) {
+			t.Errorf("%s, room %d: the table is changed", name, room)
+		}
+	}
+}
+
+// What is refused 12 and what 16, wherever a message stands.
+func TestPairFaults(t *testing.T) {
+	all, ones := waitingThree(t)
+	for name, fault := range pairFaults {
+		for _, order := range [][]int{{0, 1, 2}, {2, 1, 0}, {1, 0, 2}, {2, 0, 1}} {
+			tryRoundOne(t, all[1], name, edited(ones, fault.edits, order...), fault.want)
+		}
+	}
+}
+
+// A round-one message has 22 bytes: the 14 that stand before r and s are no message.
+func TestOldLength(t *testing.T) {
+	all, ones := waitingThree(t)
+	cut := func(lengths ...int) [][]byte {
+		list := ordered(ones, 0, 1, 2)
+		for k, length := range lengths {
+			list[k] = append(list[k], make([]byte, 40)...)[:length]
+		}
+		return list
+	}
+	for _, messages := range [][][]byte{cut(14, 14, 14), cut(14, 22, 22), cut(22, 14, 22), cut(22, 22, 14), cut(22, 22, 21),
+		cut(22, 22, 23), cut(14, 22, 30), cut(30, 22, 14), cut(22, 22, 44), cut(22, 22, 0), nil} {
+		tryRoundOne(t, all[1], "other lengths", messages, Joined)
+	}
+	tryRoundOne(t, all[1], "the lengths that they have", cut(22, 22, 22), 0)
+}
+
+// The room of the messages: 22 bytes for round one, 14 for round two.
+func TestRoundRooms(t *testing.T) {
+	if oneBytes != 22 || twoBytes != 14 {
+		t.Errorf("lengths %d and %d", oneBytes, twoBytes)
+	}
+	sheet := sheetOf(t, YesNo())
+	client := Client{Sheet: sheet, Servers: 2}
+	shares, _ := client.Make(1, []uint32{1})
+	all := openAll(t, 2, sheet, 1)
+	before := stored(t, all[0])
+	for room := 0; room < 22; room++ {
+		if n, number := coreShare(all[0], shares[0], 1000, 7, make([]byte, room)); n != 0 || Refusal(number) != Room {
+			t.Errorf("a share in %d bytes: %d, %d", room, n, number)
+		}
+	}
+	if !bytes.Equal(before, stored(t, all[0])) {
+		t.Error("a share without room changes the table")
+	}
+	ones := all.start(t, sheet, shares)
+	for room := 0; room < 14; room++ {
+		if n, number := coreRoundOne(all[0], 1, bytes.Join(ones, nil), make([]byte, room)); n != 0 || Refusal(number) != Room {
+			t.Errorf("round one in %d bytes: %d, %d", room, n, number)
+		}
+	}
+	twos := all.roundOne(t, 1, ones)
+	for _, messages := range [][][]byte{ones, {append(twos[0], make([]byte, 8)...), append(twos[1], make([]byte, 8)...)}} {
+		_, err := all[0].RoundTwo(1, messages)
+		refused(t, err, Joined)
+	}
+	if !all.roundTwo(t, 1, twos) {
+		t.Error("an honest return is rejected")
+	}
+}

@@ -14,15 +14,17 @@ use lib.ListN.{length, take}
 use Rattle.algebra.specs.Lists.{In}
 use Rattle.rules.specs.Settings.{document01}
 use Rattle.rules.specs.Server.{Opened, whileOpen}
-use Rattle.rules.specs.Server.{shareRefusal, oneRefusal, twoRefusal, dropRefusal, closeRefusal}
-use Rattle.rules.specs.Ledger.{Call, share, roundOne, roundTwo, drop, close, Answer, refused, wrote, judged, done, Ledger}
+use Rattle.rules.specs.Messages.{bothZero}
+use Rattle.rules.specs.Server.{shareRefusal, oneRefusal, twoRefusal, enterRefusal, dropRefusal, closeRefusal}
+use Rattle.rules.specs.Ledger.{Call, share, roundOne, roundTwo, enter, drop, close, Answer, refused, wrote, judged, done, Ledger}
 use Rattle.rules.specs.Ledger.{Progress, isOpen, isClosed, Pending, Decided, Decision, decideAs}
 use Rattle.rules.specs.Ledger as ledger
 use Rattle.rules.specs.Ledger.{ledgerStage, ledgerState, refusalOf, ledgerAfter, ledgerStep, ledgerSays, closingMessage}
 use Rattle.rules.specs.Ledger.{runLedger, ledgerAnswers}
 use Rattle.rules.specs.Table.{Lent}
 use Rattle.rules.specs.Pools.{messagesIn, callMessages, handedIn}
-use Rattle.calls.specs.Calls.{CCall, pool-share, pool-round-one, pool-round-two, pool-drop, pool-close, callOf, answerOf}
+use Rattle.calls.specs.Calls.{CCall, pool-share, pool-round-one, pool-round-two, pool-enter, pool-drop, pool-close, callOf}
+use Rattle.calls.specs.Calls.{answerOf}
 use Rattle.calls.specs.Servers.{roundsIn, closingsIn, over}
 
 -- whether a ledger is closed
@@ -45,6 +47,7 @@ abbrev returned : CCall → ℕ
 returned (pool-share T m r s out w a T' out' w') = a
 returned (pool-round-one T id joined out w a T' out' w') = a
 returned (pool-round-two T id joined v a T' v') = a
+returned (pool-enter T id a T') = a
 returned (pool-drop T id a T') = a
 returned (pool-close T out w a T' out' w') = a
 
@@ -52,6 +55,7 @@ returned-shown : (c : CCall) → refusalIn (answerOf c) ≡ returned c
 returned-shown (pool-share T m r s out w a T' out' w') = number-shown a _ refl
 returned-shown (pool-round-one T id joined out w a T' out' w') = number-shown a _ refl
 returned-shown (pool-round-two T id joined v a T' v') = number-shown a _ refl
+returned-shown (pool-enter T id a T') = number-shown a done refl
 returned-shown (pool-drop T id a T') = number-shown a done refl
 returned-shown (pool-close T out w a T' out' w') = number-shown a _ refl
 
@@ -61,6 +65,7 @@ module _ (o : Opened) where
   not-refused l (share m r s room) = refl
   not-refused l (roundOne id joined room) = refl
   not-refused l (roundTwo id joined) = refl
+  not-refused l (enter id) = refl
   not-refused l (drop id) = refl
   not-refused l (close room) = refl
 
@@ -98,6 +103,7 @@ module _ (o : Opened) where
       ap (λ (x : ℕ). cond (eqb x 0) (messagesIn document01 (o .servers) 34 joined) []) e
   rounds-by (pool-round-two T id joined v a T' v') f e =
       ap (λ (x : ℕ). cond (eqb x 0) (messagesIn document01 (o .servers) 35 joined) []) e
+  rounds-by (pool-enter T id a T') f e = nothing-else (eqb f 0)
   rounds-by (pool-drop T id a T') f e = nothing-else (eqb f 0)
   rounds-by (pool-close T out w a T' out' w') f e = nothing-else (eqb f 0)
 
@@ -110,11 +116,12 @@ module _ (o : Opened) where
 
   -- a closed ledger refuses every call
   closed-refuses : (l : Ledger) (c : Call) → l .progress ≡ isClosed → refusalOf document01 o l c ≡ 11
-  unfolding refusalOf shareRefusal oneRefusal twoRefusal dropRefusal closeRefusal ledgerState ledgerStage
+  unfolding refusalOf shareRefusal oneRefusal twoRefusal enterRefusal dropRefusal closeRefusal ledgerState ledgerStage
       whileOpen
   closed-refuses l (share m r s room) e = rw e refl
   closed-refuses l (roundOne id joined room) e = rw e refl
   closed-refuses l (roundTwo id joined) e = rw e refl
+  closed-refuses l (enter id) e = rw e refl
   closed-refuses l (drop id) e = rw e refl
   closed-refuses l (close room) e = rw e refl
 
@@ -159,6 +166,9 @@ module _ (o : Opened) where
       closings-same (next l c) cs (others-same l c cs e) m h
   closings-same l (pool-round-two T id joined v a T' v' ∷ cs) e m h =
       let c = pool-round-two T id joined v a T' v' in
+      closings-same (next l c) cs (others-same l c cs e) m h
+  closings-same l (pool-enter T id a T' ∷ cs) e m h =
+      let c = pool-enter T id a T' in
       closings-same (next l c) cs (others-same l c cs e) m h
   closings-same l (pool-drop T id a T' ∷ cs) e m h =
       let c = pool-drop T id a T' in
@@ -208,6 +218,11 @@ module _ (o : Opened) where
       (either-open (eqb (refusalOf document01 o l (callOf c)) 0) _ l refl h) k
   closed-wrote l (pool-round-two T id joined v a T' v' ∷ cs) e h k =
       let c = pool-round-two T id joined v a T' v' in
+      closed-wrote (next l c) cs (others-same l c cs e)
+      (either-open (eqb (refusalOf document01 o l (callOf c)) 0) _ l
+      (either-open (bothZero document01 (o .servers) joined) _ _ refl (decided-open id _ _ _ _)) h) k
+  closed-wrote l (pool-enter T id a T' ∷ cs) e h k =
+      let c = pool-enter T id a T' in
       closed-wrote (next l c) cs (others-same l c cs e)
       (either-open (eqb (refusalOf document01 o l (callOf c)) 0) _ l (decided-open id _ _ _ _) h) k
   closed-wrote l (pool-drop T id a T' ∷ cs) e h k =

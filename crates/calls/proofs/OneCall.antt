@@ -20,18 +20,18 @@ use Rattle.rules.specs.Settings.{document01}
 use Rattle.rules.specs.Columns.{publishedIn, totalsFit}
 use Rattle.rules.specs.Messages.{roundLength}
 use Rattle.rules.specs.Server.{messageOne, messageTwo, totalsLength}
-use Rattle.rules.specs.Table.{tableFault, tableSound, headerSound, countsSound, tableLength, totalsPlace, totalsIn, openedIn, acceptedIn}
+use Rattle.rules.specs.Table.{tableFault, tableSound, headerSound, countsSound, tableLength, totalsPlace, totalsIn, openedIn, enteredIn}
 use Rattle.rules.specs.WaitingList.{waitingCount}
 use Rattle.rules.specs.Table.{Lent, sheetSize, columnsIn, returnsIn, decidedIn}
 use Rattle.rules.specs.Table.{shareRefused, shareTable, shareBytes, oneRefused, oneTable, oneBytes, twoRefused, twoVerdict}
-use Rattle.rules.specs.Table.{dropRefused, closeRefused, closeTable, closeBytes}
+use Rattle.rules.specs.Table.{enterRefused, dropRefused, closeRefused, closeTable, closeBytes}
 use Rattle.rules.specs.Ledger.{refused, judged, done}
 use Rattle.rules.specs.Runs.{tableRefusal, tableAfter, tableAnswer, tableStep, tableSays}
 use Rattle.rules.proofs.Histories.MessageBytes.{length-message}
 use Rattle.rules.proofs.Histories.ClosingBytes.{length-totals}
 use Rattle.rules.proofs.Histories.Checks.{check-passed}
-use Rattle.calls.specs.Calls.{CCall, pool-share, pool-round-one, pool-round-two, pool-drop, pool-close, Kept, before, after}
-use Rattle.calls.specs.Calls.{callOf, answerOf, LeavesRest}
+use Rattle.calls.specs.Calls.{CCall, pool-share, pool-round-one, pool-round-two, pool-enter, pool-drop, pool-close, Kept}
+use Rattle.calls.specs.Calls.{before, after, callOf, answerOf, LeavesRest}
 use Rattle.calls.proofs.Writing.{answer-same, table-kept, number-kept, number-done, hands, untouched}
 
 -- the messages have the length that is told
@@ -56,7 +56,7 @@ totals-long L e =
     let fits : Bool = totalsFit document01 (returnsIn document01 T) (columnsIn document01 T) in
     let few : Bool =
     leb (decidedIn document01 T + waiting) (returnsIn document01 T)
-    && leb (acceptedIn document01 T) (decidedIn document01 T) in
+    && leb (enteredIn document01 T) (decidedIn document01 T) in
     let sound : tableSound document01 L ≡ true = check-passed (tableSound document01 L) 10 e in
     let counts : (fits && (leb size (length T) && few)) ≡ true =
     and-left (countsSound document01 T waiting) _ (and-right (headerSound document01 T) _ sound) in
@@ -68,7 +68,7 @@ close-long : (T : Lent) (room : ℕ) → closeRefused document01 T room ≡ 0
     → length (closeBytes document01 T) ≡ totalsLength document01 (openedIn document01 (T .bytes))
 unfolding closeRefused closeBytes totalsLength
 close-long T room e =
-    length-totals document01 (openedIn document01 (T .bytes)) (acceptedIn document01 (T .bytes)) (totalsIn document01 (T .bytes))
+    length-totals document01 (openedIn document01 (T .bytes)) (enteredIn document01 (T .bytes)) (totalsIn document01 (T .bytes))
     ∙ ap (λ (k : ℕ). 6 + 4 * k) (totals-long T (or-zero (tableFault document01 T) _ e .0))
 
 -- a verdict is 1 or 0
@@ -113,13 +113,16 @@ steps (pool-round-two T id joined v a T' v') k =
           let z : f ≡ 0 → ⊥ = λ q. h (k .answer-is ∙ q) in
           (table-kept f _ T T' (k .table-is) z, number-kept f _ v v' (k .accepted-is) z);
     }
-steps (pool-drop T id a T') k =
-    let f = dropRefused document01 T id in
-    record {
-      says = ap (λ (x : ℕ). cond (eqb x 0) done (refused x)) (k .answer-is);
-      leaves = k .table-is;
-      rest = λ h. table-kept f _ T T' (k .table-is) (λ q. h (k .answer-is ∙ q));
-    }
+steps (pool-enter T id a T') k = record {
+  says = ap (λ (x : ℕ). cond (eqb x 0) done (refused x)) (k .answer-is);
+  leaves = k .table-is;
+  rest = λ h. table-kept (enterRefused document01 T id) _ T T' (k .table-is) (λ q. h (k .answer-is ∙ q));
+}
+steps (pool-drop T id a T') k = record {
+  says = ap (λ (x : ℕ). cond (eqb x 0) done (refused x)) (k .answer-is);
+  leaves = k .table-is;
+  rest = λ h. table-kept (dropRefused document01 T id) _ T T' (k .table-is) (λ q. h (k .answer-is ∙ q));
+}
 steps (pool-close T out w a T' out' w') (l, k) =
     let f = closeRefused document01 T (length out) in
     record {

@@ -13,11 +13,12 @@ use Rattle.rules.specs.Messages.{roundLength}
 use Rattle.rules.specs.Server.{totalsLength}
 use Rattle.waiting.specs.Changes.{unlessRefused}
 use Rattle.rules.specs.Table.{Lent, openedTable, openLength, openedIn, shareRefused, shareTable, shareBytes, oneRefused, oneTable, oneBytes}
-use Rattle.rules.specs.Table.{twoRefused, twoTable, twoVerdict, dropRefused, dropTable, closeRefused, closeTable, closeBytes}
-use Rattle.rules.specs.Ledger.{Call, share, roundOne, roundTwo, drop, close}
+use Rattle.rules.specs.Table.{twoRefused, twoTable, twoVerdict, enterRefused, enterTable, dropRefused, dropTable}
+use Rattle.rules.specs.Table.{closeRefused, closeTable, closeBytes}
+use Rattle.rules.specs.Ledger.{Call, share, roundOne, roundTwo, enter, drop, close}
 use Rattle.rules.specs.Pools.{Pool, BytesIn}
-use Rattle.calls.specs.Calls.{CCall, pool-share, pool-round-one, pool-round-two, pool-drop, pool-close, Kept, before, after, callOf}
-use Rattle.calls.specs.Calls.{Linked, none, next, Log, Serves}
+use Rattle.calls.specs.Calls.{CCall, pool-share, pool-round-one, pool-round-two, pool-enter, pool-drop, pool-close, Kept}
+use Rattle.calls.specs.Calls.{before, after, callOf, Linked, none, next, Log, Serves}
 use Rattle.calls.specs.Servers.{Servers, AskedBy}
 
 -- a buffer of so many bytes
@@ -45,6 +46,8 @@ made T (roundTwo id joined) =
     let f = twoRefused document01 T id joined in
     pool-round-two T id joined 0 f (unlessRefused f (twoTable document01 T id joined) T)
     (ifDone f (cond (twoVerdict document01 T joined) 1 0) 0)
+made T (enter id) =
+    pool-enter T id (enterRefused document01 T id) (unlessRefused (enterRefused document01 T id) (enterTable document01 T id) T)
 made T (drop id) =
     pool-drop T id (dropRefused document01 T id) (unlessRefused (dropRefused document01 T id) (dropTable document01 T id) T)
 made T (close room) =
@@ -58,6 +61,7 @@ unfolding made
 made-on T (share m r s room) = refl
 made-on T (roundOne id joined room) = refl
 made-on T (roundTwo id joined) = refl
+made-on T (enter id) = refl
 made-on T (drop id) = refl
 made-on T (close room) = refl
 
@@ -66,6 +70,7 @@ unfolding made wrote-in
 made-kept T (share m r s room) = (refl, record { answer-is = refl; out-is = refl; written-is = refl })
 made-kept T (roundOne id joined room) = (refl, record { answer-is = refl; out-is = refl; written-is = refl })
 made-kept T (roundTwo id joined) = record { answer-is = refl; table-is = refl; accepted-is = refl }
+made-kept T (enter id) = record { answer-is = refl; table-is = refl }
 made-kept T (drop id) = record { answer-is = refl; table-is = refl }
 made-kept T (close room) = (refl, record { answer-is = refl; out-is = refl; written-is = refl })
 
@@ -74,6 +79,7 @@ unfolding made buffer
 made-asks T (share m r s room) = ap (share m r s) (length-replicate room 0)
 made-asks T (roundOne id joined room) = ap (roundOne id joined) (length-replicate room 0)
 made-asks T (roundTwo id joined) = refl
+made-asks T (enter id) = refl
 made-asks T (drop id) = refl
 made-asks T (close room) = ap close (length-replicate room 0)
 

@@ -20,7 +20,9 @@ use Rattle.rules.specs.Pools.{handedIn, openedAt, ledgerAt, Unaltered, Conditio
 use Rattle.rules.specs.WholeRun.{Closed, closings}
 use Rattle.rules.proofs.Histories.Origins.{handed-named}
 use Rattle.rules.proofs.Runs.Agreement.{history-at}
+use Rattle.rules.proofs.Computed.Facts.{document01-facts}
 use Rattle.rules.proofs.Runs.WholeRuns.{document01-whole-run}
+use Rattle.rules.proofs.Runs.Resuming.{resumes}
 use Rattle.pool_totals.specs.Calls.{Joins}
 use Rattle.calls.specs.Calls.{callOf, Tells}
 use Rattle.calls.specs.Servers.{Servers, over, roundsIn, closingsIn, poolOf, CUnaltered, CConditions, Totals, WholeCalls}
@@ -112,6 +114,7 @@ module _ (𝓢 : Servers) where
   whole-calls = record {
     tells = told;
     whole = document01-whole-run (poolOf 𝓢);
+    resumes = resumes document01 document01-facts (poolOf 𝓢);
     rounds = rounds;
     unaltered = unaltered;
     unaltered-back = unaltered-back;

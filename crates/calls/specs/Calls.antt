@@ -12,12 +12,12 @@ use Rattle.algebra.specs.Lists.{All}
 use Rattle.rules.specs.Settings.{document01}
 use Rattle.rules.specs.Columns.{columnsOf}
 use Rattle.rules.specs.Server.{Opened}
-use Rattle.rules.specs.Ledger.{Call, share, roundOne, roundTwo, drop, close, Answer, refused, wrote, judged, done}
+use Rattle.rules.specs.Ledger.{Call, share, roundOne, roundTwo, enter, drop, close, Answer, refused, wrote, judged, done}
 use Rattle.rules.specs.Ledger.{empty, ledgerAnswers}
 use Rattle.rules.specs.Table.{Lent, openedTable}
 use Rattle.rules.specs.Runs.{runTable, tableAnswers}
 use Rattle.rules.specs.Pools.{Bytes, BytesIn}
-use Rattle.pool_server.specs.Calls.{Opens, TakesShare, TakesOne, Decides, Drops, Closes}
+use Rattle.pool_server.specs.Calls.{Opens, TakesShare, TakesOne, Decides, Enters, Drops, Closes}
 
 -- A call of a C function on a table: the table T in its three parts, the arguments, the buffer and the number behind the pointer
 -- as they were; then the number a that it returned, and the table, the buffer and the number behind the pointer as it left them
@@ -25,6 +25,7 @@ pub data CCall : Type 0 where
   pool-share : (T : Lent) (m : List ℕ) (r s : ℕ) (out : List ℕ) (written a : ℕ) (T' : Lent) (out' : List ℕ) (written' : ℕ) → CCall
   pool-round-one : (T : Lent) (id : ℕ) (joined out : List ℕ) (written a : ℕ) (T' : Lent) (out' : List ℕ) (written' : ℕ) → CCall
   pool-round-two : (T : Lent) (id : ℕ) (joined : List ℕ) (accepted a : ℕ) (T' : Lent) (accepted' : ℕ) → CCall
+  pool-enter : (T : Lent) (id a : ℕ) (T' : Lent) → CCall
   pool-drop : (T : Lent) (id a : ℕ) (T' : Lent) → CCall
   pool-close : (T : Lent) (out : List ℕ) (written a : ℕ) (T' : Lent) (out' : List ℕ) (written' : ℕ) → CCall
 
@@ -33,6 +34,7 @@ abbrev pub Kept : CCall → Type 0
 Kept (pool-share T m r s out w a T' out' w') = TakesShare T m r s out w a T' out' w'
 Kept (pool-round-one T id joined out w a T' out' w') = TakesOne T id joined out w a T' out' w'
 Kept (pool-round-two T id joined v a T' v') = Decides T id joined v a T' v'
+Kept (pool-enter T id a T') = Enters T id a T'
 Kept (pool-drop T id a T') = Drops T id a T'
 Kept (pool-close T out w a T' out' w') = Closes T out w a T' out' w'
 
@@ -41,6 +43,7 @@ abbrev pub before : CCall → Lent
 before (pool-share T m r s out w a T' out' w') = T
 before (pool-round-one T id joined out w a T' out' w') = T
 before (pool-round-two T id joined v a T' v') = T
+before (pool-enter T id a T') = T
 before (pool-drop T id a T') = T
 before (pool-close T out w a T' out' w') = T
 
@@ -48,6 +51,7 @@ abbrev pub after : CCall → Lent
 after (pool-share T m r s out w a T' out' w') = T'
 after (pool-round-one T id joined out w a T' out' w') = T'
 after (pool-round-two T id joined v a T' v') = T'
+after (pool-enter T id a T') = T'
 after (pool-drop T id a T') = T'
 after (pool-close T out w a T' out' w') = T'
 
@@ -56,6 +60,7 @@ abbrev pub callOf : CCall → Call
 callOf (pool-share T m r s out w a T' out' w') = share m r s (length out)
 callOf (pool-round-one T id joined out w a T' out' w') = roundOne id joined (length out)
 callOf (pool-round-two T id joined v a T' v') = roundTwo id joined
+callOf (pool-enter T id a T') = enter id
 callOf (pool-drop T id a T') = drop id
 callOf (pool-close T out w a T' out' w') = close (length out)
 
@@ -68,6 +73,7 @@ abbrev pub answerOf : CCall → Answer
 answerOf (pool-share T m r s out w a T' out' w') = handed a (wrote (take w' out'))
 answerOf (pool-round-one T id joined out w a T' out' w') = handed a (wrote (take w' out'))
 answerOf (pool-round-two T id joined v a T' v') = handed a (judged (eqb v' 1))
+answerOf (pool-enter T id a T') = handed a done
 answerOf (pool-drop T id a T') = handed a done
 answerOf (pool-close T out w a T' out' w') = handed a (wrote (take w' out'))
 
@@ -80,6 +86,7 @@ abbrev pub LeavesRest : CCall → Type 0
 LeavesRest (pool-share T m r s out w a T' out' w') = Untouched T out w a T' out' w'
 LeavesRest (pool-round-one T id joined out w a T' out' w') = Untouched T out w a T' out' w'
 LeavesRest (pool-round-two T id joined v a T' v') = (a ≡ 0 → ⊥) → (T' ≡ T) × (v' ≡ v)
+LeavesRest (pool-enter T id a T') = (a ≡ 0 → ⊥) → T' ≡ T
 LeavesRest (pool-drop T id a T') = (a ≡ 0 → ⊥) → T' ≡ T
 LeavesRest (pool-close T out w a T' out' w') = Untouched T out w a T' out' w'
 

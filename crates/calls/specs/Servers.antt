@@ -13,12 +13,13 @@ use Rattle.rules.specs.Settings.{document01}
 use Rattle.rules.specs.Columns.{check, publishedIn, publishedFrom}
 use Rattle.rules.specs.Messages.{serverIn, oneByOne}
 use Rattle.rules.specs.Ledger.{wrote, isClosed, empty, closingMessage}
-use Rattle.rules.specs.Pools.{Bytes, Pool, columns, openedAt, ledgerAt, acceptedAt, droppedAt, addedEntry, KeepsForm, messagesIn}
+use Rattle.rules.specs.Pools.{Bytes, Pool, columns, openedAt, ledgerAt, enteredAt, droppedAt, addedEntry, KeepsForm, messagesIn}
 use Rattle.rules.specs.Pools.{handedIn, Unaltered, Conditions}
 use Rattle.rules.specs.WholeRun.{WholeRun}
+use Rattle.rules.specs.Resumed.{Resumes}
 use Rattle.pool_totals.specs.Calls.{Joins}
-use Rattle.calls.specs.Calls.{CCall, pool-share, pool-round-one, pool-round-two, pool-drop, pool-close, callOf, answerOf}
-use Rattle.calls.specs.Calls.{Log, Serves, Tells}
+use Rattle.calls.specs.Calls.{CCall, pool-share, pool-round-one, pool-round-two, pool-enter, pool-drop, pool-close, callOf}
+use Rattle.calls.specs.Calls.{answerOf, Log, Serves, Tells}
 
 -- "Servers are opened alike when S, sheet and N are the same and their numbers are 0 to S - 1, one each." "Servers opened alike have the
 -- same Q too."
@@ -37,6 +38,7 @@ abbrev pub roundsIn : ℕ → CCall → List (List ℕ)
 roundsIn servers (pool-share T m r s out w a T' out' w') = []
 roundsIn servers (pool-round-one T id joined out w a T' out' w') = cond (eqb a 0) (messagesIn document01 servers 34 joined) []
 roundsIn servers (pool-round-two T id joined v a T' v') = cond (eqb a 0) (messagesIn document01 servers 35 joined) []
+roundsIn servers (pool-enter T id a T') = []
 roundsIn servers (pool-drop T id a T') = []
 roundsIn servers (pool-close T out w a T' out' w') = []
 
@@ -45,6 +47,7 @@ abbrev pub closingsIn : CCall → List (List ℕ)
 closingsIn (pool-share T m r s out w a T' out' w') = []
 closingsIn (pool-round-one T id joined out w a T' out' w') = []
 closingsIn (pool-round-two T id joined v a T' v') = []
+closingsIn (pool-enter T id a T') = []
 closingsIn (pool-drop T id a T') = []
 closingsIn (pool-close T out w a T' out' w') = cond (eqb a 0) (take w' out' ∷ []) []
 
@@ -76,18 +79,19 @@ module _ (𝓢 : Servers) where
       (i : ℕ) → i < 𝓢 .servers → (m : List ℕ) → In m (over (roundsIn (𝓢 .servers)) (𝓢 .log i .calls))
       → In (wrote m) (map answerOf (𝓢 .log (serverIn m) .calls))
 
-  -- "Drops are in the same order when no id dropped at one server is accepted at another."
+  -- "Entries, like drops, reach every server in the same order: no id dropped at one server is entered at another, whatever its
+  -- verdict there."
   pub record CConditions : Type 0 where
     pub unaltered : CUnaltered
     pub same-drops : (i j : ℕ) → i < 𝓢 .servers → j < 𝓢 .servers → (id : ℕ) → In id (droppedAt document01 poolOf i)
-        → In id (acceptedAt document01 poolOf j) → ⊥
+        → In id (enteredAt document01 poolOf j) → ⊥
 
   -- what pool_join returned and left, handed the closing messages
   pub record Totals (out : List ℕ) (a : ℕ) (out' : List ℕ) (accepted' written' : ℕ) : Type 0 where
-    -- the accepted ids, the same at each server
+    -- the entered ids, the same at each server
     pub ids : List ℕ
     pub distinct : Distinct ids
-    pub same-ids : (i : ℕ) → i < 𝓢 .servers → Rearranged (acceptedAt document01 poolOf i) ids
+    pub same-ids : (i : ℕ) → i < 𝓢 .servers → Rearranged (enteredAt document01 poolOf i) ids
     -- it is refused 14 at most; else their number stands behind `accepted`
     pub number : a ≡ check (leb (4 * publishedIn (columns document01 poolOf)) (length out)) 14
     pub count : a ≡ 0 → accepted' ≡ length ids
@@ -97,7 +101,7 @@ module _ (𝓢 : Servers) where
     pub totals : a ≡ 0 → take written' out'
         ≡ bytesOfAll 4 (map (λ e. sumOver (λ id. addedEntry document01 poolOf id e) ids % document01 .modulus)
         (publishedFrom 0 (columns document01 poolOf)))
-    -- where every accepted return keeps its form the sum itself
+    -- where every entered return keeps its form the sum itself
     pub whole : ((id : ℕ) → In id ids → KeepsForm document01 poolOf id) → a ≡ 0 → take written' out'
         ≡ bytesOfAll 4 (map (λ e. sumOver (λ id. addedEntry document01 poolOf id e) ids) (publishedFrom 0 (columns document01 poolOf)))
 
@@ -108,6 +112,8 @@ module _ (𝓢 : Servers) where
     -- demand 3 of the pool, and its conditions by what the C calls were handed and wrote: the rounds that returned 0 are those
     -- that the rules do not refuse
     pub whole : WholeRun document01 poolOf
+    -- what servers come to that stopped between verdict and entry and go on
+    pub resumes : Resumes document01 poolOf
     pub rounds : (i : ℕ) → i < 𝓢 .servers
         → over (roundsIn (𝓢 .servers)) (𝓢 .log i .calls)
         ≡ handedIn document01 (openedAt document01 poolOf i) empty (map callOf (𝓢 .log i .calls))

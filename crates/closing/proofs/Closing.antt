@@ -1,4 +1,4 @@
--- A close: refused where the table is unsound or closed, a return waits, too few are accepted, or the buffer is too short; else
+-- A close: refused where the table is unsound or closed, a return waits, too few are entered, or the buffer is too short; else
 -- the closing message is written and the stage stored. The totals of a table are whole elements, so the bytes of what they say are
 -- those that stand there. Assumes that the members of the table are bytes, where it is said.
 use mathlib.Core.Path.{_≡_, refl, sym, ap, _∙_}
@@ -23,7 +23,7 @@ use Rattle.rules.specs.Settings.{document01}
 use Rattle.rules.specs.Columns.{check}
 use Rattle.rules.specs.Server.{whileOpen, closeRefusal, totalsLength, totalsMessage}
 use Rattle.rules.specs.WaitingList.{waitingCount}
-use Rattle.rules.specs.Table.{Lent, acceptedIn, leastIn, openedIn, stageIn, tableState, totalsPlace, closeRefused, closeTable, closeBytes}
+use Rattle.rules.specs.Table.{Lent, enteredIn, leastIn, openedIn, stageIn, tableState, totalsPlace, closeRefused, closeTable, closeBytes}
 use Rattle.layout.specs.Places.{totalsAt}
 use Rattle.layout.specs.Numbers.{tableOf}
 use Rattle.layout.specs.Writing.{closingBytes, Closable}
@@ -84,10 +84,10 @@ module _ (T : Lent) (out : List ℕ) (written : ℕ) where
     abbrev checks : ℕ → ℕ
     checks n =
         orElse (check (eqb n 0) 11)
-        (orElse (check (leb (leastIn document01 (T .bytes)) (acceptedIn document01 (T .bytes))) 15)
+        (orElse (check (leb (leastIn document01 (T .bytes)) (enteredIn document01 (T .bytes))) 15)
         (check (leb (totalsLength document01 (openedIn document01 (T .bytes))) (length out)) 14))
 
-    counts-are : (k .least ≡ leastIn document01 (T .bytes)) × (k .accepted ≡ acceptedIn document01 (T .bytes))
+    counts-are : (k .least ≡ leastIn document01 (T .bytes)) × (k .entered ≡ enteredIn document01 (T .bytes))
     unfolding tableOf
     counts-are = rw (s .says) (refl, refl)
 
@@ -110,19 +110,19 @@ module _ (T : Lent) (out : List ℕ) (written : ℕ) where
       unfolding orElse
       close-waits z = refused 11 (open-is ∙ rw (ne-eqb n 0 z)) (λ z. omega arith)
 
-      pub close-few : n ≡ 0 → k .accepted < k .least → Closes T out written 15 (T .bytes) out written
+      pub close-few : n ≡ 0 → k .entered < k .least → Closes T out written 15 (T .bytes) out written
       unfolding orElse
       close-few none few =
-          let less : leb (leastIn document01 (T .bytes)) (acceptedIn document01 (T .bytes)) ≡ false =
-          lt-leb (leastIn document01 (T .bytes)) (acceptedIn document01 (T .bytes)) (omega (arith, counts-are .0, counts-are .1)) in
+          let less : leb (leastIn document01 (T .bytes)) (enteredIn document01 (T .bytes)) ≡ false =
+          lt-leb (leastIn document01 (T .bytes)) (enteredIn document01 (T .bytes)) (omega (arith, counts-are .0, counts-are .1)) in
           refused 15 (open-is ∙ rw (eq-eqb n 0 none, less)) (λ z. omega arith)
 
-      module _ (none : n ≡ 0) (enough : k .least ≤ k .accepted) where
+      module _ (none : n ≡ 0) (enough : k .least ≤ k .entered) where
         room-is : closeRefused document01 T (length out) ≡ check (leb (6 + 4 * k .published) (length out)) 14
         unfolding orElse
         room-is =
-            let reached : leb (leastIn document01 (T .bytes)) (acceptedIn document01 (T .bytes)) ≡ true =
-            le-leb (leastIn document01 (T .bytes)) (acceptedIn document01 (T .bytes)) (omega (arith, counts-are .0, counts-are .1)) in
+            let reached : leb (leastIn document01 (T .bytes)) (enteredIn document01 (T .bytes)) ≡ true =
+            le-leb (leastIn document01 (T .bytes)) (enteredIn document01 (T .bytes)) (omega (arith, counts-are .0, counts-are .1)) in
             open-is ∙ rw (eq-eqb n 0 none, reached, published-is)
 
         pub close-narrow : length out < 6 + 4 * k .published → Closes T out written 14 (T .bytes) out written

@@ -13,7 +13,7 @@ use table::read;
 use waiting::place_of;
 use waiting::writing::refused;
 
-// Drops the return that waits under an id. The id stays used.
+// Drops the return that waits under an id, in whichever stage. The id stays used.
 pub fn drop(table: &mut [u8], list: [Slot; 8], numbers: &mut [u32], id: u32) -> Change
     ensures { λ r. ⌜ Drops (lent (now (table .entry)) list (now (numbers .entry))) id r (now (table .exit)) (now (numbers .exit)) ⌝ }
 {
@@ -32,7 +32,7 @@ pub fn drop(table: &mut [u8], list: [Slot; 8], numbers: &mut [u32], id: u32) -> 
     }
 }
 
-// Closes a table in which nothing waits and at least Q returns are accepted: its accepted count and totals go into the closing message,
+// Closes a table in which nothing waits and at least Q returns are entered: their count and the totals go into the closing message,
 // and it takes nothing more.
 pub fn close(
     table: &mut [u8],
@@ -53,7 +53,7 @@ pub fn close(
             if waiting::count(list) != 0 {
                 return 11;
             }
-            if k.accepted < k.least {
+            if k.entered < k.least {
                 return 15;
             }
             let size = 6 + 4 * k.published;

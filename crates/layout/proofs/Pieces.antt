@@ -43,24 +43,24 @@ start-written s servers own returns least n h =
     (grow s 0 (counts ++ bytesOf 2 least) (bytesOf 2 n) 12 twelve (omega arith))
 
 -- ---- a return noted among those decided
-pub noted-written : (k : Table) (accepted id : ℕ) (t : List ℕ) → headerLength ≤ length t
+pub noted-written : (k : Table) (entered id : ℕ) (t : List ℕ) → headerLength ≤ length t
     → splice
-    (splice (splice t 6 (bytesOf 2 (k .decided + 1))) 8 (bytesOf 2 (k .accepted + accepted)))
+    (splice (splice t 6 (bytesOf 2 (k .decided + 1))) 8 (bytesOf 2 (k .entered + entered)))
     (idsAt (k .sheet) (k .published) + 4 * k .decided) (bytesOf 4 id)
-    ≡ noted k accepted id t
+    ≡ noted k entered id t
 unfolding noted
-noted-written k accepted id t h =
+noted-written k entered id t h =
     let two : length (bytesOf 2 (k .decided + 1)) ≡ 2 = length-bytes 2 (k .decided + 1) in
-    rw (grow t 6 (bytesOf 2 (k .decided + 1)) (bytesOf 2 (k .accepted + accepted)) 2 two (omega arith)) refl
+    rw (grow t 6 (bytesOf 2 (k .decided + 1)) (bytesOf 2 (k .entered + entered)) 2 two (omega arith)) refl
 
 -- ---- the closing message
 pub closing-written : (k : Table) (t out : List ℕ) → 6 ≤ length out
-    → splice (splice out 0 (totalsHeader (k .own) (k .accepted))) 6
+    → splice (splice out 0 (totalsHeader (k .own) (k .entered))) 6
     (take (idsAt (k .sheet) (k .published) - totalsAt (k .sheet)) (drop (totalsAt (k .sheet)) t))
     ≡ splice out 0 (closingBytes k t)
 unfolding closingBytes
 closing-written k t out h =
     let e : idsAt (k .sheet) (k .published) - totalsAt (k .sheet) ≡ 4 * k .published = omega arith in
     rw e
-    (grow out 0 (totalsHeader (k .own) (k .accepted)) (part (totalsAt (k .sheet)) (4 * k .published) t) 6
-    (length-totals-header (k .own) (k .accepted)) (omega arith))
+    (grow out 0 (totalsHeader (k .own) (k .entered)) (part (totalsAt (k .sheet)) (4 * k .published) t) 6
+    (length-totals-header (k .own) (k .entered)) (omega arith))

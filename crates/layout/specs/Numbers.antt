@@ -6,7 +6,7 @@ use lib.ListN.{length}
 use Rattle.rules.specs.Settings.{document01}
 use Rattle.rules.specs.Columns.{entriesIn, publishedIn}
 use Rattle.rules.specs.Circuit.{gatesIn, testsIn}
-use Rattle.rules.specs.Table.{stageByte, serversIn, ownIn, returnsIn, decidedIn, acceptedIn, leastIn, sheetSize, columnsIn}
+use Rattle.rules.specs.Table.{stageByte, serversIn, ownIn, returnsIn, decidedIn, enteredIn, leastIn, sheetSize, columnsIn}
 use Rattle.layout.specs.declared.Table.{Table}
 
 -- what a table says, by rules
@@ -18,7 +18,7 @@ tableOf T =
       own = ownIn document01 T;
       returns = returnsIn document01 T;
       decided = decidedIn document01 T;
-      accepted = acceptedIn document01 T;
+      entered = enteredIn document01 T;
       least = leastIn document01 T;
       sheet = sheetSize document01 T;
       columns = length (columnsIn document01 T);

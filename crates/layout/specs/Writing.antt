@@ -17,9 +17,9 @@ startBytes servers own returns least n =
 
 -- a table with the counts and the id of one return more that is decided
 unfoldable pub noted : Table → ℕ → ℕ → List ℕ → List ℕ
-noted k accepted id t =
+noted k entered id t =
     splice
-    (splice t 6 (bytesOf 2 (k .decided + 1) ++ bytesOf 2 (k .accepted + accepted)))
+    (splice t 6 (bytesOf 2 (k .decided + 1) ++ bytesOf 2 (k .entered + entered)))
     (idsAt (k .sheet) (k .published) + 4 * k .decided)
     (bytesOf 4 id)
 
@@ -28,11 +28,11 @@ pub record Decidable (t : List ℕ) (k : Table) : Type 0 where
   pub limited : Limited k
   pub ids-long : lengthAt (k .sheet) (k .published) (k .returns) ≤ length t
   pub some-room : k .decided < k .returns
-  pub accepted-few : k .accepted ≤ k .decided
+  pub entered-few : k .entered ≤ k .decided
 
 -- the closing message: rules' closeBytes
 unfoldable pub closingBytes : Table → List ℕ → List ℕ
-closingBytes k t = totalsHeader (k .own) (k .accepted) ++ part (totalsAt (k .sheet)) (4 * k .published) t
+closingBytes k t = totalsHeader (k .own) (k .entered) ++ part (totalsAt (k .sheet)) (4 * k .published) t
 
 -- the totals lie within the slice, and the buffer has room
 pub record Closable (t : List ℕ) (k : Table) (room : ℕ) : Type 0 where

@@ -21,7 +21,7 @@ pub struct Table {
     pub own: u32,
     pub returns: u32,
     pub decided: u32,
-    pub accepted: u32,
+    pub entered: u32,
     pub least: u32,
     // the bytes of the sheet
     pub sheet: usize,

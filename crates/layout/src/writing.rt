@@ -38,13 +38,13 @@ pub fn write_start(t: &mut [u8], servers: u8, own: u8, returns: u32, least: u32,
 }
 
 // Notes a return among those decided: the counts, and its id.
-pub fn note_decided(t: &mut [u8], k: Table, accepted: u32, id: u32)
-    requires { ⌜ Decidable (now t) k × (accepted ≤ 1) ⌝ }
-    ensures { λ _. ⌜ now (t .exit) ≡ noted k accepted id (now (t .entry)) ⌝ }
+pub fn note_decided(t: &mut [u8], k: Table, entered: u32, id: u32)
+    requires { ⌜ Decidable (now t) k × (entered ≤ 1) ⌝ }
+    ensures { λ _. ⌜ now (t .exit) ≡ noted k entered id (now (t .entry)) ⌝ }
 {
     let decided = k.decided;
     words::write_u16(t, 6, decided + 1);
-    words::write_u16(t, 8, k.accepted + accepted);
+    words::write_u16(t, 8, k.entered + entered);
     words::write_u32(t, k.ids_place() + 4 * (decided as usize), id);
 }
 
@@ -53,7 +53,7 @@ pub fn write_closing(t: &[u8], k: Table, out: &mut [u8])
     requires { ⌜ Closable (now t) k (length (now out)) ⌝ }
     ensures { λ _. ⌜ now (out .exit) ≡ splice (now (out .entry)) 0 (closingBytes k (now (t .entry))) ⌝ }
 {
-    totals_message::write_totals_header(out, k.own as u8, k.accepted);
+    totals_message::write_totals_header(out, k.own as u8, k.entered);
     let start = k.totals_place();
     let end = k.ids_place();
     words::copy(out, 6, &t[start..end]);

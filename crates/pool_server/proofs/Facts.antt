@@ -16,11 +16,11 @@ use Rattle.slots.specs.Slots.{freeSlot, eightOf, applied, cleared}
 use Rattle.rules.specs.Settings.{document01}
 use Rattle.rules.specs.Columns.{columnsOf}
 use Rattle.rules.specs.Messages.{roundLength}
-use Rattle.rules.specs.Server.{totalsLength, shareRefusal, oneRefusal, twoRefusal, dropRefusal, closeRefusal}
+use Rattle.rules.specs.Server.{totalsLength, shareRefusal, oneRefusal, twoRefusal, enterRefusal, dropRefusal, closeRefusal}
 use Rattle.rules.specs.WaitingList.{runSize}
 use Rattle.rules.specs.Table.{Lent, tableState, tableSound, shareRefused, shareTable, shareBytes, oneRefused, oneTable, oneBytes}
-use Rattle.rules.specs.Table.{twoRefused, twoTable, twoVerdict, dropRefused, dropTable, closeRefused, closeTable, closeBytes, openedIn}
-use Rattle.rules.specs.Table.{openRoom, openLength, openBytes, openedTable}
+use Rattle.rules.specs.Table.{twoRefused, twoTable, twoVerdict, enterRefused, dropRefused}
+use Rattle.rules.specs.Table.{closeRefused, closeTable, closeBytes, openedIn, openRoom, openLength, openBytes, openedTable}
 use Rattle.rules.proofs.Histories.Opening.{opening}
 use Rattle.waiting.specs.Changes.{lent, unlessRefused}
 use Rattle.opening.specs.Calls.{Opens, refusalOf}
@@ -28,7 +28,7 @@ use Rattle.closing.specs.Calls as closing
 use Rattle.shares.specs.Calls.{Shares}
 use Rattle.round_one.specs.Calls.{RoundOne}
 use Rattle.round_two.specs.Calls.{RoundTwo}
-use Rattle.pool_server.specs.Calls.{TakesShare, TakesOne, Decides, Drops, Closes}
+use Rattle.pool_server.specs.Calls.{TakesShare, TakesOne, Decides, Closes}
 use Rattle.pool_server.specs.Calls as promise
 use Rattle.pool_server.proofs.Eight.{unsound-refused, fault-same, left-same, answer-is, in-range, leaves}
 
@@ -114,26 +114,14 @@ twos ys {t} {es} {id} {joined} {v} {c} {t'} {ys'} {es'} {v'} h e =
       accepted-is = h .accepted-is ∙ left-same fault refuses t ys es (λ T. cond (twoVerdict document01 T joined) 1 0) v;
     }
 
--- ---- a drop
-drop-refuses : (id : ℕ) (T : Lent) → tableSound document01 T ≡ false → dropRefused document01 T id ≡ 11
+-- ---- an entry and a drop: the table decides before they do, and their promises follow (ById)
+pub enter-refuses : (id : ℕ) (T : Lent) → tableSound document01 T ≡ false → enterRefused document01 T id ≡ 11
+unfolding enterRefused
+enter-refuses id = unsound-refused (λ T. enterRefusal (tableState document01 T) id)
+
+pub drop-refuses : (id : ℕ) (T : Lent) → tableSound document01 T ≡ false → dropRefused document01 T id ≡ 11
 unfolding dropRefused
 drop-refuses id = unsound-refused (λ T. dropRefusal (tableState document01 T) id)
-
-pub drop-in-range : (ys : List Slot) (id : ℕ) {t es : List ℕ} {c : Change} {t' es' : List ℕ}
-    → closing.Drops (lent t (eightOf ys) es) id c t' es' → c .refusal ≡ 0 → c .at < length ys
-drop-in-range ys id {t} {es} {c} {t'} {es'} h =
-    in-range (λ T. dropRefused document01 T id) (drop-refuses id) t ys es (λ T. dropTable document01 T id) c t' es' h
-
-pub drops : (ys : List Slot) (id : ℕ) {t es : List ℕ} {c : Change} {t' : List ℕ} {ys' : List Slot} {es' : List ℕ}
-    → closing.Drops (lent t (eightOf ys) es) id c t' es' → ys' ≡ applied ys c
-    → Drops (lent t ys es) id (c .refusal) (lent t' ys' es')
-drops ys id {t} {es} {c} {t'} {ys'} {es'} h e =
-    let fault : Lent → ℕ = λ T. dropRefused document01 T id in
-    let new : Lent → Lent = λ T. dropTable document01 T id in
-    record {
-      answer-is = answer-is fault (drop-refuses id) t ys es new c t' es' h;
-      table-is = leaves fault (drop-refuses id) t ys es new c t' es' h ys' e;
-    }
 
 -- ---- a close: the records stay, eight or not
 close-refuses : (room : ℕ) (T : Lent) → tableSound document01 T ≡ false → closeRefused document01 T room ≡ 11

@@ -12,7 +12,7 @@ use Rattle.rules.specs.Settings.{document01}
 use Rattle.rules.specs.Messages.{roundLength}
 use Rattle.rules.specs.Server.{totalsLength}
 use Rattle.rules.specs.Table.{Lent, openLength, openedTable, shareRefused, shareTable, shareBytes}
-use Rattle.rules.specs.Table.{oneRefused, oneTable, oneBytes, twoRefused, twoVerdict, twoTable}
+use Rattle.rules.specs.Table.{oneRefused, oneTable, oneBytes, twoRefused, twoVerdict, twoTable, enterRefused, enterTable}
 use Rattle.rules.specs.Table.{dropRefused, dropTable, closeRefused, closeTable, closeBytes, openedIn}
 use Rattle.rules.specs.Pools.{opensIn}
 use Rattle.waiting.specs.Changes.{unlessRefused}
@@ -47,6 +47,11 @@ pub record Decides (T : Lent) (id : ℕ) (joined : List ℕ) (accepted a : ℕ) 
   pub answer-is : a ≡ twoRefused document01 T id joined
   pub table-is : Leaves (twoRefused document01 T id joined) (twoTable document01 T id joined) T T'
   pub accepted-is : accepted' ≡ ifDone (twoRefused document01 T id joined) (cond (twoVerdict document01 T joined) 1 0) accepted
+
+-- pool_enter
+pub record Enters (T : Lent) (id a : ℕ) (T' : Lent) : Type 0 where
+  pub answer-is : a ≡ enterRefused document01 T id
+  pub table-is : Leaves (enterRefused document01 T id) (enterTable document01 T id) T T'
 
 -- pool_drop
 pub record Drops (T : Lent) (id a : ℕ) (T' : Lent) : Type 0 where

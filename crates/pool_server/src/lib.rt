@@ -1,10 +1,10 @@
 // The C functions of a server, on its table of three lent parts: bytes, the waiting list, and the run of numbers. All but
-// pool_open copy the eight records and hand them to one call by value; the share, the rounds and the drop write back the one
-// record that the call changed, and pool_open clears all. None has rules of its own.
+// pool_open copy the eight records and hand them to one call by value; the share, the rounds, the entry and the drop write back the
+// one record that the call changed, and pool_open clears all. None has rules of its own.
 // include/pool.h tells a host how to use them. Each takes any arguments and returns 0 or the number of the refusal; the
 // promises (specs/Calls) are equalities with rules' definitions at document 01's setting.
 ghost use Rattle.waiting.specs.Changes.{lent};
-ghost use Rattle.pool_server.specs.Calls.{Opens, TakesShare, TakesOne, Decides, Drops, Closes};
+ghost use Rattle.pool_server.specs.Calls.{Opens, TakesShare, TakesOne, Decides, Enters, Drops, Closes};
 use slots::Slot;
 
 #[no_mangle]
@@ -95,6 +95,22 @@ pub extern "C" fn pool_round_two(
 {
     let list = slots::copied(slots);
     let change = round_two::round_two(table, list, elements, id, joined, accepted);
+    slots::apply(slots, change);
+    change.refusal
+}
+
+#[no_mangle]
+pub extern "C" fn pool_enter(
+    table: &mut [u8],
+    slots: &mut [Slot],
+    elements: &mut [u32],
+    id: u32,
+) -> u32
+    ensures { λ a. ⌜ Enters (lent (now (table .entry)) (now (slots .entry)) (now (elements .entry))) id
+        a (lent (now (table .exit)) (now (slots .exit)) (now (elements .exit))) ⌝ }
+{
+    let list = slots::copied(slots);
+    let change = entering::enter(table, list, elements, id);
     slots::apply(slots, change);
     change.refusal
 }

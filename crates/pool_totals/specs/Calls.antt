@@ -10,7 +10,7 @@ use Rattle.rules.specs.Settings.{document01}
 use Rattle.rules.specs.Columns.{columnsOf, publishedIn}
 use Rattle.rules.specs.Joining.{joinRefusal, joinCount, joinBytes}
 
--- pool_join: the totals, and the count of accepted returns
+-- pool_join: the totals, and the count of entered returns
 pub record Joins (servers : ℕ) (sheet : List ℕ) (returns : ℕ) (joined out : List ℕ) (accepted written : ℕ)
     (a : ℕ) (out' : List ℕ) (accepted' written' : ℕ) : Type 0 where
   pub totals : Writes (joinRefusal document01 servers sheet returns joined (length out))

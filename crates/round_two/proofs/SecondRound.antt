@@ -3,11 +3,12 @@
 use mathlib.Core.Path.{_≡_, refl, sym, ap, _∙_}
 use mathlib.Core.Bool.{Bool, true, false, cond, _&&_}
 use mathlib.Core.List.{List, [], _∷_}
-use Prim.Native.Nat.{ℕ, _≤_}
+use Prim.Native.Nat.{ℕ}
 use native.Mathlib.Omega.{arith}
 use borrow.Author.Tests.{ne-eqb}
-use lib.Dec.{eqb}
+use lib.Dec.{lit≤, eqb}
 use Rattle.records.specs.Answers.{ifDone}
+use Rattle.slots.specs.declared.Slot.{Slot}
 use Rattle.slots.specs.declared.Change.{Change}
 use Rattle.slots.specs.Slots.{freeSlot, applied}
 use Rattle.rules.specs.Settings.{document01}
@@ -17,7 +18,7 @@ use Rattle.rules.specs.Server as rules
 use Rattle.rules.specs.Server.{twoRefusal, messageTwo}
 use Rattle.rules.specs.WaitingList.{waitingAt, placeOf}
 use Rattle.rules.specs.Table.{Lent, serversIn, ownIn, openedIn, tableState, tableSound, waitingUnder}
-use Rattle.rules.specs.Table.{addedBytes, decidedBytes, decidedTable, twoRefused, twoVerdict, twoTable}
+use Rattle.rules.specs.Table.{twoRefused, twoVerdict, acceptedTable, twoTable}
 use Rattle.round_message.specs.Rounds.{Summable}
 use Rattle.round_message.proofs.Rounds.{rounds-summable}
 use Rattle.layout.specs.Numbers.{tableOf}
@@ -26,16 +27,14 @@ use Rattle.waiting.specs.declared.Waiting.{Waiting}
 use Rattle.waiting.specs.Held.{heldAt}
 use Rattle.waiting.specs.Changes.{refusedBy, recordsAt, lent}
 use Rattle.waiting.proofs.Changes.{refused-changes, done-changes}
-use Rattle.table.specs.Deciding.{Decided}
+use Rattle.table.specs.Deciding.{Placed, Decided}
 use Rattle.table.proofs.Decided.{placed, decided-is}
-use Rattle.rounds.specs.Waits.{numbersIn, heldIn, shareIn}
+use Rattle.rounds.specs.Waits.{numbersIn, heldIn}
 use Rattle.rounds.specs.Named.{waitsAs, namedIn}
-use Rattle.rounds.specs.Totals.{withPublished}
 use Rattle.rounds.specs.declared.named.Named.the-variants as answer
-use Rattle.rounds.proofs.Holding.{share-is, sigma-is, adds}
-use Rattle.rounds.proofs.AddedColumns.{added-is}
+use Rattle.rounds.proofs.Holding.{sigma-is}
 use Rattle.rounds.proofs.Naming.{two-refusal, not-found, Names}
-use Rattle.round_two.specs.Two.{twoFaultAt, Settles, addedIf}
+use Rattle.round_two.specs.Two.{twoFaultAt, acceptedSlot}
 use Rattle.round_two.specs.Calls.{RoundTwo}
 
 -- ---- the verdict
@@ -52,16 +51,6 @@ module _ (servers : ℕ) (joined : List ℕ) (x : ℕ) (e : x ≡ firstSum docum
     pub both-zero : y ≡ 0 → _≡_ {A = ℕ} 1 (cond (bothZero document01 servers joined) 1 0)
     unfolding bothZero
     both-zero w = rw (← e, ← g, z, w)
-
--- ---- the bytes before the return is decided
-module _ (accepted : ℕ) (k : Table) (j : ℕ) (es t : List ℕ) where
-  pub added-none : accepted ≡ 0 → addedIf accepted k j es t ≡ t
-  unfolding addedIf
-  added-none e = rw e
-
-  pub added-some : (accepted ≡ 0 → ⊥) → addedIf accepted k j es t ≡ withPublished t (shareIn k j es)
-  unfolding addedIf
-  added-some n = rw (ne-eqb accepted 0 n)
 
 module _ (T : Lent) (id : ℕ) (joined : List ℕ) where
   -- ---- the refusal: what rules checks of the return
@@ -95,33 +84,27 @@ module _ (T : Lent) (id : ℕ) (joined : List ℕ) where
     verdict-is : a ≡ cond (twoVerdict document01 T joined) 1 0
     verdict-is = v ∙ rw (n .waits .sound .says, verdict-at)
 
-    verdict-most : a ≤ 1
-    verdict-most = go (twoVerdict document01 T joined) verdict-is
+    is-rejected : a ≡ 0 → twoVerdict document01 T joined ≡ false
+    is-rejected z = go (twoVerdict document01 T joined) verdict-is
       where
-        go : (b : Bool) → a ≡ cond b 1 0 → a ≤ 1
-        go true e = omega arith
-        go false e = omega arith
+        go : (b : Bool) → a ≡ cond b 1 0 → b ≡ false
+        go true e = absurd (omega arith)
+        go false e = refl
 
-    table-is : decidedTable document01 T id (decidedBytes document01 T a id (addedIf a k j (T .elements) (T .bytes)))
-        ≡ twoTable document01 T id joined
-    unfolding twoTable addedIf
-    table-is = go (twoVerdict document01 T joined) verdict-is
+    is-accepted : (a ≡ 0 → ⊥) → twoVerdict document01 T joined ≡ true
+    is-accepted h = go (twoVerdict document01 T joined) verdict-is
       where
-        go : (b : Bool) → a ≡ cond b 1 0
-            → decidedTable document01 T id
-            (decidedBytes document01 T a id (cond (eqb a 0) (T .bytes) (withPublished (T .bytes) (shareIn k j (T .elements)))))
-            ≡ decidedTable document01 T id
-            (cond b (decidedBytes document01 T 1 id (addedBytes document01 T id)) (decidedBytes document01 T 0 id (T .bytes)))
-        go true e = rw (e, share-is T k (n .waits .sound .says) j, added-is T id j (n .place-is))
-        go false e = rw e
+        go : (b : Bool) → a ≡ cond b 1 0 → b ≡ true
+        go true e = refl
+        go false e = absurd (h e)
 
-    pub second-settles : Settles (T .bytes) (T .elements) k j a
-    second-settles =
-        let s = n .waits in
-        record {
-          adds = adds T k j s (shareIn k j (T .elements)) (share-is T k (s .sound .says) j);
-          placed = placed T k (s .sound) j (s .within) (s .not-free) (T .bytes) refl a verdict-most;
-        }
+  accepted-at : (j : ℕ) → j ≡ placeOf id (T .slots)
+      → lent (T .bytes) (applied (T .slots) (recordsAt j (acceptedSlot (heldIn T j)))) (T .elements) ≡ acceptedTable document01 T id
+  unfolding applied acceptedTable waitingAt heldAt
+  accepted-at j e = rw e
+
+  pub second-placed : (k : Table) (j : ℕ) (w : Waiting) → Names T id 2 k j w → Placed (T .bytes) k (T .elements) j 0
+  second-placed k j w n = placed T k (n .waits .sound) j (n .waits .within) (n .waits .not-free) (T .bytes) refl 0 (lit≤ tt)
 
   -- ---- the call
   module _ (accepted : ℕ) where
@@ -156,20 +139,30 @@ module _ (T : Lent) (id : ℕ) (joined : List ℕ) where
         unfolding twoFaultAt
         second-summable = rounds-summable (k .servers) 35 (w .id) (k .own) _ joined (sym e ∙ z)
 
-        pub second-done : (a : ℕ) → a ≡ cond (bothZero document01 (k .servers) joined) 1 0 → (c : Change) (t es : List ℕ)
-            → Decided k j a id (addedIf a k j (T .elements) (T .bytes)) (T .elements) c t es → RoundTwo T id joined accepted c t es a
-        unfolding ifDone
-        second-done a v c t es d =
-            let refusal = twoRefused document01 T id joined in
-            let none : refusal ≡ 0 = fault-is ∙ z in
-            let s = n .waits .sound in
-            let q = decided-is T k s a id (addedIf a k j (T .elements) (T .bytes)) j (n .place-is) c t es d in
-            let l : lent t (applied (T .slots) (recordsAt j freeSlot)) es ≡ twoTable document01 T id joined
-            = rw (d .frees) at (q ∙ table-is k j w n a v) in
-            record {
-              changes =
-                  rw (d .frees)
-                  (done-changes refusal (twoTable document01 T id joined) T j freeSlot t es none
-                  (omega (arith, n .waits .within, s .eight)) l);
-              accepted-is = verdict-is k j w n a v ∙ rw none;
-            }
+        module _ (a : ℕ) (v : a ≡ cond (bothZero document01 (k .servers) joined) 1 0) where
+          -- the record y at its place, the bytes t and the numbers es are those of rules' table
+          done-by : (y : Slot) (t es : List ℕ) → lent t (applied (T .slots) (recordsAt j y)) es ≡ twoTable document01 T id joined
+              → RoundTwo T id joined accepted (recordsAt j y) t es a
+          unfolding ifDone
+          done-by y t es l =
+              let refusal = twoRefused document01 T id joined in
+              let none : refusal ≡ 0 = fault-is ∙ z in
+              record {
+                changes =
+                    done-changes refusal (twoTable document01 T id joined) T j y t es none
+                    (omega (arith, n .waits .within, n .waits .sound .eight)) l;
+                accepted-is = verdict-is k j w n a v ∙ rw none;
+              }
+
+          pub second-rejected : a ≡ 0 → (c : Change) (t es : List ℕ) → Decided k j 0 id (T .bytes) (T .elements) c t es
+              → RoundTwo T id joined accepted c t es a
+          unfolding twoTable
+          second-rejected q c t es d =
+              let l = decided-is T k (n .waits .sound) 0 id (T .bytes) j (n .place-is) c t es d in
+              rw (d .frees) (done-by freeSlot t es (rw (d .frees) at l ∙ rw (is-rejected k j w n a v q)))
+
+          pub second-accepted : (a ≡ 0 → ⊥) → (y : Slot) → y ≡ acceptedSlot w
+              → RoundTwo T id joined accepted (recordsAt j y) (T .bytes) (T .elements) a
+          unfolding twoTable
+          second-accepted h y e =
+              done-by y (T .bytes) (T .elements) (rw (e, n .says, is-accepted k j w n a v h) (accepted-at j (n .place-is)))

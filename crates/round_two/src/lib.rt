@@ -1,28 +1,28 @@
-// Round two on a server's table: the refusal, the verdict, and what it does to the table. The definitions that the contracts cite
-// are those of the crate rules, at document 01's setting, and of specs/. A refusal leaves the table as it was.
+// Round two on a server's table: the refusal, the verdict, and what it does to the table. An accepted return awaits its entry, a
+// rejected one is decided. The definitions that the contracts cite are those of the crate rules, at document 01's setting, and of
+// specs/. A refusal leaves the table as it was.
 ghost use mathlib.Core.Path.{_≡_};
 ghost use mathlib.Core.Bool.{cond};
 ghost use Rattle.rules.specs.Settings.{document01};
 ghost use Rattle.rules.specs.Messages.{bothZero};
 ghost use Rattle.round_message.specs.Rounds.{Summable};
 ghost use Rattle.waiting.specs.Changes.{lent};
-ghost use Rattle.table.specs.Deciding.{Decided};
 ghost use Rattle.rounds.specs.Waits.{Sharing};
-ghost use Rattle.round_two.specs.Two.{twoFaultAt, Settles, addedIf};
+ghost use Rattle.round_two.specs.Two.{twoFaultAt, acceptedSlot};
 ghost use Rattle.round_two.specs.Calls.{RoundTwo};
 use layout::Table;
 use round_message::LENGTH_TWO;
-use rounds::adding::add_published;
 use rounds::named::Named;
 use rounds::named::find;
 use rounds::named::numbers_at;
-use rounds::named::share_at;
 use rounds::own::sigma_of;
 use slots::Change;
 use slots::Slot;
 use table::deciding::decide;
+use waiting::AWAITS_ENTRY;
 use waiting::AWAITS_TWO;
 use waiting::Waiting;
+use waiting::writing::records;
 use waiting::writing::refused;
 
 // The refusal by the joined messages: 12, or 0 for none.
@@ -50,27 +50,21 @@ fn verdict(joined: &[u8], servers: u32) -> u32
     1
 }
 
-// Decides the return at a place, under its id: where it is accepted its published entries are added to the totals.
-fn settle(
-    table: &mut [u8],
-    numbers: &mut [u32],
-    k: Table,
-    at: usize,
-    id: u32,
-    accepted: u32,
-) -> Change
-    requires { ⌜ Settles (now table) (now numbers) k at accepted ⌝ }
-    ensures { λ r. ⌜ Decided k at accepted id (addedIf accepted k at (now (numbers .entry)) (now (table .entry)))
-        (now (numbers .entry)) r (now (table .exit)) (now (numbers .exit)) ⌝ }
+// The record of a return that is accepted: as it was, but in the stage that awaits its entry.
+fn accepted_slot(w: Waiting) -> Slot
+    ensures { λ r. ⌜ r ≡ acceptedSlot w ⌝ }
 {
-    if accepted == 0 {
-        return decide(table, k, numbers, at, accepted, id);
+    Slot {
+        id: w.id,
+        stage: AWAITS_ENTRY,
+        r: w.r,
+        s: w.s,
+        d: w.d as u64,
+        e: w.e as u64,
     }
-    add_published(table, k, share_at(numbers, k, at));
-    decide(table, k, numbers, at, accepted, id)
 }
 
-// Takes the joined messages of round two for an id, and decides the return.
+// Takes the joined messages of round two for an id: an accepted return only changes its stage, a rejected one is decided.
 pub fn round_two(
     table: &mut [u8],
     list: [Slot; 8],
@@ -91,7 +85,10 @@ pub fn round_two(
             }
             let both = verdict(joined, k.servers);
             *accepted = both;
-            settle(table, numbers, k, at, id, both)
+            if both == 0 {
+                return decide(table, k, numbers, at, 0, id);
+            }
+            records(at, accepted_slot(w))
         }
     }
 }

@@ -1,16 +1,14 @@
 -- A return that waits in a record of a sound table: the numbers of its place as the code cuts them out, that they are elements,
 -- and its sigma. The table's laws give what its record keeps to (`waits-at`), and the places are rules'. Assumes nothing.
 use mathlib.Core.Path.{_≡_, refl, sym, _∙_}
-use mathlib.Core.Bool.{false, _&&_}
+use mathlib.Core.Bool.{false}
 use mathlib.Core.List.{List}
 use Prim.Native.Nat.{ℕ, _+_, _*_, _≤_, _<_}
 use native.Mathlib.Omega.{arith}
 use lib.ListN.{length, getD, take, drop}
 use lib.Seq.{getD-take, take-take}
-use Rattle.algebra.proofs.Members.{and-left, and-right}
-use Rattle.words.specs.Bytes.{allBelow}
 use Rattle.words.proofs.Splice.{length-part}
-use Rattle.words.proofs.Below.{all-of-below, below-of-all, all-take}
+use Rattle.words.proofs.Below.{all-of-below}
 use Rattle.field.specs.Residues.{prime, Elements}
 use Rattle.field.proofs.Below.{member-below}
 use Rattle.rules.specs.Settings.{document01}
@@ -19,8 +17,8 @@ use Rattle.rules.specs.Circuit.{gatesIn}
 use Rattle.rules.specs.Judging.{aOf, bOf, cOf, shareSize}
 use Rattle.rules.specs.Server as rules
 use Rattle.rules.specs.Server.{sigmaIn}
-use Rattle.rules.specs.WaitingList.{isFree, waitingCount, waitingSound}
-use Rattle.rules.specs.Table.{Lent, columnsIn, columnsAt, totalsIn, openedIn, headerSound, countsSound, tableSound}
+use Rattle.rules.specs.WaitingList.{isFree}
+use Rattle.rules.specs.Table.{Lent, columnsIn, columnsAt, openedIn}
 use Rattle.limits.specs.Sheets.{sizeOf}
 use Rattle.rules.proofs.Histories.OwnMessages.{pair-below}
 use Rattle.layout.specs.Places.{placeSizeOf}
@@ -30,11 +28,9 @@ use Rattle.waiting.specs.Held.{heldAt}
 use Rattle.waiting.specs.declared.Waiting.{Waiting}
 use Rattle.waiting.proofs.Places.{place-within}
 use Rattle.table.specs.Reading.{Sound}
-use Rattle.table.proofs.Answers.{headed-of}
 use Rattle.table.proofs.Waiting as table
 use Rattle.table.proofs.Waiting.{numbers-are}
 use Rattle.rounds.specs.Waits.{slotIn, numbersIn, heldIn, Waits, placeIn, shareIn, InRun, Sharing, sigmaAt}
-use Rattle.rounds.specs.Totals.{Adds}
 
 -- ---- the numbers of a place lie within the run
 pub run-fits : (es : List ℕ) (k : Table) (j : ℕ) → InRun es k j → (z : ℕ) → z ≡ placeSizeOf (k .entries) (k .gates)
@@ -134,24 +130,3 @@ module _ (T : Lent) (k : Table) (j : ℕ) (w : Waits T k j) where
         d-below = w .d-below;
         e-below = w .e-below;
       })
-
-  -- its published entries can be added
-  pub adds : (xs : List ℕ) → xs ≡ take (shareSize (columnsAt document01 T)) (numbersIn T j) → Adds (T .bytes) k xs
-  unfolding tableSound
-  adds xs e =
-      let counts = countsSound document01 (T .bytes) (waitingCount (T .slots)) in
-      let totals = allBelow prime (totalsIn document01 (T .bytes)) in
-      let last = waitingSound document01 (columnsAt document01 T) (T .slots) (T .elements) in
-      let n = shareSize (columnsAt document01 T) in
-      let long : length (take n (numbersIn T j)) ≡ n
-      = length-part 0 n (numbersIn T j) (omega (arith, numbers-long, size-is T k (w .sound .says))) in
-      record {
-        headed = headed-of T k (w .sound);
-        long = w .sound .long;
-        totals-below =
-            and-left totals last
-            (and-right counts (totals && last)
-            (and-right (headerSound document01 (T .bytes)) (counts && (totals && last)) (w .sound .is-sound)));
-        share-long = rw e (omega (arith, long, size-is T k (w .sound .says)));
-        share-below = rw e (below-of-all prime (take n (numbersIn T j)) (all-take (λ a. a < prime) n elements));
-      }

@@ -1,7 +1,3 @@
--- Laws of what the rounds share: the return that a call names and its refusal, sigma, and the adding of published entries.
+-- Laws of what the calls share that name a return: the return and the refusal of the call, and sigma.
 pub mod Holding
 pub mod Naming
-pub mod AddedWords
-pub mod PublishedEntries
-pub mod PublishedSums
-pub mod AddedColumns

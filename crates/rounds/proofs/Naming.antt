@@ -16,8 +16,8 @@ use Rattle.rules.specs.Settings.{document01}
 use Rattle.rules.specs.Columns.{check}
 use Rattle.rules.specs.Keyed.{find}
 use Rattle.rules.specs.Server as rules
-use Rattle.rules.specs.Server.{Wait, awaitsOne, awaitsTwo, heldId, whileOpen, whileOne, whileTwo}
-use Rattle.rules.specs.WaitingList.{placeOf}
+use Rattle.rules.specs.Server.{Wait, heldId, whileOpen, whileOne, whileTwo, whileEntry}
+use Rattle.rules.specs.WaitingList.{placeOf, waitAs}
 use Rattle.rules.specs.Table.{Lent, stageByte, stageIn, tableSound, tableFault, waitingUnder}
 use Rattle.layout.specs.Numbers.{tableOf}
 use Rattle.layout.specs.declared.Table.{Table}
@@ -36,10 +36,17 @@ sound-of : (T : Lent) → tableSound document01 T ≡ true → Sound T (tableOf 
 unfolding foundIn
 sound-of T e = sound T (tableOf (T .bytes)) (rw e)
 
+-- ---- the stages of a record that is not free
+by-stage : (P : ℕ → Type 0) → P 1 → P 2 → P 3 → (m : ℕ) → m ≤ 3 → (m ≡ 0 → ⊥) → P m
+by-stage P a b c zero l h = absurd (h refl)
+by-stage P a b c (suc zero) l h = a
+by-stage P a b c (suc (suc zero)) l h = b
+by-stage P a b c (suc (suc (suc zero))) l h = c
+by-stage P a b c (suc (suc (suc (suc m)))) l h = absurd (omega arith)
+
 -- ---- the refusal of a call that takes the stage n, and says f of the return
 module _ (T : Lent) (id n : ℕ) (while : Option Wait → ℕ) (f : rules.Waiting → ℕ) (at-none : while none ≡ 11)
-    (at-some : (m : ℕ) (w : rules.Waiting) → m ≤ 2 → (m ≡ 0 → ⊥)
-    → while (some (cond (eqb m 1) (awaitsOne w) (awaitsTwo w))) ≡ cond (eqb m n) (f w) 11) where
+    (at-some : (m : ℕ) (w : rules.Waiting) → m ≤ 3 → (m ≡ 0 → ⊥) → while (some (waitAs m w)) ≡ cond (eqb m n) (f w) 11) where
   abbrev inside : ℕ
   inside = whileOpen (stageIn document01 T) (λ ws. while (find heldId id ws))
 
@@ -80,24 +87,25 @@ module _ (T : Lent) (id n : ℕ) (while : Option Wait → ℕ) (f : rules.Waitin
 module _ (T : Lent) (id : ℕ) (f : rules.Waiting → ℕ) where
   pub one-refusal : orElse (tableFault document01 T) (whileOpen (stageIn document01 T) (λ ws. whileOne (find heldId id ws) f))
       ≡ cond (tableSound document01 T && waitsAs T id 1) (f (waitingUnder document01 T id)) 11
-  unfolding whileOne
-  one-refusal = named-refusal T id 1 (λ w. whileOne w f) f refl (λ m w l h. go (eqb m 1) w)
-    where
-      go : (b : Bool) (w : rules.Waiting) → whileOne (some (cond b (awaitsOne w) (awaitsTwo w))) f ≡ cond b (f w) 11
-      go true w = refl
-      go false w = refl
+  unfolding whileOne waitAs
+  one-refusal =
+      named-refusal T id 1 (λ x. whileOne x f) f refl
+      (λ m w. by-stage (λ m. whileOne (some (waitAs m w)) f ≡ cond (eqb m 1) (f w) 11) refl refl refl m)
 
   pub two-refusal : orElse (tableFault document01 T) (whileOpen (stageIn document01 T) (λ ws. whileTwo (find heldId id ws) f))
       ≡ cond (tableSound document01 T && waitsAs T id 2) (f (waitingUnder document01 T id)) 11
-  unfolding whileTwo
-  two-refusal = named-refusal T id 2 (λ w. whileTwo w f) f refl go
-    where
-      go : (m : ℕ) (w : rules.Waiting) → m ≤ 2 → (m ≡ 0 → ⊥)
-          → whileTwo (some (cond (eqb m 1) (awaitsOne w) (awaitsTwo w))) f ≡ cond (eqb m 2) (f w) 11
-      go zero w l h = absurd (h refl)
-      go (suc zero) w l h = refl
-      go (suc (suc zero)) w l h = refl
-      go (suc (suc (suc m))) w l h = absurd (omega arith)
+  unfolding whileTwo waitAs
+  two-refusal =
+      named-refusal T id 2 (λ x. whileTwo x f) f refl
+      (λ m w. by-stage (λ m. whileTwo (some (waitAs m w)) f ≡ cond (eqb m 2) (f w) 11) refl refl refl m)
+
+pub enter-refusal : (T : Lent) (id : ℕ)
+    → orElse (tableFault document01 T) (whileOpen (stageIn document01 T) (λ ws. whileEntry (find heldId id ws)))
+    ≡ cond (tableSound document01 T && waitsAs T id 3) 0 11
+unfolding whileEntry waitAs
+enter-refusal T id =
+    named-refusal T id 3 whileEntry (λ _. 0) refl
+    (λ m w. by-stage (λ m. whileEntry (some (waitAs m w)) ≡ cond (eqb m 3) 0 11) refl refl refl m)
 
 -- ---- what the code finds
 module _ (T : Lent) (id n : ℕ) where

@@ -1,4 +1,3 @@
 -- What the contracts of this crate cite besides rules and waiting.
 pub mod Waits
 pub mod Named
-pub mod Totals

@@ -1,5 +1,3 @@
-// What the two rounds share: the return that a call names and the numbers of its place, sigma, and the totals with the published
-// entries of a share.
-pub mod adding;
+// What the calls share that name a return in the stage that they take: the return and the numbers of its place, and sigma.
 pub mod named;
 pub mod own;

@@ -7,6 +7,7 @@ pub mod Opening
 pub mod PoolOpened
 pub mod Shuffled
 pub mod Keyed
+pub mod Those
 pub mod AnyOrder
 pub mod Challenges
 pub mod WrittenRuns
@@ -14,4 +15,9 @@ pub mod Moves
 pub mod NotesGrow
 pub mod Origins
 pub mod Summing
+pub mod Decisions
+pub mod Answers
+pub mod Ended
+pub mod Judged
+pub mod Standing
 pub mod OwnMessages

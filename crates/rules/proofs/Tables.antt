@@ -4,6 +4,7 @@ pub mod State
 pub mod Sound
 pub mod Writes
 pub mod Listed
+pub mod Changed
 pub mod Invariant
 pub mod Refusals
 pub mod Passed

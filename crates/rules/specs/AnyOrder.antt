@@ -15,7 +15,7 @@ use Rattle.rules.specs.Columns.{check}
 use Rattle.rules.specs.Messages.{serverIn, roundLength, placeIn, serverAt, roundSound, roundFault, challengeFault}
 use Rattle.rules.specs.Keyed.{find}
 use Rattle.rules.specs.Server.{ServerState, heldId, messageOne, messageTwo, whileOpen, whileOne, whileTwo}
-use Rattle.rules.specs.Ledger.{Call, share, roundOne, roundTwo, drop, close, Answer}
+use Rattle.rules.specs.Ledger.{Call, share, roundOne, roundTwo, enter, drop, close, Answer}
 use Rattle.rules.specs.Table.{Lent, tableFault, tableState}
 use Rattle.rules.specs.Runs.{tableRefusal, tableSays, tableStep}
 
@@ -48,6 +48,7 @@ unfoldable pub refusalInOrder : Setting → Lent → Call → ℕ
 refusalInOrder σ T (share m r s room) = tableRefusal σ T (share m r s room)
 refusalInOrder σ T (roundOne id joined room) = orElse (tableFault σ T) (oneInOrder σ (tableState σ T) id joined room)
 refusalInOrder σ T (roundTwo id joined) = orElse (tableFault σ T) (twoInOrder σ (tableState σ T) id joined)
+refusalInOrder σ T (enter id) = tableRefusal σ T (enter id)
 refusalInOrder σ T (drop id) = tableRefusal σ T (drop id)
 refusalInOrder σ T (close room) = tableRefusal σ T (close room)
 

@@ -14,7 +14,7 @@ use Rattle.rules.specs.Making.{message}
 use Rattle.rules.specs.Messages.{challengeFault}
 use Rattle.rules.specs.Ledger.{roundOne}
 use Rattle.rules.specs.Table.{Lent, shareRefused, shareBytes, oneRefused, oneBytes, twoRefused, dropRefused, dropTable, closeTable}
-use Rattle.rules.specs.Table.{acceptedIn}
+use Rattle.rules.specs.Table.{enteredIn}
 use Rattle.rules.specs.Runs.{tableRefusal, tableStep}
 use Rattle.rules.specs.Examples.{Row, row, P, σ, same, honest}
 use Rattle.rules.specs.SoundExamples.{fresh}
@@ -62,9 +62,9 @@ unequal = shareBytes σ (fresh 0) (shareIn honest 77 0) 4 9 ++ shareBytes σ (fr
 abbrev tried : ℕ → Lent
 tried i = tableStep σ (slipped i) (roundOne 77 unequal 14) (tableRefusal σ (slipped i) (roundOne 77 unequal 14))
 
--- dropped, it is not accepted
+-- dropped, it is not entered
 abbrev ended : ℕ → Bool
-ended i = eqb (dropRefused σ (tried i) 77) 0 && eqb (acceptedIn σ (dropTable σ (tried i) 77 .bytes)) 0
+ended i = eqb (dropRefused σ (tried i) 77) 0 && eqb (enteredIn σ (dropTable σ (tried i) 77 .bytes)) 0
 
 unfoldable pub typingSlip : List Row
 typingSlip =
@@ -76,7 +76,7 @@ typingSlip =
     ∷ row "with one pair the table moves on"
     (not (sameTable (tableStep σ (waiting 0) (roundOne 77 messages 14) (tableRefusal σ (waiting 0) (roundOne 77 messages 14))) (waiting 0)))
     ∷ row "it still awaits round one: round two is 11" (eqb (twoRefused σ (tried 0) 77 (twos fresh honest 77 4)) 11)
-    ∷ row "dropping ends it, and it is accepted nowhere" (every ended (0 ∷ 1 ∷ []))
+    ∷ row "dropping ends it, and it is entered nowhere" (every ended (0 ∷ 1 ∷ []))
     ∷ row "its id is used: 10" (eqb (shareRefused σ (dropTable σ (tried 1) 77) (shareIn honest 77 1) 4 9 22) 10)
     ∷ row "11 before 16" (eqb (oneRefused σ (slipped 0) 78 unequal 14) 11 && eqb (oneRefused σ (closeTable σ (slipped 0)) 77 unequal 14) 11)
     ∷ row "12 before 16: another's r is p" (eqb (oneRefused σ (slipped 0) 77 (splice unequal 36 (bytesOf 4 P)) 14) 12)

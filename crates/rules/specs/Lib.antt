@@ -1,9 +1,9 @@
 -- Document 01 as definitions, in the order of the paper: settings, columns, circuit, run, values, a return, judging,
 -- messages, one server, its waiting list and its table, joining, recount; the ledger of whole runs, joined messages in any
--- order and with one challenge, calls on several returns mixed, and what is promised of whole runs and of returns that making
--- wrote; the examples.
+-- order and with one challenge, calls on several returns mixed, and what is promised of whole runs, of returns that making
+-- wrote and of servers that go on after a stop; the examples.
 -- (Making names the size of a share from Judging; Keyed has lists whose members have an id.) Of document 02: columns with a top
--- stand among the others, and returns that wait and the least count in the rules of a server; behind the values every legal
+-- stand among the others, and returns that wait, their entry and the least count in the rules of a server; behind the values every legal
 -- return of a small sheet; behind recount room told from the sheet, and messages stored by place.
 pub mod Settings
 pub mod Columns
@@ -32,6 +32,7 @@ pub mod Mixing
 pub mod Pools
 pub mod WholeRun
 pub mod Made
+pub mod Resumed
 pub mod Examples
 pub mod CallExamples
 pub mod TopExamples
@@ -41,3 +42,4 @@ pub mod WaitingExamples
 pub mod OrderExamples
 pub mod ChallengeExamples
 pub mod LeastExamples
+pub mod EntryExamples

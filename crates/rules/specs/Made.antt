@@ -19,9 +19,9 @@ use Rattle.rules.specs.Making.{madeWhole, madeShare, shareMessage, share
 use Rattle.rules.specs.Messages.{idIn, elementsIn, headerFault, elementsFault, roundLength}
 use Rattle.rules.specs.Server.{mostWaiting, messageOne, messageTwo}
 use Rattle.rules.specs.Joining.{joinTotals}
-use Rattle.rules.specs.Ledger.{Call, share, wrote, judged, Pending, isOpen, empty, idsOf}
+use Rattle.rules.specs.Ledger.{Call, share, enter, wrote, judged, done, Pending, isOpen, empty, idsOf}
 use Rattle.rules.specs.Ledger.{noteOf, refusalOf, runLedger, ledgerAnswers}
-use Rattle.rules.specs.Pools.{Pool, columns, openedAt, ledgerAt, acceptedAt, notesAt, returnOf, KeepsForm, Conditions}
+use Rattle.rules.specs.Pools.{Pool, columns, openedAt, ledgerAt, enteredAt, notesAt, returnOf, KeepsForm, Conditions}
 use Rattle.rules.specs.Pools.{DeliveredWhole, AllClosed}
 use Rattle.rules.specs.WholeRun.{closings, bothRounds, firstWait, firsts, secondWait, seconds}
 
@@ -102,18 +102,20 @@ module _ (σ : Setting) (𝓟 : Pool σ) where
     pub enough : roundLength σ 34 ≤ room
     pub enough-one : roundLength σ 35 ≤ roundRoom
 
-  -- such servers accept a return that making wrote: each is handed its part of the bytes, and both rounds' messages as they
-  -- were written, in any order; it writes two messages and accepts
+  -- such servers accept and enter a return that making wrote: each is handed its part of the bytes, both rounds' messages as they
+  -- were written, in any order, and the entry; it writes two messages, accepts and enters
   abbrev pub MadeAccepted : ℕ → List ℕ → List ℕ → ℕ → ℕ → ℕ → ℕ → Type 0
   MadeAccepted id values random r s room roundRoom =
       let shares = shareMade σ (𝓟 .sheet) (𝓟 .servers) id values random in
       (i : ℕ) → i < 𝓟 .servers → (ones twos : List (List ℕ))
       → Rearranged ones (firsts σ 𝓟 id shares r s) → Rearranged twos (seconds σ 𝓟 id shares r s)
       → ledgerAnswers σ (openedAt σ 𝓟 i) (ledgerAt σ 𝓟 i)
-      (share (madePart σ (𝓟 .sheet) (𝓟 .servers) id values random i) r s room ∷ bothRounds id ones twos roundRoom)
+      (share (madePart σ (𝓟 .sheet) (𝓟 .servers) id values random i) r s room
+      ∷ (bothRounds id ones twos roundRoom ++ (enter id ∷ [])))
       ≡ wrote (messageOne σ (openedAt σ 𝓟 i) (firstWait σ 𝓟 id shares r s i))
       ∷ wrote (messageTwo σ (openedAt σ 𝓟 i) (secondWait σ 𝓟 id shares r s i))
       ∷ judged true
+      ∷ done
       ∷ []
 
   -- what joining the closing messages gives
@@ -121,12 +123,12 @@ module _ (σ : Setting) (𝓟 : Pool σ) where
   joinedTotals = joinTotals σ (𝓟 .servers) (𝓟 .sheet) (closings σ 𝓟)
 
   -- "joining gives their number and the sums of the added-up published entries": the joined totals of a closed pool where
-  -- each of the accepted ids was made of the values `values id`
+  -- each of the entered ids was made of the values `values id`
   pub record EncodedTotals (ids : List ℕ) (values : ℕ → List ℕ) : Type 0 where
     -- for each published entry, the sum of that entry of the encodings: a sum of whole numbers, not modulo p
     pub totals : joinedTotals
         ≡ map (λ e. sumOver (λ id. getD (encoding (columns σ 𝓟) (values id)) e 0) ids) (publishedFrom 0 (columns σ 𝓟))
-    -- behind the columns `before`: a yes/no column's total is the number of accepted returns that say yes
+    -- behind the columns `before`: a yes/no column's total is the number of entered returns that say yes
     pub yes-total : (before after : List Column) → columns σ 𝓟 ≡ before ++ (yesNo ∷ after)
         → getD joinedTotals (publishedIn before) 0 ≡ howMany (λ id. eqb (getD (values id) (length before) 0) 1) ids
     -- an option's total is the number of those that chose it
@@ -147,15 +149,15 @@ pub record MadeRun (σ : Setting) (𝓟 : Pool σ) : Type 0 where
       → makeRefusal σ (𝓟 .sheet) (𝓟 .servers) values random room ≡ 0 → id < 4294967296
       → ((i : ℕ) → i < 𝓟 .servers → Took σ 𝓟 i (madePart σ (𝓟 .sheet) (𝓟 .servers) id values random i))
       → MadeOf σ 𝓟 id (elementsOf 4 values)
-  -- 3. Servers that can take a return refuse nothing of one that making wrote, and accept it
+  -- 3. Servers that can take a return refuse nothing of one that making wrote, accept it and enter it
   pub accepted : (id : ℕ) (values random : List ℕ) (room : ℕ)
       → makeRefusal σ (𝓟 .sheet) (𝓟 .servers) values random room ≡ 0
       → (r s lent roundLent : ℕ) → CanTake σ 𝓟 id r s lent roundLent → MadeAccepted σ 𝓟 id values random r s lent roundLent
-  -- 4. When all servers have closed, and each return that server i accepted is delivered whole: the joined totals are sums of
+  -- 4. When all servers have closed, and each return that server i entered is delivered whole: the joined totals are sums of
   -- encodings, and column by column numbers of returns or sums of values
   pub totals : Conditions σ 𝓟 → AllClosed σ 𝓟 → (i : ℕ) → i < 𝓟 .servers
-      → (values : ℕ → List ℕ) → ((id : ℕ) → In id (acceptedAt σ 𝓟 i) → MadeOf σ 𝓟 id (values id))
-      → EncodedTotals σ 𝓟 (acceptedAt σ 𝓟 i) values
+      → (values : ℕ → List ℕ) → ((id : ℕ) → In id (enteredAt σ 𝓟 i) → MadeOf σ 𝓟 id (values id))
+      → EncodedTotals σ 𝓟 (enteredAt σ 𝓟 i) values
   -- 5. Any other return: if its added-up entries do not keep their form, at most p × max(2M + 1, K - 1) pairs let it in
   pub few : (id : ℕ) → (KeepsForm σ 𝓟 id → ⊥)
       → countPairs (σ .modulus) (σ .modulus) (letsIn σ (columns σ 𝓟) (𝓟 .servers) (returnOf σ 𝓟 id))

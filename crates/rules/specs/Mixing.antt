@@ -9,8 +9,8 @@ use Rattle.rules.specs.Settings.{Setting}
 use Rattle.rules.specs.Messages.{idIn}
 use Rattle.rules.specs.Server.{Opened}
 use Rattle.rules.specs.Keyed.{find, those}
-use Rattle.rules.specs.Ledger.{Call, share, roundOne, roundTwo, drop, close, Answer, Decided, Pending, pendingId, isOpen, waiting}
-use Rattle.rules.specs.Ledger.{Ledger, empty}
+use Rattle.rules.specs.Ledger.{Call, share, roundOne, roundTwo, enter, drop, close, Answer, Decided, Pending, pendingId}
+use Rattle.rules.specs.Ledger.{isOpen, waiting, Ledger, empty}
 use Rattle.rules.specs.Ledger.{refusalOf, answerOf, ledgerStep, ledgerSays, runLedger, ledgerAnswers}
 
 -- a call on an id
@@ -18,6 +18,7 @@ abbrev pub on : ℕ → Call → Bool
 on id (share m r s room) = eqb (idIn m) id
 on id (roundOne x joined room) = eqb x id
 on id (roundTwo x joined) = eqb x id
+on id (enter x) = eqb x id
 on id (drop x) = eqb x id
 on id (close room) = false
 

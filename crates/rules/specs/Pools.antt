@@ -2,7 +2,8 @@
 -- return.
 -- Assumes nothing.
 use mathlib.Core.Path.{_≡_}
-use mathlib.Core.Bool.{true, cond}
+use mathlib.Core.Logic.{_⊎_}
+use mathlib.Core.Bool.{Bool, true, false, cond}
 use mathlib.Core.List.{List, [], _∷_, _++_, map}
 use Prim.Native.Nat.{ℕ, _<_}
 use lib.Dec.{eqb}
@@ -19,11 +20,11 @@ use Rattle.rules.specs.Making.{madeShare, randomCount}
 use Rattle.rules.specs.Messages.{serverIn, placeIn}
 use Rattle.rules.specs.Server.{Opened}
 use Rattle.rules.specs.Table.{Lent, openRefusal, openedTable}
-use Rattle.rules.specs.Ledger.{Call, share, roundOne, roundTwo, drop, close, Answer, wrote}
-use Rattle.rules.specs.Ledger.{Note, Pending, waitsOne, noteIn, pendingId, isClosed, waiting, dropped, Decided, Ledger}
-use Rattle.rules.specs.Ledger.{isAccepted, isDropped, notesWith, idsOf, notesOf, refusalOf, ledgerStep, runLedger, ledgerAnswers}
-use Rattle.rules.specs.Ledger.{empty}
-use Rattle.rules.specs.Keyed.{under}
+use Rattle.rules.specs.Ledger.{Call, share, roundOne, roundTwo, enter, drop, close, Answer, wrote, judged, done}
+use Rattle.rules.specs.Ledger.{Note, Pending, waitsOne, noteIn, pendingId, isAccepted, isClosed, waiting, dropped, Decided, Ledger}
+use Rattle.rules.specs.Ledger.{isEntered, isRejected, isDropped, notesWith, idsOf, notesOf}
+use Rattle.rules.specs.Ledger.{refusalOf, ledgerStep, ledgerSays, runLedger, ledgerAnswers, empty}
+use Rattle.rules.specs.Keyed.{under, those}
 
 -- the bytes of a call are bytes
 abbrev pub Bytes : List ℕ → Type 0
@@ -33,6 +34,7 @@ abbrev pub BytesIn : Call → Type 0
 BytesIn (share m r s room) = Bytes m
 BytesIn (roundOne id joined room) = Bytes joined
 BytesIn (roundTwo id joined) = Bytes joined
+BytesIn (enter id) = Unit {0}
 BytesIn (drop id) = Unit {0}
 BytesIn (close room) = Unit {0}
 
@@ -74,8 +76,15 @@ module _ (σ : Setting) (𝓟 : Pool σ) where
   abbrev pub answersAt : ℕ → List Answer
   answersAt i = ledgerAnswers σ (openedAt i) empty (𝓟 .calls i)
 
+  -- the ids that are accepted there and wait for entry; entered; rejected; dropped
   abbrev pub acceptedAt : ℕ → List ℕ
-  acceptedAt i = idsOf (notesWith isAccepted (ledgerAt i .decided))
+  acceptedAt i = map pendingId (those isAccepted (waiting (ledgerAt i .progress)))
+
+  abbrev pub enteredAt : ℕ → List ℕ
+  enteredAt i = idsOf (notesWith isEntered (ledgerAt i .decided))
+
+  abbrev pub rejectedAt : ℕ → List ℕ
+  rejectedAt i = idsOf (notesWith isRejected (ledgerAt i .decided))
 
   abbrev pub droppedAt : ℕ → List ℕ
   droppedAt i = idsOf (notesWith isDropped (ledgerAt i .decided))
@@ -98,6 +107,7 @@ module _ (σ : Setting) (o : Opened) where
   callMessages (share m r s room) = []
   callMessages (roundOne id joined room) = messagesIn σ (o .servers) 34 joined
   callMessages (roundTwo id joined) = messagesIn σ (o .servers) 35 joined
+  callMessages (enter id) = []
   callMessages (drop id) = []
   callMessages (close room) = []
 
@@ -106,6 +116,13 @@ module _ (σ : Setting) (o : Opened) where
   handedIn l [] = []
   handedIn l (c ∷ cs) =
       cond (eqb (refusalOf σ o l c) 0) (callMessages c) [] ++ handedIn (ledgerStep σ o l c (refusalOf σ o l c)) cs
+
+  -- somewhere in a list of calls, from a ledger on, a call had this answer
+  pub record AnsweredIn (l : Ledger) (cs : List Call) (c : Call) (a : Answer) : Type 0 where
+    pub before : List Call
+    pub after : List Call
+    pub among : cs ≡ before ++ (c ∷ after)
+    pub answered : let m = runLedger σ o l before in ledgerSays σ o m c (refusalOf σ o m c) ≡ a
 
 module _ (σ : Setting) (𝓟 : Pool σ) where
   abbrev pub notesAt : ℕ → List Note
@@ -134,11 +151,12 @@ module _ (σ : Setting) (𝓟 : Pool σ) where
       (i : ℕ) → i < 𝓟 .servers → (m : List ℕ) → In m (handedIn σ (openedAt σ 𝓟 i) empty (𝓟 .calls i))
       → In (wrote m) (answersAt σ 𝓟 (serverIn m))
 
-  -- "Drops are in the same order when no id dropped at one server is accepted at another."
+  -- "Entries, like drops, reach every server in the same order: no id dropped at one server is entered at another, whatever its
+  -- verdict there."
   pub record Conditions : Type 0 where
     pub unaltered : Unaltered
     pub same-drops : (i j : ℕ) → i < 𝓟 .servers → j < 𝓟 .servers → (id : ℕ) → In id (droppedAt σ 𝓟 i)
-        → In id (acceptedAt σ 𝓟 j) → ⊥
+        → In id (enteredAt σ 𝓟 j) → ⊥
 
   -- "delivered whole when each server noted the share that making wrote for it"
   pub record DeliveredWhole (id : ℕ) : Type 0 where
@@ -150,13 +168,50 @@ module _ (σ : Setting) (𝓟 : Pool σ) where
     pub noted : (i : ℕ) → i < 𝓟 .servers
         → noteUnder id (notesAt i) .elements ≡ madeShare σ (columns σ 𝓟) (𝓟 .servers) values random i
 
-  -- A return judged to the end: each server took a share under its id, all with the pair that is noted here, and it is accepted
-  -- exactly when that pair lets it in
-  pub record JudgedByPair (k : Decided) : Type 0 where
-    pub taken : (i : ℕ) → i < 𝓟 .servers → In (k .note .id) (idsOf (notesAt i))
-    pub one-pair : OnePair (k .note .id) (k .note .r) (k .note .s)
-    pub verdict : isAccepted (k .decision)
-        ≡ letsIn σ (columns σ 𝓟) (𝓟 .servers) (returnOf (k .note .id)) (k .note .r) (k .note .s)
+  -- somewhere in server i's list a call had this answer
+  abbrev pub Answered : ℕ → Call → Answer → Type 0
+  Answered i c a = AnsweredIn σ (openedAt σ 𝓟 i) empty (𝓟 .calls i) c a
+
+  -- "It is judged to the end at each server that took a round two on it without refusal": server i answered a round two on the id by
+  -- this verdict
+  pub record JudgedToEnd (i id : ℕ) (verdict : Bool) : Type 0 where
+    pub joined : List ℕ
+    pub by : Answered i (roundTwo id joined) (judged verdict)
+
+  -- each server took a share under the id, all with one pair, and the verdict is whether that pair lets the return in
+  pub record JudgedByPair (id : ℕ) (verdict : Bool) : Type 0 where
+    pub r : ℕ
+    pub s : ℕ
+    pub taken : (i : ℕ) → i < 𝓟 .servers → In id (idsOf (notesAt i))
+    pub one-pair : OnePair id r s
+    pub verdict-is : verdict ≡ letsIn σ (columns σ 𝓟) (𝓟 .servers) (returnOf id) r s
+
+  -- the refusal of a call that server i gets next
+  abbrev pub refusalAt : ℕ → Call → ℕ
+  refusalAt i c = refusalOf σ (openedAt σ 𝓟 i) (ledgerAt σ 𝓟 i) c
+
+  -- "Round two now only gives the verdict": what server i's verdicts come to, and its entries and drops
+  pub record VerdictFirst (i : ℕ) : Type 0 where
+    -- an id that is accepted, entered or rejected was judged so; "An accepted return then waits until it is entered or dropped .. A
+    -- rejected one is decided straight away"
+    pub accepted-judged : (id : ℕ) → In id (acceptedAt σ 𝓟 i) → JudgedToEnd i id true
+    pub entered-judged : (id : ℕ) → In id (enteredAt σ 𝓟 i) → JudgedToEnd i id true
+    pub rejected-judged : (id : ℕ) → In id (rejectedAt σ 𝓟 i) → JudgedToEnd i id false
+    pub judged-accepted : (id : ℕ) → JudgedToEnd i id true
+        → In id (acceptedAt σ 𝓟 i) ⊎ (In id (enteredAt σ 𝓟 i) ⊎ In id (droppedAt σ 𝓟 i))
+    pub judged-rejected : (id : ℕ) → JudgedToEnd i id false → In id (rejectedAt σ 𝓟 i)
+    -- it is entered by an entry and dropped by a drop, and by no other call
+    pub entered-asked : (id : ℕ) → In id (enteredAt σ 𝓟 i) → Answered i (enter id) done
+    pub asked-entered : (id : ℕ) → Answered i (enter id) done → In id (enteredAt σ 𝓟 i)
+    pub dropped-asked : (id : ℕ) → In id (droppedAt σ 𝓟 i) → Answered i (drop id) done
+    pub asked-dropped : (id : ℕ) → Answered i (drop id) done → In id (droppedAt σ 𝓟 i)
+    pub dropped-not-entered : (id : ℕ) → In id (droppedAt σ 𝓟 i) → In id (enteredAt σ 𝓟 i) → ⊥
+    -- while it is accepted it can be entered, and can be dropped. "Entering a return that has no accepted verdict, or closing while one
+    -- waits for entry, is refused 11"
+    pub can-enter : (id : ℕ) → In id (acceptedAt σ 𝓟 i) → refusalAt i (enter id) ≡ 0
+    pub can-drop : (id : ℕ) → In id (acceptedAt σ 𝓟 i) → refusalAt i (drop id) ≡ 0
+    pub cannot-enter : (id : ℕ) → (In id (acceptedAt σ 𝓟 i) → ⊥) → refusalAt i (enter id) ≡ 11
+    pub cannot-close : (id : ℕ) → In id (acceptedAt σ 𝓟 i) → (room : ℕ) → refusalAt i (close room) ≡ 11
 
   -- "Unequal challenges no longer count as a verdict": server i refuses each round one on the id, wherever it stands in its list; a
   -- return under the id waits for round one, or it was dropped

@@ -6,15 +6,17 @@ use mathlib.Core.List.{List, [], _∷_}
 use Prim.Native.Nat.{ℕ}
 use lib.Dec.{eqb}
 use Rattle.rules.specs.Settings.{Setting}
-use Rattle.rules.specs.Ledger.{Call, share, roundOne, roundTwo, drop, close, Answer, refused, wrote, judged, done}
+use Rattle.rules.specs.Ledger.{Call, share, roundOne, roundTwo, enter, drop, close, Answer, refused, wrote, judged, done}
 use Rattle.rules.specs.Table.{Lent, shareRefused, shareTable, shareBytes, oneRefused, oneTable, oneBytes}
-use Rattle.rules.specs.Table.{twoRefused, twoVerdict, twoTable, dropRefused, dropTable, closeRefused, closeTable, closeBytes}
+use Rattle.rules.specs.Table.{twoRefused, twoVerdict, twoTable, enterRefused, enterTable, dropRefused, dropTable}
+use Rattle.rules.specs.Table.{closeRefused, closeTable, closeBytes}
 
 module _ (σ : Setting) where
   unfoldable pub tableRefusal : Lent → Call → ℕ
   tableRefusal T (share m r s room) = shareRefused σ T m r s room
   tableRefusal T (roundOne id joined room) = oneRefused σ T id joined room
   tableRefusal T (roundTwo id joined) = twoRefused σ T id joined
+  tableRefusal T (enter id) = enterRefused σ T id
   tableRefusal T (drop id) = dropRefused σ T id
   tableRefusal T (close room) = closeRefused σ T room
 
@@ -23,6 +25,7 @@ module _ (σ : Setting) where
   tableAfter T (share m r s room) = shareTable σ T m r s
   tableAfter T (roundOne id joined room) = oneTable σ T id joined
   tableAfter T (roundTwo id joined) = twoTable σ T id joined
+  tableAfter T (enter id) = enterTable σ T id
   tableAfter T (drop id) = dropTable σ T id
   tableAfter T (close room) = closeTable σ T
 
@@ -31,6 +34,7 @@ module _ (σ : Setting) where
   tableAnswer T (share m r s room) = wrote (shareBytes σ T m r s)
   tableAnswer T (roundOne id joined room) = wrote (oneBytes σ T id joined)
   tableAnswer T (roundTwo id joined) = judged (twoVerdict σ T joined)
+  tableAnswer T (enter id) = done
   tableAnswer T (drop id) = done
   tableAnswer T (close room) = wrote (closeBytes σ T)
 

@@ -1,6 +1,6 @@
--- Document 01, "Judging" and "Who can cause which refusal", and document 02, eight returns waiting, small pools stay shut and same
--- challenge: the rules of one server, as functions of what it knows. A table says what a server knows (Table), and so does the
--- ledger (Ledger).
+-- Document 01, "Judging" and "Who can cause which refusal", and document 02, eight returns waiting, small pools stay shut, same
+-- challenge and verdict first: the rules of one server, as functions of what it knows. A table says what a server knows (Table),
+-- and so does the ledger (Ledger).
 -- Assumes nothing.
 use mathlib.Core.Bool.{Bool, false, not, _||_}
 use mathlib.Core.List.{List, [], _∷_, _++_, map}
@@ -27,8 +27,8 @@ pub record Opened : Type 0 where
   pub returns : ℕ
   pub least : ℕ
 
--- A return that waits: its id, its pair, in the first wait d_i and e_i, in the second the sums d and e; r × h_i(r), tau_i
--- and the elements of the share
+-- A return that waits: its id, its pair, in the first wait d_i and e_i, afterwards the sums d and e; r × h_i(r), tau_i and the
+-- elements of the share
 pub record Waiting : Type 0 where
   pub id : ℕ
   pub r : ℕ
@@ -43,13 +43,15 @@ pub record Waiting : Type 0 where
 abbrev pub withSums : Waiting → ℕ → ℕ → Waiting
 withSums w d e = record { id = w .id; r = w .r; s = w .s; d = d; e = e; rh = w .rh; tau = w .tau; elements = w .elements }
 
--- "A table now holds up to eight unfinished returns, each with its own stage": it awaits round one or round two
+-- "A table now holds up to eight unfinished returns, each with its own stage": it awaits round one or round two; "An accepted return
+-- then waits until it is entered or dropped"
 pub data Wait : Type 0 where
-  awaitsOne awaitsTwo : Waiting → Wait
+  awaitsOne awaitsTwo awaitsEntry : Waiting → Wait
 
 abbrev pub held : Wait → Waiting
 held (awaitsOne w) = w
 held (awaitsTwo w) = w
+held (awaitsEntry w) = w
 
 abbrev pub heldId : Wait → ℕ
 heldId w = held w .id
@@ -63,12 +65,13 @@ pub data Stage : Type 0 where
   takes : List Wait → Stage
   closed : Stage
 
--- What a server knows: what it was opened with, its stage, the ids decided, the number accepted and the totals
+-- What a server knows: what it was opened with, its stage, the ids decided, the number entered and the totals. "The accepted count is
+-- of entered returns"
 pub record ServerState : Type 0 where
   pub opened : Opened
   pub stage : Stage
   pub used : List ℕ
-  pub accepted : ℕ
+  pub entered : ℕ
   pub totals : List ℕ
 
 -- whether x is among the members
@@ -144,11 +147,19 @@ unfoldable pub whileOne : Option Wait → (Waiting → ℕ) → ℕ
 whileOne none f = 11
 whileOne (some (awaitsOne w)) f = f w
 whileOne (some (awaitsTwo w)) f = 11
+whileOne (some (awaitsEntry w)) f = 11
 
 unfoldable pub whileTwo : Option Wait → (Waiting → ℕ) → ℕ
 whileTwo none f = 11
 whileTwo (some (awaitsOne w)) f = 11
 whileTwo (some (awaitsTwo w)) f = f w
+whileTwo (some (awaitsEntry w)) f = 11
+
+unfoldable pub whileEntry : Option Wait → ℕ
+whileEntry none = 11
+whileEntry (some (awaitsOne w)) = 11
+whileEntry (some (awaitsTwo w)) = 11
+whileEntry (some (awaitsEntry w)) = 0
 
 unfoldable pub whileWaiting : Option Wait → ℕ
 whileWaiting none = 11
@@ -184,14 +195,19 @@ twoRefusal σ k id joined =
     whileOpen (k .stage)
     (λ ws. whileTwo (find heldId id ws) (λ w. roundFault σ (o .servers) 35 (w .id) (o .own) (messageTwo σ o w) joined))
 
--- "Drop: 11." "Dropping is allowed while a return waits."
+-- "Entering a return that has no accepted verdict .. is refused 11."
+unfoldable pub enterRefusal : ServerState → ℕ → ℕ
+enterRefusal k id = whileOpen (k .stage) (λ ws. whileEntry (find heldId id ws))
+
+-- "Drop: 11." "Dropping is allowed while a return waits", also for its entry: "An accepted return then waits until it is entered or
+-- dropped"
 unfoldable pub dropRefusal : ServerState → ℕ → ℕ
 dropRefusal k id = whileOpen (k .stage) (λ ws. whileWaiting (find heldId id ws))
 
--- "Close: 11, 14." ".. or a close while any waits is refused 11." "Closing with fewer than Q accepted gives no totals .. too few
--- accepted is refused 15, between 11 and 14."
+-- "Close: 11, 14." ".. or a close while any waits is refused 11", "closing while one waits for entry" too. "Closing with fewer than Q
+-- accepted gives no totals .. too few accepted is refused 15, between 11 and 14", where "accepted now reads entered"
 unfoldable pub closeRefusal : Setting → ServerState → ℕ → ℕ
 closeRefusal σ k room =
     whileOpen (k .stage)
     (λ ws. orElse (check (eqb (length ws) 0) 11)
-    (orElse (check (leb (k .opened .least) (k .accepted)) 15) (check (leb (totalsLength σ (k .opened)) room) 14)))
+    (orElse (check (leb (k .opened .least) (k .entered)) 15) (check (leb (totalsLength σ (k .opened)) room) 14)))

@@ -31,12 +31,12 @@ withSlots T xs = record { bytes = T .bytes; slots = xs; elements = T .elements }
 abbrev pub withNumbers : Lent → List ℕ → Lent
 withNumbers T es = record { bytes = T .bytes; slots = T .slots; elements = es }
 
--- server 0's table with one byte changed, and with so many decided and accepted
+-- server 0's table with one byte changed, and with so many decided and entered
 abbrev changed : ℕ → ℕ → Lent
 changed place byte = withBytes (fresh 0) (set (fresh 0 .bytes) place byte)
 
 abbrev counted : ℕ → ℕ → Lent → Lent
-counted decided accepted T = withBytes T (splice (T .bytes) 6 (bytesOf 2 decided ++ bytesOf 2 accepted))
+counted decided entered T = withBytes T (splice (T .bytes) 6 (bytesOf 2 decided ++ bytesOf 2 entered))
 
 abbrev pub sized : ℕ → Lent
 sized n = withBytes (fresh 0) (take n (fresh 0 .bytes))
@@ -92,9 +92,9 @@ limits =
     ∷ row "no empty sheet" (not (sound (opened 0 [] 2)))
     ∷ row "b = 24: N = 128" (sound (opened 0 (19 ∷ 24 ∷ []) 128))
     ∷ row "b = 24: not N = 129" (not (sound (opened 0 (19 ∷ 24 ∷ []) 129)))
-    ∷ row "N decided, all accepted" (sound (counted 2 2 (fresh 0)))
+    ∷ row "N decided, all entered" (sound (counted 2 2 (fresh 0)))
     ∷ row "not over N decided" (not (sound (counted 3 0 (fresh 0))))
-    ∷ row "not more accepted than decided" (not (sound (counted 1 2 (fresh 0))))
+    ∷ row "not more entered than decided" (not (sound (counted 1 2 (fresh 0))))
     ∷ row "a total p - 1" (sound (withBytes (fresh 0) (splice (fresh 0 .bytes) 15 (bytesOf 4 (P - 1)))))
     ∷ row "no total p" (not (sound (withBytes (fresh 0) (splice (fresh 0 .bytes) 15 (bytesOf 4 P)))))
     ∷ row "eight records, not seven or nine"
@@ -104,10 +104,10 @@ limits =
     (eqb (length (fresh 0 .elements)) 88
     && (sound (withNumbers (fresh 0) (replicate 89 0)) && not (sound (withNumbers (fresh 0) (replicate 87 0)))))
     ∷ row "a return waits, in the first record or the last"
-    (sound (slotAt 0 (waitsAt 1)) && (sound (slotAt 7 (waitsAt 1)) && sound (slotAt 7 (waitsAt 2))))
-    ∷ row "no record with a stage 3" (not (sound (slotAt 0 (waitsAt 3)) || sound (slotAt 7 (waitsAt 3))))
+    (sound (slotAt 0 (waitsAt 1)) && (sound (slotAt 7 (waitsAt 1)) && (sound (slotAt 7 (waitsAt 2)) && sound (slotAt 7 (waitsAt 3)))))
+    ∷ row "no record with a stage 4" (not (sound (slotAt 0 (waitsAt 4)) || sound (slotAt 7 (waitsAt 4))))
     ∷ row "a return waits with N - 1 decided" (sound (counted 1 0 (slotAt 3 (waitsAt 2))))
-    ∷ row "not with N decided" (not (sound (counted 2 0 (slotAt 3 (waitsAt 1)))))
+    ∷ row "not with N decided" (not (sound (counted 2 0 (slotAt 3 (waitsAt 1))) || sound (counted 2 0 (slotAt 3 (waitsAt 3)))))
     ∷ row "not with r = M" (not (sound (fieldAt 0 1)))
     ∷ row "a free record holds anything" (sound (slotAt 7 (record { id = 9; stage = 0; r = P; s = P; d = P; e = P })))
     ∷ row "and so does its place" (sound (withNumbers (fresh 0) (replicate 88 P)))

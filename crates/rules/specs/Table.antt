@@ -8,7 +8,7 @@
 --   3              1       the server's own number
 --   4              2       N
 --   6              2       returns decided
---   8              2       returns accepted
+--   8              2       returns entered
 --   10             2       Q
 --   12             2       n, the length of the sheet
 --   14             n       the sheet
@@ -20,11 +20,11 @@
 -- refusal keeps them."
 -- While returns wait there is room for their ids: the returns decided and those that wait are at most N. Opening and the calls
 -- write 0 into the room for further ids, into free records and into the numbers of their places: a decided return leaves its
--- id and, where it is accepted, what its share adds to the totals.
+-- id and, where it is entered, what its share adds to the totals.
 -- A longer slice of bytes or of numbers holds a table too; what lies past the table is never read and never written. No fault
 -- in a table that is lent: other bytes in the room for further ids; which ids were decided; d, e, r × h(r) and tau that the
--- share does not give; totals that no accepted returns give; in a closed table, which every call refuses 11, returns that wait or
--- fewer than Q accepted.
+-- share does not give; totals that no entered returns give; in a closed table, which every call refuses 11, returns that wait or
+-- fewer than Q entered.
 -- Assumes nothing.
 use mathlib.Core.Bool.{Bool, cond, _&&_}
 use mathlib.Core.List.{List, [], _∷_, _++_}
@@ -42,9 +42,9 @@ use Rattle.rules.specs.Columns.{Column, check, serversFit, returnsFit, l
 use Rattle.rules.specs.Messages.{idIn, elementsIn, bothZero}
 use Rattle.rules.specs.Server.{Opened, Waiting, Stage, takes, closed, ServerState, mostWaiting, openFault, waitingOf}
 use Rattle.rules.specs.Server.{messageOne, messageTwo, summed, publishedShares, totalsMessage}
-use Rattle.rules.specs.Server.{shareRefusal, oneRefusal, twoRefusal, dropRefusal, closeRefusal}
-use Rattle.rules.specs.WaitingList.{stageOne, stageTwo, freePlace, placeOf, waitingCount, runSize, numbersAt, waitingAt}
-use Rattle.rules.specs.WaitingList.{waitsIn, waitingSound, slotOf, numbersOf, putNumbers, clearedNumbers, freeList}
+use Rattle.rules.specs.Server.{shareRefusal, oneRefusal, twoRefusal, enterRefusal, dropRefusal, closeRefusal}
+use Rattle.rules.specs.WaitingList.{stageOne, stageTwo, stageEntry, freePlace, placeOf, waitingCount, runSize, numbersAt}
+use Rattle.rules.specs.WaitingList.{waitingAt, waitsIn, waitingSound, slotOf, numbersOf, putNumbers, clearedNumbers, freeList}
 
 -- The three parts
 pub record Lent : Type 0 where
@@ -91,8 +91,8 @@ module _ (σ : Setting) (T : List ℕ) where
   abbrev pub decidedIn : ℕ
   decidedIn = valueOf (part 6 2 T)
 
-  abbrev pub acceptedIn : ℕ
-  acceptedIn = valueOf (part 8 2 T)
+  abbrev pub enteredIn : ℕ
+  enteredIn = valueOf (part 8 2 T)
 
   abbrev pub leastIn : ℕ
   leastIn = valueOf (part 10 2 T)
@@ -136,7 +136,7 @@ module _ (σ : Setting) (T : List ℕ) where
   countsSound waiting =
       totalsFit σ returnsIn columnsIn
       && (leb (tableLength σ sheetSize columnsIn returnsIn) (length T)
-      && (leb (decidedIn + waiting) returnsIn && leb acceptedIn decidedIn))
+      && (leb (decidedIn + waiting) returnsIn && leb enteredIn decidedIn))
 
 -- What a table says
 module _ (σ : Setting) (T : Lent) where
@@ -152,7 +152,7 @@ module _ (σ : Setting) (T : Lent) where
     opened = openedIn σ (T .bytes);
     stage = stageIn;
     used = idsIn σ (T .bytes);
-    accepted = acceptedIn σ (T .bytes);
+    entered = enteredIn σ (T .bytes);
     totals = totalsIn σ (T .bytes);
   }
 
@@ -248,9 +248,9 @@ module _ (σ : Setting) (T : Lent) where
 
   -- the bytes t with a return more that is decided: the counts, and its id
   unfoldable pub decidedBytes : ℕ → ℕ → List ℕ → List ℕ
-  decidedBytes accepted id t =
+  decidedBytes entered id t =
       splice
-      (splice t 6 (bytesOf 2 (decidedIn σ (T .bytes) + 1) ++ bytesOf 2 (acceptedIn σ (T .bytes) + accepted)))
+      (splice t 6 (bytesOf 2 (decidedIn σ (T .bytes) + 1) ++ bytesOf 2 (enteredIn σ (T .bytes) + entered)))
       (idsPlace σ (sheetSize σ (T .bytes)) cs (returnsIn σ (T .bytes)) + 4 * decidedIn σ (T .bytes))
       (bytesOf 4 id)
 
@@ -262,7 +262,7 @@ module _ (σ : Setting) (T : Lent) where
     elements = clearedNumbers cs (T .elements) (placeOf id (T .slots));
   }
 
-  -- "Then the published entries are added to the totals."
+  -- "Then the published entries are added to the totals": when it is entered
   unfoldable pub addedTotals : ℕ → List ℕ
   addedTotals id =
       tabulate
@@ -280,9 +280,22 @@ module _ (σ : Setting) (T : Lent) where
   unfoldable pub twoVerdict : List ℕ → Bool
   twoVerdict joined = bothZero σ (serversIn σ (T .bytes)) joined
 
+  -- "An accepted return then waits until it is entered or dropped": its record gets that stage, and all else stays
+  unfoldable pub acceptedTable : ℕ → Lent
+  acceptedTable id = record {
+    bytes = T .bytes;
+    slots = set (T .slots) (placeOf id (T .slots)) (slotOf stageEntry (waitingUnder id));
+    elements = T .elements;
+  }
+
   unfoldable pub twoTable : ℕ → List ℕ → Lent
-  twoTable id joined =
-      decidedTable id (cond (twoVerdict joined) (decidedBytes 1 id (addedBytes id)) (decidedBytes 0 id (T .bytes)))
+  twoTable id joined = cond (twoVerdict joined) (acceptedTable id) (decidedTable id (decidedBytes 0 id (T .bytes)))
+
+  unfoldable pub enterRefused : ℕ → ℕ
+  enterRefused id = orElse (tableFault σ T) (enterRefusal (tableState σ T) id)
+
+  unfoldable pub enterTable : ℕ → Lent
+  enterTable id = decidedTable id (decidedBytes 1 id (addedBytes id))
 
   unfoldable pub dropRefused : ℕ → ℕ
   dropRefused id = orElse (tableFault σ T) (dropRefusal (tableState σ T) id)
@@ -297,4 +310,4 @@ module _ (σ : Setting) (T : Lent) where
   closeTable = record { bytes = splice (T .bytes) 1 (stageClosed ∷ []); slots = T .slots; elements = T .elements }
 
   unfoldable pub closeBytes : List ℕ
-  closeBytes = totalsMessage σ (openedIn σ (T .bytes)) (acceptedIn σ (T .bytes)) (totalsIn σ (T .bytes))
+  closeBytes = totalsMessage σ (openedIn σ (T .bytes)) (enteredIn σ (T .bytes)) (totalsIn σ (T .bytes))

@@ -1,7 +1,7 @@
 -- Document 01, "Judging", "Whole runs" and "Who can cause which refusal": calls on a server's table by rows that compute: on the
 -- tables of two servers, the orders of refusals, and what is kept of a return. SoundExamples has the tables within the limits,
 -- WaitingExamples the rows about several returns that wait, OrderExamples those about joined messages in any order,
--- ChallengeExamples those about r and s in them, LeastExamples those about the least count.
+-- ChallengeExamples those about r and s in them, LeastExamples those about the least count, EntryExamples those about entering.
 -- Assumes nothing.
 use mathlib.Core.Bool.{Bool, _&&_, _||_, not}
 use mathlib.Core.List.{List, [], _∷_, _++_}
@@ -12,10 +12,10 @@ use Rattle.algebra.specs.Lists.{every, tabulate}
 use Rattle.words.specs.Bytes.{bytesOf, bytesOfAll, splice}
 use Rattle.slots.specs.declared.Slot.{Slot}
 use Rattle.rules.specs.Making.{shareMessage, makeRefusal}
-use Rattle.rules.specs.Table.{Lent, acceptedIn, totalsIn, unusedIn, openRefusal, shareRefused, shareTable, shareBytes}
+use Rattle.rules.specs.Table.{Lent, enteredIn, totalsIn, unusedIn, openRefusal, shareRefused, shareTable, shareBytes}
 use Rattle.rules.specs.Table.{oneRefused, oneTable}
-use Rattle.rules.specs.Table.{oneBytes, twoRefused, twoVerdict, twoTable, dropRefused, dropTable, closeRefused, closeTable}
-use Rattle.rules.specs.Table.{closeBytes}
+use Rattle.rules.specs.Table.{oneBytes, twoRefused, twoVerdict, twoTable, enterRefused, enterTable, dropRefused, dropTable}
+use Rattle.rules.specs.Table.{closeRefused, closeTable, closeBytes}
 use Rattle.rules.specs.Joining.{joinRefusal, joinCount, joinTotals}
 use Rattle.rules.specs.Examples.{Row, row, P, σ, same, random, honest, cheat}
 use Rattle.rules.specs.SoundExamples.{fresh, sized, slotAt, waitsAt}
@@ -41,11 +41,15 @@ module _ (T : ℕ → Lent) (x : ℕ → ℕ → ℕ) (id r : ℕ) where
   abbrev pub judgedBy : ℕ → Lent
   judgedBy i = twoTable σ (summedUp i) id twos
 
--- after an honest return under 77; then after a false one under 78 with r = 3; then closed
-abbrev pub first : ℕ → Lent
-first = judgedBy fresh honest 77 4
+  -- and entered
+  abbrev pub enteredBy : ℕ → Lent
+  enteredBy i = enterTable σ (judgedBy i) id
 
-abbrev second : ℕ → Lent
+-- after an honest return under 77 was entered; then after a false one under 78 with r = 3; then closed
+abbrev pub first : ℕ → Lent
+first = enteredBy fresh honest 77 4
+
+abbrev pub second : ℕ → Lent
 second = judgedBy first cheat 78 3
 
 abbrev joinedTotals : List ℕ
@@ -79,11 +83,11 @@ onTables =
     ∷ row "below N a broken share is 7" (eqb (shareRefused σ (first 0) broken 3 9 22) 7)
     ∷ row "closing is not refused" (eqb (closeRefused σ (second 0) 10) 0)
     ∷ row "joining is not refused" (eqb (joinRefusal σ 2 (17 ∷ []) 2 joinedTotals 4) 0)
-    ∷ row "one return was accepted" (eqb (joinCount joinedTotals) 1)
+    ∷ row "one return was entered" (eqb (joinCount joinedTotals) 1)
     ∷ row "the total is 1" (same (joinTotals σ 2 (17 ∷ []) joinedTotals) (1 ∷ []))
-    ∷ row "an accepted id used again: 10" (eqb (shareRefused σ (first 0) shareOf77 4 9 22) 10)
+    ∷ row "an entered id used again: 10" (eqb (shareRefused σ (first 0) shareOf77 4 9 22) 10)
     ∷ row "a dropped id used again: 10" (eqb (shareRefused σ (afterDrop 0) shareOf77 4 9 22) 10)
-    ∷ row "a dropped return is not added" (same (totalsIn σ (afterDrop 0 .bytes)) (0 ∷ []) && eqb (acceptedIn σ (afterDrop 0 .bytes)) 0)
+    ∷ row "a dropped return is not added" (same (totalsIn σ (afterDrop 0 .bytes)) (0 ∷ []) && eqb (enteredIn σ (afterDrop 0 .bytes)) 0)
     ∷ row "own round message altered: 12" (eqb (oneRefused σ (waiting 0) 77 (set messages 6 255) 14) 12)
     ∷ row "another's sound message is not compared" (eqb (oneRefused σ (waiting 0) 77 (set messages 28 7) 14) 0)
     ∷ row "messages of another id: 12" (eqb (oneRefused σ (waiting 0) 77 (ones fresh honest 78 4) 14) 12)
@@ -175,7 +179,10 @@ otherOrders =
     ∷ row "round two: 11, awaits round one" (eqb (twoRefused σ (waiting 0) 77 broken) 11)
     ∷ row "round two: 12" (eqb (twoRefused σ (summedUp fresh honest 77 4 0) 77 broken) 12)
     ∷ row "close: 11, a return waits" (eqb (closeRefused σ (waiting 0) 9) 11)
-    ∷ row "close: 15, none accepted" (eqb (closeRefused σ (fresh 0) 9) 15)
+    -- entering knows 11 alone
+    ∷ row "entering: 11, nothing waits; entered"
+    (eqb (enterRefused σ (fresh 0) 77) 11 && eqb (enterRefused σ (judgedBy fresh honest 77 4 0) 77) 0)
+    ∷ row "close: 15, none entered" (eqb (closeRefused σ (fresh 0) 9) 15)
     ∷ row "close: 14, room for 9 bytes" (eqb (closeRefused σ (first 0) 9) 14)
     ∷ row "close: taken" (eqb (closeRefused σ (first 0) 10) 0)
     -- "Joining: S, sheet, N, 4, 12, 14."
@@ -202,9 +209,12 @@ unfoldable pub erasures : List Row
 erasures =
     row "a fresh table" (nothingKept (fresh 0))
     ∷ row "a return that waits is kept" (not (nothingKept (waiting 0) || nothingKept (summedUp fresh honest 77 4 0)))
-    ∷ row "nothing but its id after it was accepted" (nothingKept (first 0) && nothingKept (first 1))
+    ∷ row "and so it is once it is accepted" (not (nothingKept (judgedBy fresh honest 77 4 0)))
+    ∷ row "nothing but its id after it was entered" (nothingKept (first 0) && nothingKept (first 1))
     ∷ row "nor after another was rejected" (nothingKept (second 0) && nothingKept (second 1))
-    ∷ row "nor after a drop" (nothingKept (afterDrop 0) && nothingKept (dropTable σ (summedUp fresh honest 77 4 1) 77))
+    ∷ row "nor after a drop"
+    (nothingKept (afterDrop 0)
+    && (nothingKept (dropTable σ (summedUp fresh honest 77 4 1) 77) && nothingKept (dropTable σ (judgedBy fresh honest 77 4 1) 77)))
     ∷ row "nor after the close" (nothingKept (closeTable σ (second 0)) && nothingKept (closeTable σ (second 1)))
     ∷ row "the room for further ids is 0"
     (same (unusedIn σ (fresh 0 .bytes)) (replicate 8 0)

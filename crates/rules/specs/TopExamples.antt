@@ -47,7 +47,7 @@ passes v w =
     let x : List ℕ = v ∷ v % 2 ∷ v / 2 % 2 ∷ v / 4 % 2 ∷ w % 2 ∷ w / 2 % 2 ∷ w / 4 % 2 ∷ [] in
     every (λ y. eqb y 0) (run (onList (modulo P) (λ e. getD x e 0)) (circuitOf σ (columnsOf (topped 5))) .tests)
 
--- recount of sheet 20 200, S = 2, N = 10: one accepted return of 150
+-- recount of sheet 20 200, S = 2, N = 10: one entered return of 150
 abbrev recountHours : List ℕ
 recountHours =
     bytesOf 2 5

@@ -8,7 +8,7 @@ use lib.ListN.{getD, take, drop}
 use Rattle.slots.specs.Slots.{freeSlot}
 use Rattle.rules.specs.WaitingList.{waitingCount}
 use Rattle.rules.specs.Table.{Lent, idsIn, tableSound, shareRefused, shareTable, oneRefused, oneTable, oneBytes, twoRefused}
-use Rattle.rules.specs.Table.{twoVerdict, twoTable, dropRefused, dropTable, closeRefused, closeBytes}
+use Rattle.rules.specs.Table.{twoVerdict, twoTable, enterTable, dropRefused, dropTable, closeRefused, closeBytes}
 use Rattle.rules.specs.Examples.{Row, row, σ, same, honest, cheat, opened}
 use Rattle.rules.specs.SoundExamples.{withNumbers}
 use Rattle.rules.specs.TableExamples.{shareIn, withP, took, ones, twos, broken}
@@ -57,9 +57,9 @@ seconds1 = oneBytes σ (summed2 0) 1 firsts1 ++ oneBytes σ (summed2 1) 1 firsts
 abbrev seconds2 : List ℕ
 seconds2 = oneBytes σ (twoWait 0) 2 firsts2 ++ oneBytes σ (twoWait 1) 2 firsts2
 
--- round two on 1, then on 2
+-- round two on 1 and its entry, then round two on 2
 abbrev decided1 : ℕ → Lent
-decided1 i = twoTable σ (summedBoth i) 1 seconds1
+decided1 i = enterTable σ (twoTable σ (summedBoth i) 1 seconds1) 1
 
 abbrev decidedBoth : ℕ → Lent
 decidedBoth i = twoTable σ (decided1 i) 2 seconds2
@@ -93,15 +93,15 @@ mixed =
     (eqb (oneRefused σ (twoWait 0) 3 firsts1 14) 11
     && (eqb (twoRefused σ (summedBoth 0) 3 seconds1) 11 && eqb (dropRefused σ (twoWait 0) 3) 11))
     ∷ row "a decided id: 11" (eqb (oneRefused σ (decided1 0) 1 firsts1 14) 11 && eqb (dropRefused σ (decided1 0) 1) 11)
-    ∷ row "the record of the verdict is freed, the other stays" (eqb (stageAt (decided1 0) 0) 0 && eqb (idAt (decided1 0) 1) 2)
+    ∷ row "the record of the entered return is freed, the other stays" (eqb (stageAt (decided1 0) 0) 0 && eqb (idAt (decided1 0) 1) 2)
     ∷ row "a drop frees the record that it names"
     (eqb (stageAt (dropTable σ (twoWait 0) 2) 1) 0 && eqb (idAt (dropTable σ (twoWait 0) 2) 0) 1)
     ∷ row "and its numbers, not those of the other"
     (same (drop 11 (dropTable σ (twoWait 0) 2 .elements)) (drop 11 (openFor 4 0 .elements))
     && same (take 11 (dropTable σ (twoWait 0) 2 .elements)) (take 11 (twoWait 0 .elements)))
     ∷ row "the next share goes into the first free record" (eqb (idAt (thirdTaken 0) 0) 3 && eqb (idAt (thirdTaken 0) 1) 2)
-    ∷ row "the ids decided stand in the order of the verdicts" (same (idsIn σ (decidedBoth 0 .bytes)) (1 ∷ 2 ∷ []))
-    ∷ row "one was accepted" (eqb (getD (closeBytes σ (decidedBoth 0)) 2 0) 1)
+    ∷ row "the ids decided stand in the order in which they were" (same (idsIn σ (decidedBoth 0 .bytes)) (1 ∷ 2 ∷ []))
+    ∷ row "one was entered" (eqb (getD (closeBytes σ (decidedBoth 0)) 2 0) 1)
     ∷ []
 
 unfoldable pub eight : List Row
@@ -120,6 +120,6 @@ eight =
     ∷ row "a close while the eighth waits: 11" (eqb (closeRefused σ (manyWait 9 8 0) 100) 11)
     ∷ row "a close while one of eight records waits: 11"
     (eqb (closeRefused σ (dropTable σ (dropTable σ (manyWait 9 3 0) 1) 2) 100) 11)
-    ∷ row "with none waiting and one accepted it closes" (eqb (closeRefused σ (decidedBoth 0) 10) 0)
-    ∷ row "with none waiting and none accepted: 15" (eqb (closeRefused σ (dropTable σ (dropTable σ (manyWait 9 2 0) 1) 2) 10) 15)
+    ∷ row "with none waiting and one entered it closes" (eqb (closeRefused σ (decidedBoth 0) 10) 0)
+    ∷ row "with none waiting and none entered: 15" (eqb (closeRefused σ (dropTable σ (dropTable σ (manyWait 9 2 0) 1) 2) 10) 15)
     ∷ []

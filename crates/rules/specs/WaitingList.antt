@@ -3,8 +3,8 @@
 -- the sheet, and what is written there.
 --
 -- The stage of a record is 0 where it is free, 1 where its return awaits round one, with d_i and e_i, 2 where it awaits round
--- two, with the sums d and e. The place of record i in the run of numbers starts at i times E + 2, with E the elements of a
--- share: the elements, then r × h_i(r), then tau_i.
+-- two and 3 where it awaits entry, with the sums d and e. The place of record i in the run of numbers starts at i times E + 2, with
+-- E the elements of a share: the elements, then r × h_i(r), then tau_i.
 -- A share goes into the first free record. An id's record is the first that is not free and has the id. No fault: what a free
 -- record holds besides its stage, and the numbers of its place; an id that waits twice, or is decided too.
 -- Assumes nothing.
@@ -13,14 +13,14 @@ use mathlib.Core.List.{List, [], _∷_, _++_}
 use mathlib.Core.Option.{Option, some, none}
 use Prim.Native.Nat.{ℕ, suc, _+_, _*_}
 use lib.Dec.{eqb, ltb, leb}
-use lib.ListN.{length, getD, set, take, replicate}
+use lib.ListN.{length, getD, take, replicate}
 use Rattle.words.specs.Bytes.{part, splice, allBelow}
 use Rattle.slots.specs.declared.Slot.{Slot}
 use Rattle.slots.specs.Slots.{freeSlot}
 use Rattle.rules.specs.Settings.{Setting}
 use Rattle.rules.specs.Columns.{Column}
 use Rattle.rules.specs.Judging.{shareSize, allowedPair}
-use Rattle.rules.specs.Server.{Waiting, Wait, awaitsOne, awaitsTwo, mostWaiting}
+use Rattle.rules.specs.Server.{Waiting, Wait, awaitsOne, awaitsTwo, awaitsEntry, mostWaiting}
 
 -- the stages of a record
 abbrev pub stageFree : ℕ
@@ -31,6 +31,9 @@ stageOne = 1
 
 abbrev pub stageTwo : ℕ
 stageTwo = 2
+
+abbrev pub stageEntry : ℕ
+stageEntry = 3
 
 abbrev pub isFree : Slot → Bool
 isFree x = eqb (x .stage) stageFree
@@ -55,6 +58,10 @@ placeOf id xs = firstWhere (waitsUnder id) xs
 unfoldable pub waitingCount : List Slot → ℕ
 waitingCount [] = 0
 waitingCount (x ∷ xs) = cond (isFree x) 0 1 + waitingCount xs
+
+-- a return that waits, by the stage of its record
+unfoldable pub waitAs : ℕ → Waiting → Wait
+waitAs stage w = cond (eqb stage stageOne) (awaitsOne w) (cond (eqb stage stageTwo) (awaitsTwo w) (awaitsEntry w))
 
 module _ (cs : List Column) where
   -- the numbers of a place
@@ -81,9 +88,7 @@ module _ (cs : List Column) where
   }
 
   unfoldable pub waitAt : Slot → List ℕ → Option Wait
-  waitAt x ns =
-      let w = waitingAt x ns in
-      cond (isFree x) none (some (cond (eqb (x .stage) stageOne) (awaitsOne w) (awaitsTwo w)))
+  waitAt x ns = cond (isFree x) none (some (waitAs (x .stage) (waitingAt x ns)))
 
   -- record k and those behind it
   unfoldable pub recordsFrom : List ℕ → ℕ → List Slot → List (Option Wait)
@@ -105,7 +110,7 @@ waitsIn cs xs es = present (recordsFrom cs es 0 xs)
 module _ (σ : Setting) (cs : List Column) where
   unfoldable pub recordSound : Slot → List ℕ → Bool
   recordSound x ns =
-      leb (x .stage) stageTwo
+      leb (x .stage) stageEntry
       && (isFree x
       || (allowedPair σ cs (x .r) (x .s)
       && (ltb (x .d) (σ .modulus) && (ltb (x .e) (σ .modulus) && allBelow (σ .modulus) ns))))

@@ -3,6 +3,7 @@ pub mod Tests
 pub mod TwoServers
 pub mod Premises
 pub mod TypingSlip
+pub mod StoppedServer
 pub mod ThreeServers
 pub mod MixedReturns
 pub mod MixedPremises

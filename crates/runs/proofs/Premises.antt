@@ -1,10 +1,10 @@
 -- Each premise of the theorem on whole runs, and of those on made returns, is met: in the run of two servers the honest
--- return's messages are the bytes that making wrote, and after its first ten calls both servers are ready for another
+-- return's messages are the bytes that making wrote, and once it is entered both servers are ready for another
 -- return. antt computes the premises, and the theorems are applied. Assumes nothing.
-use mathlib.Core.Path.{_≡_, refl, sym, ap, _∙_, subst}
+use mathlib.Core.Path.{_≡_, refl, sym, ap, ap₂, _∙_, subst}
 use mathlib.Core.Logic.{inl, inr}
 use mathlib.Core.Bool.{Bool, true, false, cond}
-use mathlib.Core.List.{List, [], _∷_, map}
+use mathlib.Core.List.{List, [], _∷_, _++_, map}
 use Prim.Native.Nat.{ℕ, suc, _+_, _-_, _*_, _≤_, _<_, max}
 use native.Mathlib.Omega.{arith}
 use borrow.Author.Tests.{eqb-true}
@@ -19,10 +19,10 @@ use Rattle.rules.specs.Columns.{columnsOf}
 use Rattle.rules.specs.Circuit.{gatesIn, testsIn}
 use Rattle.rules.specs.Judging.{letsIn}
 use Rattle.rules.specs.Making.{shareMessage, madeShare, makeRefusal}
-use Rattle.rules.specs.Ledger.{Call, share, empty, accepted, rejected, Decided, isAccepted, refusalOf, runLedger, ledgerAnswers}
-use Rattle.rules.specs.Pools.{Pool, openedAt, ledgerAt, acceptedAt, returnOf, KeepsForm, OnePair, JudgedByPair}
+use Rattle.rules.specs.Ledger.{Call, share, enter, Note, empty, refusalOf, runLedger, ledgerAnswers}
+use Rattle.rules.specs.Pools.{Pool, openedAt, ledgerAt, enteredAt, rejectedAt, notesAt, returnOf, KeepsForm, JudgedToEnd, JudgedByPair}
 use Rattle.rules.specs.WholeRun.{Ready, firsts, seconds, bothRounds, WholeRun}
-use Rattle.rules.specs.Made.{madePart, MadeReturn, Took, MadeOf, CanTake, MadeAccepted, joinedTotals, howMany, EncodedTotals}
+use Rattle.rules.specs.Made.{madePart, shareMade, MadeReturn, Took, MadeOf, CanTake, MadeAccepted, joinedTotals, howMany, EncodedTotals}
 use Rattle.rules.proofs.Computed.Computing.{everything}
 use Rattle.rules.proofs.Histories.Checks.{every-at}
 use Rattle.rules.proofs.Runs.WholeRuns.{document01-whole-run}
@@ -92,34 +92,57 @@ whole-77 = document01-made-run pool .delivered 77 valueBytes randomBytes 84 not-
 whole-run : WholeRun document01 pool
 whole-run = document01-whole-run pool
 
-abbrev accepted-77 : Decided
-accepted-77 = record { note = record { id = 77; elements = honest 1; r = 4; s = 9 }; decision = accepted }
-
-abbrev rejected-78 : Decided
-rejected-78 = record { note = record { id = 78; elements = false-return 1; r = 3; s = 9 }; decision = rejected }
-
-in-77 : In accepted-77 (ledgerAt document01 pool 1 .decided)
+in-77 : In 77 (enteredAt document01 pool 1)
 unfolding everything calls ones twos
 in-77 = inl refl
 
-in-78 : In rejected-78 (ledgerAt document01 pool 1 .decided)
+in-78 : In 78 (rejectedAt document01 pool 1)
 unfolding everything calls ones twos
-in-78 = inr (inl refl)
+in-78 = inl refl
 
-judged-77 : JudgedByPair document01 pool accepted-77
-judged-77 = whole-run .verdict (meets-them .unaltered) 1 (lit< tt) accepted-77 in-77 refl
+-- both were judged there, as the ledger shows
+judged-77 : JudgedToEnd document01 pool 1 77 true
+judged-77 = whole-run .verdict-first 1 (lit< tt) .entered-judged 77 in-77
 
-pair-77 : OnePair document01 pool 77 4 9
-pair-77 = judged-77 .one-pair
+judged-78 : JudgedToEnd document01 pool 1 78 false
+judged-78 = whole-run .verdict-first 1 (lit< tt) .rejected-judged 78 in-78
 
-lets-77 : letsIn document01 (columnsOf sheet) 2 (returnOf document01 pool 77) 4 9 ≡ true
-lets-77 = sym (judged-77 .verdict)
+by-pair-77 : JudgedByPair document01 pool 77 true
+by-pair-77 = whole-run .verdict (meets-them .unaltered) 1 (lit< tt) 77 true judged-77
 
-lets-78 : letsIn document01 (columnsOf sheet) 2 (returnOf document01 pool 78) 3 9 ≡ false
-lets-78 = sym (whole-run .verdict (meets-them .unaltered) 1 (lit< tt) rejected-78 in-78 refl .verdict)
+by-pair-78 : JudgedByPair document01 pool 78 false
+by-pair-78 = whole-run .verdict (meets-them .unaltered) 1 (lit< tt) 78 false judged-78
 
-honest-77 : isAccepted (accepted-77 .decision) ≡ true
-honest-77 = whole-run .honest (meets-them .unaltered) 1 (lit< tt) accepted-77 in-77 refl (whole-77 .0)
+-- the pair is that of the shares noted there
+abbrev note-77 : Note
+note-77 = record { id = 77; elements = honest 1; r = 4; s = 9 }
+
+abbrev note-78 : Note
+note-78 = record { id = 78; elements = false-return 1; r = 3; s = 9 }
+
+noted-77 : In note-77 (notesAt document01 pool 1)
+unfolding everything calls ones twos
+noted-77 = inl refl
+
+noted-78 : In note-78 (notesAt document01 pool 1)
+unfolding everything calls ones twos
+noted-78 = inr (inl refl)
+
+abbrev lets : ℕ → ℕ → ℕ → Bool
+lets id r s = letsIn document01 (columnsOf sheet) 2 (returnOf document01 pool id) r s
+
+lets-77 : lets 77 4 9 ≡ true
+lets-77 =
+    let pair = by-pair-77 .one-pair 1 (lit< tt) note-77 noted-77 refl in
+    ap₂ (lets 77) (pair .0) (pair .1) ∙ sym (by-pair-77 .verdict-is)
+
+lets-78 : lets 78 3 9 ≡ false
+lets-78 =
+    let pair = by-pair-78 .one-pair 1 (lit< tt) note-78 noted-78 refl in
+    ap₂ (lets 78) (pair .0) (pair .1) ∙ sym (by-pair-78 .verdict-is)
+
+honest-77 : (v : Bool) → JudgedToEnd document01 pool 1 77 v → v ≡ true
+honest-77 v k = whole-run .honest (meets-them .unaltered) 1 (lit< tt) 77 v k (whole-77 .0)
 
 -- the false return does not keep its form, so at most p × 3 pairs let it in
 broken-78 : KeepsForm document01 pool 78 → ⊥
@@ -133,28 +156,28 @@ few-78 = subst (λ (k : ℕ). countPairs 2147483647 2147483647 (letsIn document0
     most : max (suc (gatesIn (columnsOf sheet) + gatesIn (columnsOf sheet))) (testsIn (columnsOf sheet) - 1) ≡ 3
     most = unfold everything in refl
 
--- ---- totals: every accepted return is delivered whole, and one said yes
-accepted-0 : acceptedAt document01 pool 0 ≡ 77 ∷ []
+-- ---- totals: every entered return is delivered whole, and one said yes
+entered-0 : enteredAt document01 pool 0 ≡ 77 ∷ []
 unfolding everything calls ones twos
-accepted-0 = refl
+entered-0 = refl
 
-each-made : (id : ℕ) → In id (acceptedAt document01 pool 0) → MadeOf document01 pool id (elementsOf 4 valueBytes)
-each-made id h = go (subst (In id) accepted-0 h)
+each-made : (id : ℕ) → In id (enteredAt document01 pool 0) → MadeOf document01 pool id (elementsOf 4 valueBytes)
+each-made id h = go (subst (In id) entered-0 h)
   where
     go : In id (77 ∷ []) → MadeOf document01 pool id (elementsOf 4 valueBytes)
     go (inl e) = subst (λ (k : ℕ). MadeOf document01 pool k (elementsOf 4 valueBytes)) e whole-77
     go (inr k) = absurd k
 
-totals-77 : EncodedTotals document01 pool (acceptedAt document01 pool 0) (λ id. elementsOf 4 valueBytes)
+totals-77 : EncodedTotals document01 pool (enteredAt document01 pool 0) (λ id. elementsOf 4 valueBytes)
 totals-77 = document01-made-run pool .totals meets-them ended 0 (lit< tt) _ each-made
 
 one-yes : getD (joinedTotals document01 pool) 0 0 ≡ 1
 unfolding everything howMany calls ones twos
 one-yes = totals-77 .yes-total [] [] refl
 
--- ---- the first ten calls: 77 is accepted, and nothing waits
+-- ---- the first thirteen calls: 77 is entered, and nothing waits
 abbrev early : ℕ → List Call
-early i = take 10 (calls i)
+early i = take 13 (calls i)
 
 is-early : isPool document01 2 sheet 3 1 (λ i. lent 31 88) early ≡ true
 unfolding everything isPool opensAt bytesCall calls ones twos
@@ -171,7 +194,7 @@ ready-false : Ready document01 earlyPool 78 false-return 3 9 22 14
 unfolding everything isReady isEnded calls ones twos
 ready-false = is-ready document01 earlyPool 78 false-return 3 9 22 14 refl
 
--- they accept a return that making wrote
+-- they accept and enter a return that making wrote
 can-take : CanTake document01 earlyPool 78 4 9 22 14
 can-take = record {
   waits = ready-honest .waits;
@@ -217,3 +240,14 @@ handled-false = answers-are false-return 3 9 ready-false false kept-out
   where
     kept-out : letsIn document01 (columnsOf sheet) 2 (λ j e. getD (false-return j) e 0) 3 9 ≡ false
     kept-out = unfold everything in refl
+
+-- and the honest one is entered
+entered-honest : (i : ℕ) → i < 2
+    → map short (ledgerAnswers document01 (openedAt document01 earlyPool i) (ledgerAt document01 earlyPool i)
+    (share (madePart document01 sheet 2 78 valueBytes randomBytes i) 4 9 22
+    ∷ (bothRounds 78 (firsts document01 earlyPool 78 (shareMade document01 sheet 2 78 valueBytes randomBytes) 4 9)
+    (seconds document01 earlyPool 78 (shareMade document01 sheet 2 78 valueBytes randomBytes) 4 9) 14
+    ++ (enter 78 ∷ []))))
+    ≡ 100 ∷ 100 ∷ 200 ∷ 400 ∷ []
+unfolding short
+entered-honest i l = ap (map short) (accepted-78 i l _ _ (rearranged-refl _) (rearranged-refl _))

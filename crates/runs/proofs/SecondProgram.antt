@@ -8,7 +8,7 @@ use Rattle.words.specs.Bytes.{sameBytes, part}
 use Rattle.rules.specs.Settings.{Setting, document01}
 use Rattle.rules.specs.CircuitReader.{sheetCircuit}
 use Rattle.rules.specs.Making.{makeBytes, makeRefusal}
-use Rattle.rules.specs.Table.{Lent, openedTable, shareTable, shareBytes, oneTable, oneBytes, twoTable, twoVerdict, closeBytes}
+use Rattle.rules.specs.Table.{Lent, openedTable, shareTable, shareBytes, oneTable, oneBytes, twoTable, twoVerdict, enterTable, closeBytes}
 use Rattle.rules.specs.Joining.{joinBytes}
 use Rattle.rules.proofs.Computed.Computing.{everything}
 use Rattle.runs.proofs.TwoServers.{lent}
@@ -88,7 +88,7 @@ circuitIs =
 abbrev σ : Setting
 σ = document01
 
--- the share message of server i, and its table after opening, the share, round one and round two
+-- the share message of server i, and its table after opening, the share, both rounds and the entry
 abbrev shareOf : ℕ → List ℕ
 shareOf i = part (106 * i) 106 made
 
@@ -102,7 +102,7 @@ abbrev summed : ℕ → Lent
 summed i = oneTable σ (shared i) 16909060 joinedOne
 
 abbrev decided : ℕ → Lent
-decided i = twoTable σ (summed i) 16909060 joinedTwo
+decided i = enterTable σ (twoTable σ (summed i) 16909060 joinedTwo) 16909060
 
 -- what it writes for round one, for round two and at the close
 abbrev one : ℕ → List ℕ

@@ -1,6 +1,6 @@
 -- Tests that compute, for runs that are given: whether numbers make a pool, whether it meets the conditions of whole runs,
--- whether all servers have closed, whether a return is delivered whole, whether servers are ready for one. Each is proved to
--- say what it tests. Assumes nothing.
+-- whether all servers have closed or stopped between verdict and entry, whether a return is delivered whole, whether servers are ready
+-- for one. Each is proved to say what it tests. Assumes nothing.
 use mathlib.Core.Path.{_≡_, refl, ap}
 use mathlib.Core.Logic.{_⊎_, ⊎-elim, inl, inr}
 use mathlib.Core.Bool.{Bool, true, false, not, _&&_, _||_, false≢true}
@@ -21,11 +21,12 @@ use Rattle.rules.specs.Making.{madeShare, randomCount}
 use Rattle.rules.specs.Messages.{serverIn, roundLength}
 use Rattle.rules.specs.Server.{isMember, mostWaiting}
 use Rattle.rules.specs.Table.{Lent}
-use Rattle.rules.specs.Ledger.{Call, share, roundOne, roundTwo, drop, close, Answer, refused, wrote, judged, done}
-use Rattle.rules.specs.Ledger.{Pending, Progress, isOpen, isClosed, waiting, empty, idsOf}
-use Rattle.rules.specs.Pools.{BytesIn, opensIn, Pool, columns, openedAt, ledgerAt, answersAt, acceptedAt, droppedAt, handedIn, notesAt}
-use Rattle.rules.specs.Pools.{noteUnder, Conditions, AllClosed}
+use Rattle.rules.specs.Ledger.{Call, share, roundOne, roundTwo, enter, drop, close, Answer, refused, wrote, judged, done}
+use Rattle.rules.specs.Ledger.{Pending, isAccepted, Progress, isOpen, isClosed, waiting, empty, idsOf}
+use Rattle.rules.specs.Pools.{BytesIn, opensIn, Pool, columns, openedAt, ledgerAt, answersAt, acceptedAt, enteredAt, droppedAt}
+use Rattle.rules.specs.Pools.{handedIn, notesAt, noteUnder, Conditions, AllClosed}
 use Rattle.rules.specs.WholeRun.{Ready}
+use Rattle.rules.specs.Resumed.{toEnter, Stopped}
 use Rattle.rules.specs.Made.{MadeOf}
 use Rattle.rules.proofs.Histories.Checks.{every-at}
 use Rattle.rules.proofs.Histories.Keyed.{no-member-in}
@@ -42,6 +43,7 @@ unfoldable pub bytesCall : Call → Bool
 bytesCall (share m r s room) = allBelow 256 m
 bytesCall (roundOne id joined room) = allBelow 256 joined
 bytesCall (roundTwo id joined) = allBelow 256 joined
+bytesCall (enter id) = true
 bytesCall (drop id) = true
 bytesCall (close room) = true
 
@@ -50,6 +52,7 @@ unfolding bytesCall
 bytes-call (share m r s room) e = all-of-below 256 m e
 bytes-call (roundOne id joined room) e = all-of-below 256 joined e
 bytes-call (roundTwo id joined) e = all-of-below 256 joined e
+bytes-call (enter id) e = tt
 bytes-call (drop id) e = tt
 bytes-call (close room) e = tt
 
@@ -136,7 +139,7 @@ module _ (σ : Setting) (𝓟 : Pool σ) where
   unalteredAll = every unalteredAt (countFrom 0 (𝓟 .servers))
 
   abbrev dropsAt : ℕ → ℕ → Bool
-  dropsAt i j = every (λ id. not (isMember id (acceptedAt σ 𝓟 j))) (droppedAt σ 𝓟 i)
+  dropsAt i j = every (λ id. not (isMember id (enteredAt σ 𝓟 j))) (droppedAt σ 𝓟 i)
 
   unfoldable pub meets : Bool
   meets = unalteredAll && each dropsAt
@@ -147,7 +150,7 @@ module _ (σ : Setting) (𝓟 : Pool σ) where
     unaltered = λ i l m h. written-in m (answersAt σ 𝓟 (serverIn m))
         (every-in _ (handedIn σ (openedAt σ 𝓟 i) empty (𝓟 .calls i))
         (every-at unalteredAt (𝓟 .servers) (and-left unalteredAll (each dropsAt) e) i l) m h);
-    same-drops = λ i j l b id h k. no-member-in id (acceptedAt σ 𝓟 j)
+    same-drops = λ i j l b id h k. no-member-in id (enteredAt σ 𝓟 j)
         (not-true _ (every-in _ (droppedAt σ 𝓟 i)
         (each-at dropsAt (and-right unalteredAll (each dropsAt) e) i j l b) id h)) k;
   }
@@ -168,6 +171,36 @@ module _ (σ : Setting) (𝓟 : Pool σ) where
   unfolding allEnded
   all-closed e i l =
       is-closed (ledgerAt σ 𝓟 i .progress) (every-at (λ i. isEnded (ledgerAt σ 𝓟 i .progress)) (𝓟 .servers) e i l)
+
+  -- ---- stopped between verdict and entry, with Q reached at server `one`
+  abbrev waitsAccepted : ℕ → Bool
+  waitsAccepted i = every isAccepted (waiting (ledgerAt σ 𝓟 i .progress))
+
+  abbrev keptAt : ℕ → ℕ → Bool
+  keptAt i j = every (λ id. not (isMember id (droppedAt σ 𝓟 j))) (acceptedAt σ 𝓟 i)
+
+  abbrev reachedAt : ℕ → Bool
+  reachedAt one = ltb one (𝓟 .servers) && leb (𝓟 .least) (length (toEnter σ 𝓟 one))
+
+  unfoldable pub hasStopped : ℕ → Bool
+  hasStopped one = reachedAt one && (every waitsAccepted (countFrom 0 (𝓟 .servers)) && each keptAt)
+
+  pub has-stopped : (one : ℕ) → hasStopped one ≡ true → Stopped σ 𝓟
+  unfolding hasStopped
+  has-stopped one e =
+      let all : Bool = every waitsAccepted (countFrom 0 (𝓟 .servers)) in
+      let rest : (all && each keptAt) ≡ true = and-right (reachedAt one) (all && each keptAt) e in
+      let at-one : reachedAt one ≡ true = and-left (reachedAt one) (all && each keptAt) e in
+      let enough : Bool = leb (𝓟 .least) (length (toEnter σ 𝓟 one)) in
+      record {
+        only-accepted = λ i l p h. every-in isAccepted (waiting (ledgerAt σ 𝓟 i .progress))
+            (every-at waitsAccepted (𝓟 .servers) (and-left all (each keptAt) rest) i l) p h;
+        none-dropped = λ i j l b id h k. no-member-in id (droppedAt σ 𝓟 j)
+            (not-true _ (every-in _ (acceptedAt σ 𝓟 i) (each-at keptAt (and-right all (each keptAt) rest) i j l b) id h)) k;
+        one = one;
+        is-server = ltb-true one (𝓟 .servers) (and-left (ltb one (𝓟 .servers)) enough at-one);
+        reached = leb-true _ _ (and-right (ltb one (𝓟 .servers)) enough at-one);
+      }
 
   -- the shares noted under the id are those of the values and the random elements
   abbrev wholeAt : ℕ → List ℕ → List ℕ → ℕ → Bool

@@ -1,4 +1,4 @@
--- A whole run of three servers with the sheet 17, 18 3, 19 2 and Q = 2: two honest returns are accepted; an altered one is rejected at
+-- A whole run of three servers with the sheet 17, 18 3, 19 2 and Q = 2: two honest returns are entered; an altered one is rejected at
 -- two servers and dropped at the third before its verdict; an id is dropped at one server alone. antt computes it. It meets
 -- the conditions, so what demand 3 says of it holds. Assumes nothing.
 use mathlib.Core.Path.{_≡_, refl, subst}
@@ -12,8 +12,8 @@ use Rattle.algebra.specs.Lists.{In, tabulate}
 use Rattle.rules.specs.Settings.{document01}
 use Rattle.rules.specs.Columns.{yesNo, choice, number, columnsOf}
 use Rattle.rules.specs.Making.{madeShare}
-use Rattle.rules.specs.Ledger.{Call, roundOne, roundTwo, drop, close}
-use Rattle.rules.specs.Pools.{Pool, answersAt, acceptedAt, Conditions, AllClosed}
+use Rattle.rules.specs.Ledger.{Call, roundOne, roundTwo, enter, drop, close}
+use Rattle.rules.specs.Pools.{Pool, answersAt, enteredAt, Conditions, AllClosed}
 use Rattle.rules.specs.WholeRun.{closings, Closed}
 use Rattle.rules.specs.Made.{MadeOf, joinedTotals, howMany, EncodedTotals}
 use Rattle.rules.proofs.Computed.Computing.{everything}
@@ -51,12 +51,13 @@ ownFirst i = i ∷ ((i + 1) % 3) ∷ ((i + 2) % 3) ∷ []
 abbrev ownLast : ℕ → List ℕ
 ownLast i = ((i + 2) % 3) ∷ ((i + 1) % 3) ∷ i ∷ []
 
--- a share and both rounds
+-- a share, both rounds and the entry, which is refused where the return is rejected
 abbrev through : ℕ → (ℕ → List ℕ) → ℕ → List Call
 through id shares i =
     give id shares 7 5 i
     ∷ roundOne id (ones 3 sheet 4 (ownFirst i) id shares 7 5) 14
     ∷ roundTwo id (twos 3 sheet 4 (ownLast i) id shares 7 5)
+    ∷ enter id
     ∷ []
 
 unfoldable pub calls : ℕ → List Call
@@ -69,7 +70,7 @@ calls (suc zero) =
 calls (suc (suc i)) =
     (give 9 second 7 5 2 ∷ drop 9 ∷ [])
     ++ through 1 first 2
-    -- refused: one is accepted, and Q = 2
+    -- refused: one is entered, and Q = 2
     ++ (close 26 ∷ [])
     ++ through 2 altered 2
     ++ through 3 second 2
@@ -82,16 +83,18 @@ is-pool = refl
 abbrev pub pool : Pool document01
 pool = poolOf document01 3 sheet 4 2 (λ i. lent 55 216) calls is-pool
 
-answers-0 : map short (answersAt document01 pool 0) ≡ 100 ∷ 100 ∷ 200 ∷ 100 ∷ 100 ∷ 300 ∷ 100 ∷ 100 ∷ 200 ∷ 100 ∷ []
+answers-0 : map short (answersAt document01 pool 0)
+    ≡ 100 ∷ 100 ∷ 200 ∷ 400 ∷ 100 ∷ 100 ∷ 300 ∷ 11 ∷ 100 ∷ 100 ∷ 200 ∷ 400 ∷ 100 ∷ []
 unfolding everything short calls ones twos
 answers-0 = refl
 
-answers-1 : map short (answersAt document01 pool 1) ≡ 100 ∷ 100 ∷ 200 ∷ 100 ∷ 100 ∷ 400 ∷ 100 ∷ 100 ∷ 200 ∷ 100 ∷ []
+answers-1 : map short (answersAt document01 pool 1)
+    ≡ 100 ∷ 100 ∷ 200 ∷ 400 ∷ 100 ∷ 100 ∷ 400 ∷ 100 ∷ 100 ∷ 200 ∷ 400 ∷ 100 ∷ []
 unfolding everything short calls ones twos
 answers-1 = refl
 
 answers-2 : map short (answersAt document01 pool 2)
-    ≡ 100 ∷ 400 ∷ 100 ∷ 100 ∷ 200 ∷ 15 ∷ 100 ∷ 100 ∷ 300 ∷ 100 ∷ 100 ∷ 200 ∷ 14 ∷ 100 ∷ []
+    ≡ 100 ∷ 400 ∷ 100 ∷ 100 ∷ 200 ∷ 400 ∷ 15 ∷ 100 ∷ 100 ∷ 300 ∷ 11 ∷ 100 ∷ 100 ∷ 200 ∷ 400 ∷ 14 ∷ 100 ∷ []
 unfolding everything short calls ones twos
 answers-2 = refl
 
@@ -107,16 +110,16 @@ ended = all-closed document01 pool refl
 pub joined : Closed document01 pool
 joined = closed-together document01 document01-facts pool meets-them ended
 
--- and what comes of it: 1 and 3 are accepted; one yes, the last option twice, and 3 + 1
-accepted-ids : acceptedAt document01 pool 2 ≡ 1 ∷ 3 ∷ []
+-- and what comes of it: 1 and 3 are entered; one yes, the last option twice, and 3 + 1
+entered-ids : enteredAt document01 pool 2 ≡ 1 ∷ 3 ∷ []
 unfolding everything calls ones twos
-accepted-ids = refl
+entered-ids = refl
 
 join-is : joinResult 3 sheet 4 (closings document01 pool) ≡ 0 ∷ 2 ∷ 1 ∷ 0 ∷ 0 ∷ 2 ∷ 4 ∷ []
 unfolding everything joinResult calls ones twos
 join-is = refl
 
--- both accepted returns are delivered whole, so the totals are those of their values
+-- both entered returns are delivered whole, so the totals are those of their values
 made-1 : MadeOf document01 pool 1 (1 ∷ 2 ∷ 3 ∷ [])
 unfolding everything isWhole calls ones twos
 made-1 = made-of document01 pool 1 (1 ∷ 2 ∷ 3 ∷ []) (random 987654321) refl
@@ -128,15 +131,15 @@ made-3 = made-of document01 pool 3 (0 ∷ 2 ∷ 1 ∷ []) (random 192837465) ref
 abbrev values : ℕ → List ℕ
 values id = cond (eqb id 1) (1 ∷ 2 ∷ 3 ∷ []) (0 ∷ 2 ∷ 1 ∷ [])
 
-each-made : (id : ℕ) → In id (acceptedAt document01 pool 2) → MadeOf document01 pool id (values id)
-each-made id h = go (subst (In id) accepted-ids h)
+each-made : (id : ℕ) → In id (enteredAt document01 pool 2) → MadeOf document01 pool id (values id)
+each-made id h = go (subst (In id) entered-ids h)
   where
     go : In id (1 ∷ 3 ∷ []) → MadeOf document01 pool id (values id)
     go (inl e) = subst (λ (k : ℕ). MadeOf document01 pool k (values k)) e made-1
     go (inr (inl e)) = subst (λ (k : ℕ). MadeOf document01 pool k (values k)) e made-3
     go (inr (inr k)) = absurd k
 
-pub told : EncodedTotals document01 pool (acceptedAt document01 pool 2) values
+pub told : EncodedTotals document01 pool (enteredAt document01 pool 2) values
 told = document01-made-run pool .totals meets-them ended 2 (lit< tt) values each-made
 
 -- one says yes; two chose the last option; the numbers add up to 4

@@ -1,4 +1,4 @@
--- A whole run of two servers with the sheet 17: an honest return is accepted, a false one rejected, one dropped, and calls
+-- A whole run of two servers with the sheet 17: an honest return is accepted and entered, a false one rejected, one dropped, and calls
 -- are refused in between; antt computes it. It meets the conditions, so what demand 3 says of it holds. Assumes nothing.
 use mathlib.Core.Path.{_≡_, refl}
 use mathlib.Core.Bool.{true, cond}
@@ -14,8 +14,8 @@ use Rattle.rules.specs.Server.{Opened, Waiting, waitingOf, messageOne, messageT
 use Rattle.rules.specs.WaitingList.{freeList}
 use Rattle.rules.specs.Table.{Lent}
 use Rattle.rules.specs.Joining.{joinRefusal, joinCount, joinTotals}
-use Rattle.rules.specs.Ledger.{Call, share, roundOne, roundTwo, drop, close, Answer, refused, wrote, judged, done}
-use Rattle.rules.specs.Pools.{Pool, answersAt, acceptedAt, droppedAt, Conditions, AllClosed}
+use Rattle.rules.specs.Ledger.{Call, share, roundOne, roundTwo, enter, drop, close, Answer, refused, wrote, judged, done}
+use Rattle.rules.specs.Pools.{Pool, answersAt, enteredAt, droppedAt, Conditions, AllClosed}
 use Rattle.rules.specs.WholeRun.{closings, Closed}
 use Rattle.rules.proofs.Computed.Computing.{everything}
 use Rattle.rules.proofs.Computed.Facts.{document01-facts}
@@ -44,7 +44,7 @@ module _ (servers : ℕ) (sheet : List ℕ) (returns : ℕ) where
 abbrev pub give : ℕ → (ℕ → List ℕ) → ℕ → ℕ → ℕ → Call
 give id shares r s i = share (shareMessage document01 id i (shares i)) r s 22
 
--- the answers in short: a refusal's number; 100 for a message; 200 for accepted, 300 for rejected; 400 for a drop
+-- the answers in short: a refusal's number; 100 for a message; 200 for accepted, 300 for rejected; 400 for an entry or a drop
 unfoldable pub short : Answer → ℕ
 short (refused n) = n
 short (wrote m) = 100
@@ -97,7 +97,12 @@ calls i =
     ∷ roundOne 77 (ones 2 sheet 3 (ownFirst i) 77 honest 4 9) 13
     ∷ roundOne 77 (ones 2 sheet 3 (ownFirst i) 77 honest 4 9) 14
     ∷ roundTwo 77 (ones 2 sheet 3 (ownFirst i) 77 honest 4 9)
+    -- refused: no verdict yet; then a close while one waits for entry; entered twice
+    ∷ enter 77
     ∷ roundTwo 77 (twos 2 sheet 3 (ownFirst i) 77 honest 4 9)
+    ∷ close 10
+    ∷ enter 77
+    ∷ enter 77
     -- refused: another server's share, an element p, an id decided, r = M
     ∷ share (shareMessage document01 78 (1 - i) (false-return i)) 3 9 22
     ∷ share (shareMessage document01 78 i (set (false-return i) 0 2147483647)) 3 9 22
@@ -106,6 +111,8 @@ calls i =
     ∷ give 78 false-return 3 9 i
     ∷ roundOne 78 (ones 2 sheet 3 (ownFirst i) 78 false-return 3 9) 14
     ∷ roundTwo 78 (twos 2 sheet 3 (ownFirst i) 78 false-return 3 9)
+    -- refused: it is rejected
+    ∷ enter 78
     ∷ give 79 honest 4 9 i
     ∷ drop 79
     -- refused: three returns are decided; no room; closed
@@ -123,8 +130,8 @@ abbrev pub pool : Pool document01
 pool = poolOf document01 2 sheet 3 1 (λ i. lent 31 88) calls is-pool
 
 answers : map short (answersAt document01 pool 1)
-    ≡ (100 ∷ 11 ∷ 12 ∷ 12 ∷ 12 ∷ 12 ∷ 14 ∷ 100 ∷ 12 ∷ 200 ∷ [])
-    ++ (7 ∷ 8 ∷ 10 ∷ 9 ∷ 100 ∷ 100 ∷ 300 ∷ 100 ∷ 400 ∷ 13 ∷ 14 ∷ 100 ∷ 11 ∷ [])
+    ≡ (100 ∷ 11 ∷ 12 ∷ 12 ∷ 12 ∷ 12 ∷ 14 ∷ 100 ∷ 12 ∷ 11 ∷ 200 ∷ 11 ∷ 400 ∷ 11 ∷ [])
+    ++ (7 ∷ 8 ∷ 10 ∷ 9 ∷ 100 ∷ 100 ∷ 300 ∷ 11 ∷ 100 ∷ 400 ∷ 13 ∷ 14 ∷ 100 ∷ 11 ∷ [])
 unfolding everything short calls ones twos
 answers = refl
 
@@ -140,10 +147,10 @@ ended = all-closed document01 pool refl
 pub joined : Closed document01 pool
 joined = closed-together document01 document01-facts pool meets-them ended
 
--- and what comes of it: 77 is accepted, 79 dropped, and the one total is 1
-accepted-ids : acceptedAt document01 pool 1 ≡ 77 ∷ []
+-- and what comes of it: 77 is entered, 79 dropped, and the one total is 1
+entered-ids : enteredAt document01 pool 1 ≡ 77 ∷ []
 unfolding everything calls ones twos
-accepted-ids = refl
+entered-ids = refl
 
 dropped-ids : droppedAt document01 pool 0 ≡ 79 ∷ []
 unfolding everything calls ones twos

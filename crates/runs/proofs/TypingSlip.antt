@@ -1,5 +1,5 @@
 -- A whole run of two servers with the sheet 17, where one keeper typed another r: both servers refuse round one 16 and drop the
--- return. Made anew with new random elements, under another id and with another pair, the same at both, it is accepted. antt computes
+-- return. Made anew with new random elements, under another id and with another pair, the same at both, it is entered. antt computes
 -- it, and what demand 3 says of unequal challenges is applied, while the return waits and after it was dropped. Assumes nothing.
 use mathlib.Core.Path.{_≡_, refl}
 use mathlib.Core.Logic.{inl}
@@ -14,9 +14,9 @@ use Rattle.rules.specs.Settings.{document01}
 use Rattle.rules.specs.Columns.{columnsOf}
 use Rattle.rules.specs.Making.{madeShare}
 use Rattle.rules.specs.Server.{messageOne}
-use Rattle.rules.specs.Ledger.{Call, roundOne, roundTwo, drop, close, Note, waitsOne, noteIn, waiting, dropped, Decided, empty}
+use Rattle.rules.specs.Ledger.{Call, roundOne, roundTwo, enter, drop, close, Note, waitsOne, noteIn, waiting, dropped, Decided, empty}
 use Rattle.rules.specs.Ledger.{refusalOf, runLedger}
-use Rattle.rules.specs.Pools.{Pool, openedAt, ledgerAt, answersAt, acceptedAt, droppedAt, notesAt, Conditions, NoVerdict}
+use Rattle.rules.specs.Pools.{Pool, openedAt, ledgerAt, answersAt, enteredAt, droppedAt, notesAt, Conditions, NoVerdict}
 use Rattle.rules.proofs.Computed.Computing.{everything}
 use Rattle.rules.proofs.Runs.WholeRuns.{document01-whole-run}
 use Rattle.runs.proofs.Tests.{bytesCall, opensAt, isPool, poolOf, hasWritten, meets, meets-conditions}
@@ -49,6 +49,7 @@ calls i =
     ∷ give 78 anew 6 8 i
     ∷ roundOne 78 (ones 2 sheet 3 (0 ∷ 1 ∷ []) 78 anew 6 8) 14
     ∷ roundTwo 78 (twos 2 sheet 3 (1 ∷ 0 ∷ []) 78 anew 6 8)
+    ∷ enter 78
     ∷ close 10
     ∷ []
 
@@ -59,17 +60,17 @@ is-pool = refl
 abbrev pool : Pool document01
 pool = poolOf document01 2 sheet 3 1 (λ i. lent 31 88) calls is-pool
 
-answers-0 : map short (answersAt document01 pool 0) ≡ 100 ∷ 16 ∷ 16 ∷ 11 ∷ 11 ∷ 400 ∷ 10 ∷ 100 ∷ 100 ∷ 200 ∷ 100 ∷ []
+answers-0 : map short (answersAt document01 pool 0) ≡ 100 ∷ 16 ∷ 16 ∷ 11 ∷ 11 ∷ 400 ∷ 10 ∷ 100 ∷ 100 ∷ 200 ∷ 400 ∷ 100 ∷ []
 unfolding everything short calls slipped ones twos
 answers-0 = refl
 
-answers-1 : map short (answersAt document01 pool 1) ≡ 100 ∷ 16 ∷ 16 ∷ 11 ∷ 11 ∷ 400 ∷ 10 ∷ 100 ∷ 100 ∷ 200 ∷ 100 ∷ []
+answers-1 : map short (answersAt document01 pool 1) ≡ 100 ∷ 16 ∷ 16 ∷ 11 ∷ 11 ∷ 400 ∷ 10 ∷ 100 ∷ 100 ∷ 200 ∷ 400 ∷ 100 ∷ []
 unfolding everything short calls slipped ones twos
 answers-1 = refl
 
-accepted-ids : acceptedAt document01 pool 0 ≡ 78 ∷ []
+entered-ids : enteredAt document01 pool 0 ≡ 78 ∷ []
 unfolding everything calls slipped ones twos
-accepted-ids = refl
+entered-ids = refl
 
 dropped-ids : droppedAt document01 pool 1 ≡ 77 ∷ []
 unfolding everything calls slipped ones twos

@@ -96,13 +96,13 @@ records-are T h = waiting-sound (columnsAt document01 T) (T .slots) (T .elements
 
 -- ---- counts that are sound bound the table
 counts-long : (k : Table) (waiting : ℕ) (T : List ℕ) → countsSoundAt k waiting T ≡ true
-    → (lengthOf k ≤ length T) × (k .decided + waiting ≤ k .returns) × (k .accepted ≤ k .decided)
+    → (lengthOf k ≤ length T) × (k .decided + waiting ≤ k .returns) × (k .entered ≤ k .decided)
 unfolding countsSoundAt
 counts-long k waiting T e =
     let fit = totalsFit document01 (k .returns) (columnsIn document01 T) in
     let long = leb (lengthOf k) (length T) in
     let few = leb (k .decided + waiting) (k .returns) in
-    let less = leb (k .accepted) (k .decided) in
+    let less = leb (k .entered) (k .decided) in
     let e1 = and-right fit (long && (few && less)) e in
     let e2 = and-right long (few && less) e1 in (
       leb-true _ _ (and-left long (few && less) e1),
@@ -203,7 +203,7 @@ sound-at T e =
       eight = run T e .0;
       run-long = run-at T e;
       decided-few = l .1;
-      accepted-few = l .2;
+      entered-few = l .2;
     }
 
 pub headed-of : (T : Lent) (k : Table) → Sound T k → Headed (T .bytes) k

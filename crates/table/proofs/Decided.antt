@@ -21,8 +21,8 @@ use Rattle.table.proofs.Waiting.{decidable}
 
 -- ---- what deciding asks for
 pub placed : (T : Lent) (k : Table) → Sound T k → (j : ℕ) → j < 8 → isFree (getD (T .slots) j freeSlot) ≡ false
-    → (t : List ℕ) → length t ≡ length (T .bytes) → (accepted : ℕ) → accepted ≤ 1 → Placed t k (T .elements) j accepted
-placed T k s j h taken t l accepted one =
+    → (t : List ℕ) → length t ≡ length (T .bytes) → (entered : ℕ) → entered ≤ 1 → Placed t k (T .elements) j entered
+placed T k s j h taken t l entered one =
     record {
       decidable = decidable T k s j h taken t l;
       run-long = s .run-long;
@@ -31,15 +31,15 @@ placed T k s j h taken t l accepted one =
     }
 
 -- ---- what it leaves, from the bytes u
-decided-at : (T : Lent) (accepted id : ℕ) (u : List ℕ)
-    → lent (noted (tableOf (T .bytes)) accepted id u) (applied (T .slots) (recordsAt (placeOf id (T .slots)) freeSlot))
+decided-at : (T : Lent) (entered id : ℕ) (u : List ℕ)
+    → lent (noted (tableOf (T .bytes)) entered id u) (applied (T .slots) (recordsAt (placeOf id (T .slots)) freeSlot))
     (erasedAt (tableOf (T .bytes)) (placeOf id (T .slots)) (T .elements))
-    ≡ decidedTable document01 T id (decidedBytes document01 T accepted id u)
+    ≡ decidedTable document01 T id (decidedBytes document01 T entered id u)
 unfolding noted decidedTable decidedBytes tableOf idsPlace shareSize applied
-decided-at T accepted id u = refl
+decided-at T entered id u = refl
 
-pub decided-is : (T : Lent) (k : Table) → Sound T k → (accepted id : ℕ) (u : List ℕ) (j : ℕ) → j ≡ placeOf id (T .slots)
-    → (c : Change) (t es : List ℕ) → Decided k j accepted id u (T .elements) c t es
-    → lent t (applied (T .slots) c) es ≡ decidedTable document01 T id (decidedBytes document01 T accepted id u)
-decided-is T k s accepted id u j e c t es d =
-    rw (d .frees, d .bytes-are, d .numbers-are, s .says, e) (decided-at T accepted id u)
+pub decided-is : (T : Lent) (k : Table) → Sound T k → (entered id : ℕ) (u : List ℕ) (j : ℕ) → j ≡ placeOf id (T .slots)
+    → (c : Change) (t es : List ℕ) → Decided k j entered id u (T .elements) c t es
+    → lent t (applied (T .slots) c) es ≡ decidedTable document01 T id (decidedBytes document01 T entered id u)
+decided-is T k s entered id u j e c t es d =
+    rw (d .frees, d .bytes-are, d .numbers-are, s .says, e) (decided-at T entered id u)

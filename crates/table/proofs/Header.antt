@@ -127,7 +127,7 @@ module _ (T : List ℕ) where
           own = getD T 3 0;
           returns = valueOf (part 4 2 T);
           decided = valueOf (part 6 2 T);
-          accepted = valueOf (part 8 2 T);
+          entered = valueOf (part 8 2 T);
           least = valueOf (part 10 2 T);
           sheet = valueOf (part 12 2 T);
           columns = c .columns;

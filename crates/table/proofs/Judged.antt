@@ -68,7 +68,7 @@ module _ (k : Table) (waiting : ℕ) (T : List ℕ) where
       counts-over d = rw (f, le-leb _ _ l, lt-leb (k .decided + waiting) (k .returns) d)
 
       pub counts-but : k .decided + waiting ≤ k .returns
-          → leb (k .accepted) (k .decided) ≡ countsSoundAt k waiting T
+          → leb (k .entered) (k .decided) ≡ countsSoundAt k waiting T
       unfolding countsSoundAt
       counts-but d = rw (f, le-leb _ _ l, le-leb (k .decided + waiting) (k .returns) d)
 

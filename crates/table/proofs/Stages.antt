@@ -1,20 +1,19 @@
 -- What a sound table says to a call: the returns that wait while it is open, and the one that waits under an id, which is that
 -- of the id's record (`find-place`). Assumes nothing.
 use mathlib.Core.Path.{_≡_, refl, sym, _∙_}
-use mathlib.Core.Bool.{Bool, true, false, cond, not}
+use mathlib.Core.Bool.{Bool, true, false, not}
 use mathlib.Core.List.{List}
 use mathlib.Core.Option.{some, none}
 use Prim.Native.Nat.{ℕ, _≤_, _<_}
 use native.Mathlib.Omega.{arith}
 use borrow.Author.Tests.{ne-eqb, lt-ltb, le-ltb}
-use lib.Dec.{eqb}
 use lib.ListN.{length, getD}
 use Rattle.algebra.proofs.Members.{and-left}
 use Rattle.slots.specs.Slots.{freeSlot}
 use Rattle.rules.specs.Settings.{document01}
 use Rattle.rules.specs.Keyed.{find}
-use Rattle.rules.specs.Server.{Wait, awaitsOne, awaitsTwo, heldId, whileOpen}
-use Rattle.rules.specs.WaitingList.{isFree, placeOf, waitsUnder, waitingCount, waitsIn, waitAt}
+use Rattle.rules.specs.Server.{Wait, heldId, whileOpen}
+use Rattle.rules.specs.WaitingList.{isFree, placeOf, waitsUnder, waitingCount, waitsIn, waitAs, waitAt}
 use Rattle.rules.specs.Table.{Lent, columnsAt, stageIn, waitingUnder}
 use Rattle.rules.proofs.Waiting.Records.{place-most, place-holds, count-waits, find-place}
 use Rattle.layout.specs.Numbers.{tableOf}
@@ -69,8 +68,7 @@ module _ (T : Lent) (k : Table) (s : Sound T k) where
       not-free = not-of _ (and-left (not (isFree (getD (T .slots) place freeSlot))) _ under)
 
       pub found-under : find heldId id (waitsOf T)
-          ≡ some (cond (eqb (getD (T .slots) place freeSlot .stage) 1) (awaitsOne (waitingUnder document01 T id))
-          (awaitsTwo (waitingUnder document01 T id)))
+          ≡ some (waitAs (getD (T .slots) place freeSlot .stage) (waitingUnder document01 T id))
       unfolding waitAt
       found-under =
           find-place (columnsAt document01 T) id (T .slots) (T .elements)

@@ -41,7 +41,7 @@ module _ (T : Lent) (k : Table) (s : Sound T k) where
       rw zero-add at (record-at document01 (columnsAt document01 T) (T .elements) 0 (T .slots) (run T (s .is-sound) .2) j
       (omega (arith, s .eight)))
 
-  pub stage-at : (j : ℕ) → j < 8 → getD (T .slots) j freeSlot .stage ≤ 2
+  pub stage-at : (j : ℕ) → j < 8 → getD (T .slots) j freeSlot .stage ≤ 3
   stage-at j h = stage-most document01 (columnsAt document01 T) _ _ (record-sound j h)
 
   module _ (j : ℕ) (h : j < 8) (taken : isFree (getD (T .slots) j freeSlot) ≡ false) where
@@ -56,5 +56,5 @@ module _ (T : Lent) (k : Table) (s : Sound T k) where
           limited = s .limited;
           ids-long = omega (arith, s .long);
           some-room = omega (arith, s .decided-few, waiting-some (T .slots) j (omega (arith, s .eight)) taken);
-          accepted-few = s .accepted-few;
+          entered-few = s .entered-few;
         }

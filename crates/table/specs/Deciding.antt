@@ -18,14 +18,14 @@ erasedAt k at es =
     splice es (placeSizeOf (k .entries) (k .gates) * at) (replicate (placeSizeOf (k .entries) (k .gates)) 0)
 
 -- the return at a place can be decided: there is room for its id, and the run of numbers has its place
-pub record Placed (t : List ℕ) (k : Table) (es : List ℕ) (at accepted : ℕ) : Type 0 where
+pub record Placed (t : List ℕ) (k : Table) (es : List ℕ) (at entered : ℕ) : Type 0 where
   pub decidable : Decidable t k
   pub run-long : placeSizeOf (k .entries) (k .gates) * 8 ≤ length es
   pub one-of-eight : at < 8
-  pub one-or-none : accepted ≤ 1
+  pub one-or-none : entered ≤ 1
 
 -- what deciding it does: c to the list, from the bytes t and the numbers es to t' and es'
-pub record Decided (k : Table) (at accepted id : ℕ) (t es : List ℕ) (c : Change) (t' es' : List ℕ) : Type 0 where
+pub record Decided (k : Table) (at entered id : ℕ) (t es : List ℕ) (c : Change) (t' es' : List ℕ) : Type 0 where
   pub frees : c ≡ recordsAt at freeSlot
-  pub bytes-are : t' ≡ noted k accepted id t
+  pub bytes-are : t' ≡ noted k entered id t
   pub numbers-are : es' ≡ erasedAt k at es

@@ -57,7 +57,7 @@ lengthOf k = lengthAt (k .sheet) (k .published) (k .returns)
 unfoldable pub countsSoundAt : Table → ℕ → List ℕ → Bool
 countsSoundAt k waiting T =
     totalsFit document01 (k .returns) (columnsIn document01 T)
-    && (leb (lengthOf k) (length T) && (leb (k .decided + waiting) (k .returns) && leb (k .accepted) (k .decided)))
+    && (leb (lengthOf k) (length T) && (leb (k .decided + waiting) (k .returns) && leb (k .entered) (k .decided)))
 
 unfoldable pub totalsSoundAt : Table → List ℕ → Bool
 totalsSoundAt k T = allBelow 2147483647 (elementsOf 4 (part (totalsAt (k .sheet)) (4 * k .published) T))
@@ -85,4 +85,4 @@ pub record Sound (T : Lent) (k : Table) : Type 0 where
   pub eight : length (T .slots) ≡ 8
   pub run-long : placeSizeOf (k .entries) (k .gates) * 8 ≤ length (T .elements)
   pub decided-few : k .decided + waitingCount (T .slots) ≤ k .returns
-  pub accepted-few : k .accepted ≤ k .decided
+  pub entered-few : k .entered ≤ k .decided

@@ -96,7 +96,7 @@ fn head(t: &[u8]) -> Found
             own: wide(t[3]),
             returns: words::read_u16(t, 4),
             decided: words::read_u16(t, 6),
-            accepted: words::read_u16(t, 8),
+            entered: words::read_u16(t, 8),
             least: words::read_u16(t, 10),
             sheet: n,
             columns: counts.columns,
@@ -125,7 +125,7 @@ fn counts_sound(t: &[u8], k: Table, waiting: u32) -> bool
     if k.returns - k.decided < waiting {
         return false;
     }
-    k.accepted <= k.decided
+    k.entered <= k.decided
 }
 
 // Whether the totals are elements.

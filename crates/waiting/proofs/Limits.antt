@@ -36,31 +36,31 @@ module _ (cs : List Column) where
 
 -- ---- the tests of a record in their order: the one that fails, or the last where the others hold
 module _ (gates : ℕ) (x : Slot) (ns : List ℕ) where
-  pub stage-over : 2 < x .stage → false ≡ recordSoundAt gates x ns
+  pub stage-over : 3 < x .stage → false ≡ recordSoundAt gates x ns
   unfolding recordSoundAt
-  stage-over h = rw (lt-leb (x .stage) 2 h)
+  stage-over h = rw (lt-leb (x .stage) 3 h)
 
-  module _ (known : x .stage ≤ 2) where
+  module _ (known : x .stage ≤ 3) where
     pub record-free : x .stage ≡ 0 → true ≡ recordSoundAt gates x ns
     unfolding recordSoundAt
-    record-free e = rw (le-leb (x .stage) 2 known, eq-eqb (x .stage) 0 e)
+    record-free e = rw (le-leb (x .stage) 3 known, eq-eqb (x .stage) 0 e)
 
     module _ (waits : x .stage ≡ 0 → ⊥) where
       pub pair-fails : pairSound gates (x .r) (x .s) ≡ false → false ≡ recordSoundAt gates x ns
       unfolding recordSoundAt
-      pair-fails e = rw (le-leb (x .stage) 2 known, ne-eqb (x .stage) 0 waits, e)
+      pair-fails e = rw (le-leb (x .stage) 3 known, ne-eqb (x .stage) 0 waits, e)
 
       module _ (pair : pairSound gates (x .r) (x .s) ≡ true) where
         pub d-over : 2147483647 ≤ x .d → false ≡ recordSoundAt gates x ns
         unfolding recordSoundAt
-        d-over h = rw (le-leb (x .stage) 2 known, ne-eqb (x .stage) 0 waits, pair, le-ltb (x .d) 2147483647 h)
+        d-over h = rw (le-leb (x .stage) 3 known, ne-eqb (x .stage) 0 waits, pair, le-ltb (x .d) 2147483647 h)
 
         module _ (below : x .d < 2147483647) where
           pub e-over : 2147483647 ≤ x .e → false ≡ recordSoundAt gates x ns
           unfolding recordSoundAt
           e-over h =
               rw (
-                le-leb (x .stage) 2 known,
+                le-leb (x .stage) 3 known,
                 ne-eqb (x .stage) 0 waits,
                 pair,
                 lt-ltb (x .d) 2147483647 below,
@@ -71,7 +71,7 @@ module _ (gates : ℕ) (x : Slot) (ns : List ℕ) where
           unfolding recordSoundAt
           numbers-decide h =
               rw (
-                le-leb (x .stage) 2 known,
+                le-leb (x .stage) 3 known,
                 ne-eqb (x .stage) 0 waits,
                 pair,
                 lt-ltb (x .d) 2147483647 below,

@@ -8,12 +8,12 @@ use lib.Dec.{ltb, leb}
 use lib.ListN.{length}
 use Rattle.words.specs.Bytes.{part, allBelow}
 use Rattle.slots.specs.declared.Slot.{Slot}
-use Rattle.rules.specs.WaitingList.{isFree}
+use Rattle.rules.specs.WaitingList.{stageEntry, isFree}
 use Rattle.limits.specs.Sheets.{pairSound}
 
 unfoldable pub recordSoundAt : ℕ → Slot → List ℕ → Bool
 recordSoundAt gates x ns =
-    leb (x .stage) 2
+    leb (x .stage) stageEntry
     && (isFree x
     || (pairSound gates (x .r) (x .s) && (ltb (x .d) 2147483647 && (ltb (x .e) 2147483647 && allBelow 2147483647 ns))))
 

@@ -18,8 +18,10 @@ pub const AWAITS_ONE: u32 = 1;
 
 pub const AWAITS_TWO: u32 = 2;
 
+pub const AWAITS_ENTRY: u32 = 3;
+
 // What a return that waits is known by, besides its share: its id and its pair; d_i and e_i in the first wait, the sums d and
-// e in the second; r h_i(r) and tau_i.
+// e afterwards; r h_i(r) and tau_i.
 pub struct Waiting {
     pub id: u32,
     pub r: u64,
@@ -89,7 +91,7 @@ pub fn place_of(list: [Slot; 8], id: u32) -> usize
 fn record_sound(x: Slot, ns: &[u32], gates: usize) -> bool
     ensures { λ r. ⌜ r ≡ recordSoundAt gates x (now (ns .entry)) ⌝ }
 {
-    if AWAITS_TWO < x.stage {
+    if AWAITS_ENTRY < x.stage {
         return false;
     }
     if x.stage == FREE {

@@ -111,7 +111,16 @@ fn round_one(server: Server, joined: [u8; 2 * LENGTH_ONE]) -> Server {
     }
 }
 
-// Round two.
+// Entering: the total that the return is added to, which stands behind the sheet of one byte.
+fn enter(before: [u8; 59], list: [Slot; 8], waiting: [u32; 88]) {
+    let mut table = before;
+    let mut numbers = waiting;
+    let change = entering::enter(&mut table, list, &mut numbers, 9);
+    let total = words::read_u32(&table, 15) as u64;
+    printing::outcome(change.refusal, b", entered: total ", total);
+}
+
+// Round two, and where the return is accepted, its entry.
 fn verdict(server: Server, joined: [u8; 2 * LENGTH_TWO]) {
     let mut table = server.table;
     let list = server.list;
@@ -123,11 +132,12 @@ fn verdict(server: Server, joined: [u8; 2 * LENGTH_TWO]) {
         refused(number);
         return;
     }
-    if accepted == 1 {
-        write(b", accepted\n");
+    if accepted == 0 {
+        write(b", rejected\n");
         return;
     }
-    write(b", rejected\n");
+    write(b", accepted");
+    enter(table, after(list, change), numbers);
 }
 
 // The messages of both servers, one behind the other: of round one, and of round two.

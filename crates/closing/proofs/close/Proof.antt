@@ -62,7 +62,7 @@ returns-2 c =
     close-waits (three u) (a .out .now) (a .written .now) (table u) (sound-table u) (one .if1 .left) _
     (c .before .count .ensures) (c .if2 .taken)
 
--- too few are accepted
+-- too few are entered
 same-length-3 : tie.Need-same-length-3
 same-length-3 c = search needs
 

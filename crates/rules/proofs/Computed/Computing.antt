@@ -31,11 +31,11 @@ use Rattle.rules.specs.Making.{valuesFault, randomFault, makeRefusal, ma
 use Rattle.rules.specs.Messages.{headerFault, elementsFault, roundSound, stillMissing, ownKept, placeSound}
 use Rattle.rules.specs.Messages.{roundFault, samePair, challengeFault, elementSum, bothZero}
 use Rattle.rules.specs.Server.{isMember, openFault, waitingOf, sigmaIn, messageOne, messageTwo, summed, publishedShares}
-use Rattle.rules.specs.Server.{totalsMessage, totalsLength, whileOpen, whileOne, whileTwo, whileWaiting}
-use Rattle.rules.specs.Server.{shareRefusal, oneRefusal, twoRefusal, dropRefusal, closeRefusal}
+use Rattle.rules.specs.Server.{totalsMessage, totalsLength, whileOpen, whileOne, whileTwo, whileEntry, whileWaiting}
+use Rattle.rules.specs.Server.{shareRefusal, oneRefusal, twoRefusal, enterRefusal, dropRefusal, closeRefusal}
 use Rattle.rules.specs.Keyed.{find, under, without, changed, those}
-use Rattle.rules.specs.WaitingList.{firstWhere, waitingCount, waitingAt, waitAt, recordsFrom, present, recordSound, recordsSound}
-use Rattle.rules.specs.WaitingList.{waitingSound}
+use Rattle.rules.specs.WaitingList.{firstWhere, waitingCount, waitingAt, waitAs, waitAt, recordsFrom, present, recordSound}
+use Rattle.rules.specs.WaitingList.{recordsSound, waitingSound}
 use Rattle.rules.specs.Table.{totalsPlace, idsPlace, tableLength, stageIn, tableState}
 use Rattle.rules.specs.Table.{headerSound, countsSound, tableSound, tableFault, openLength, openRoom}
 use Rattle.rules.specs.Sizes.{greatestUpTo, sizesOf, sizeByKind, columnSize, circuitSize}
@@ -43,13 +43,13 @@ use Rattle.rules.specs.Columns.{largestIn}
 use Rattle.rules.specs.Circuit.{constantsOf, addsOf, scalesOf, constantsIn, addsIn, scalesIn}
 use Rattle.rules.specs.Table.{openRefusal, openBytes, shareRefused, shareTable, shareBytes, oneRefused, oneTable}
 use Rattle.rules.specs.Table.{oneBytes, decidedBytes, decidedTable, addedTotals, addedBytes, twoRefused, twoVerdict}
-use Rattle.rules.specs.Table.{twoTable, dropRefused, dropTable, closeRefused, closeTable, closeBytes}
+use Rattle.rules.specs.Table.{acceptedTable, twoTable, enterRefused, enterTable, dropRefused, dropTable, closeRefused, closeTable, closeBytes}
 use Rattle.rules.specs.Joining.{totalsSound, joinedFault, joinRefusal, joinCount, joinTotals, joinBytes}
 use Rattle.rules.specs.Recount.{decimalFrom, refusalText, lineText, optionLines, columnLines, recountRefusal}
 use Rattle.rules.specs.Recount.{recountText}
 use Rattle.rules.specs.Shelf.{firstBytes, shelved, shelfRefusal}
 use Rattle.rules.specs.Ledger.{notesWith, ledgerTotals, closingMessage, ledgerWait, ledgerStage, ledgerState, refusalOf, decideAs}
-use Rattle.rules.specs.Ledger.{sumsNoted, ledgerAfter, secondMessage, answerOf, runLedger, ledgerAnswers}
+use Rattle.rules.specs.Ledger.{sumsNoted, acceptNoted, ledgerAfter, secondMessage, answerOf, runLedger, ledgerAnswers}
 use Rattle.rules.specs.Runs.{tableRefusal, tableAfter, tableAnswer, runTable, tableAnswers}
 use Rattle.rules.specs.Pools.{notesIn, noteUnder, callMessages, handedIn}
 
@@ -98,7 +98,7 @@ unfolding bothZero isMember openFault waitingOf sigmaIn messageOne messageTwo su
 part10 = tt
 
 unfoldable pub part11 : Unit {0}
-unfolding totalsLength whileOpen whileOne whileTwo whileWaiting shareRefusal oneRefusal twoRefusal dropRefusal
+unfolding totalsLength whileOpen whileOne whileTwo whileEntry whileWaiting shareRefusal oneRefusal twoRefusal enterRefusal dropRefusal
 part11 = tt
 
 unfoldable pub part12 : Unit {0}
@@ -110,7 +110,8 @@ unfolding waitingSound tableSound tableFault openLength openRoom openRefusal ope
 part13 = tt
 
 unfoldable pub part14 : Unit {0}
-unfolding oneRefused oneTable oneBytes decidedBytes decidedTable addedTotals addedBytes twoRefused twoVerdict twoTable dropRefused dropTable
+unfolding oneRefused oneTable oneBytes decidedBytes decidedTable addedTotals addedBytes twoRefused twoVerdict acceptedTable twoTable
+    enterRefused enterTable dropRefused dropTable
 part14 = tt
 
 unfoldable pub part15 : Unit {0}
@@ -122,7 +123,8 @@ unfolding decimalFrom refusalText lineText optionLines columnLines recountRefusa
 part16 = tt
 
 unfoldable pub part17 : Unit {0}
-unfolding closingMessage ledgerWait ledgerStage ledgerState refusalOf decideAs sumsNoted ledgerAfter secondMessage answerOf runLedger
+unfolding closingMessage ledgerWait ledgerStage ledgerState refusalOf decideAs sumsNoted acceptNoted ledgerAfter secondMessage
+    answerOf runLedger
 part17 = tt
 
 unfoldable pub part18 : Unit {0}
@@ -140,7 +142,7 @@ unfolding afterEach legalLists listsIn listsBytes everyReturnBytes everyReturnLe
 part20 = tt
 
 unfoldable pub part21 : Unit {0}
-unfolding find without changed those firstWhere waitingCount waitingAt waitAt recordsFrom present recordSound recordsSound
+unfolding find without changed those firstWhere waitingCount waitingAt waitAs waitAt recordsFrom present recordSound recordsSound
 part21 = tt
 
 unfoldable pub everything : Unit {0}

@@ -8,6 +8,7 @@ use Rattle.rules.specs.WaitingExamples.{manyWait, mixed, eight}
 use Rattle.rules.specs.OrderExamples.{threeServers, sameSlots, reversed}
 use Rattle.rules.specs.ChallengeExamples.{threePairs, typingSlip}
 use Rattle.rules.specs.LeastExamples.{smallPools}
+use Rattle.rules.specs.EntryExamples.{verdictFirst, whileAccepted}
 use Rattle.rules.proofs.Computed.Computing.{everything}
 
 pub limits-hold : every (λ row. row .holds) limits ≡ true
@@ -57,3 +58,11 @@ typing-slip-hold = refl
 pub small-pools-hold : every (λ row. row .holds) smallPools ≡ true
 unfolding everything smallPools
 small-pools-hold = refl
+
+pub verdict-first-hold : every (λ row. row .holds) verdictFirst ≡ true
+unfolding everything verdictFirst
+verdict-first-hold = refl
+
+pub while-accepted-hold : every (λ row. row .holds) whileAccepted ≡ true
+unfolding everything whileAccepted manyWait
+while-accepted-hold = refl

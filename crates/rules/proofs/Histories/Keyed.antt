@@ -5,16 +5,15 @@ use mathlib.Core.Logic.{_≢_, inl, inr, _⊎_, ⊎-elim}
 use mathlib.Core.Bool.{Bool, true, false, cond, _||_, true≢false}
 use mathlib.Core.List.{List, [], _∷_, _++_, map}
 use mathlib.Core.Option.{Option, some, none}
-use Prim.Native.Nat.{ℕ, suc, _≤_}
+use Prim.Native.Nat.{ℕ}
 use native.Mathlib.Omega.{arith}
 use borrow.Author.Tests.{eqb-true, eq-eqb, ne-eqb}
 use lib.Dec.{eqb}
-use lib.ListN.{length}
 use Rattle.algebra.specs.Lists.{In, Distinct, distinct∷, Rearranged, keep, swap, chain}
 use Rattle.algebra.proofs.Members.{in-map, not-in}
 use Rattle.algebra.proofs.Rearrangement.{rearranged-refl}
 use Rattle.rules.specs.Server.{isMember}
-use Rattle.rules.specs.Keyed.{find, under, without, changed, those}
+use Rattle.rules.specs.Keyed.{find, under, without, changed}
 
 -- ---- whether an id is among ids
 pub no-member-in : (x : ℕ) (s : List ℕ) → isMember x s ≡ false → In x s → ⊥
@@ -81,6 +80,16 @@ module _ {A : Type 0} (key : A → ℕ) (id : ℕ) where
       go true q e f = let same : v ≡ w = cc in ap key (sym same) ∙ eqb-true _ _ q
       go false q e f = f e
 
+  -- the one with the id, where no other has it
+  pub found-in : (ws : List A) (w : A) → Distinct (map key ws) → In w ws → key w ≡ id → find key id ws ≡ some w
+  unfolding find
+  found-in [] w d h e = absurd h
+  found-in (v ∷ ws) w d (inl q) e = rw (eq-eqb (key v) id (ap key q ∙ e)) (ap (λ (a : A). some a) q)
+  found-in (v ∷ ws) w (distinct∷ fresh d) (inr h) e = rw (ne-eqb (key v) id differ) (found-in ws w d h e)
+    where
+      differ : key v ≡ id → ⊥
+      differ q = not-in (key v) (map key ws) fresh (subst (λ (k : ℕ). In k (map key ws)) (e ∙ sym q) (in-map key w ws h))
+
   pub found-out : (ws : List A) (w : A) → find key id ws ≡ some w → Rearranged (w ∷ without key id ws) ws
   unfolding find without
   found-out [] w e = absurd (let z : _≡_ {A = ℕ} 0 1 = cc in omega arith)
@@ -93,6 +102,15 @@ module _ {A : Type 0} (key : A → ℕ) (id : ℕ) where
           let same : w ≡ v = cc in
           subst (λ (x : A). Rearranged (w ∷ ws) (x ∷ ws)) same (rearranged-refl (w ∷ ws))
       go false e f = chain (swap w v (without key id ws)) (keep v (f e))
+
+  pub find-in : (ws : List A) (w : A) → find key id ws ≡ some w → In w ws
+  unfolding find
+  find-in [] w e = absurd (let z : _≡_ {A = ℕ} 0 1 = cc in omega arith)
+  find-in (v ∷ ws) w e = go (eqb (key v) id) e (find-in ws w)
+    where
+      go : (b : Bool) → cond b (some v) (find key id ws) ≡ some w → (find key id ws ≡ some w → In w ws) → In w (v ∷ ws)
+      go true e f = inl (cc)
+      go false e f = inr (f e)
 
   pub changed-found : (f : A → A) → ((a : A) → key (f a) ≡ key a) → (ws : List A) (w : A) → find key id ws ≡ some w
       → find key id (changed key id f ws) ≡ some (f w)
@@ -119,6 +137,31 @@ module _ {A : Type 0} (key : A → ℕ) (id : ℕ) where
           → In p (w ∷ ws) ⊎ ((v : A) × (cond b (some w) (find key id ws) ≡ some v) × (f v ≡ p))
       go true (inl e) r = inr (w, refl, e)
       go true (inr k) r = inl (inr k)
+      go false (inl e) r = inl (inl e)
+      go false (inr k) r = ⊎-elim (λ q. inl (inr q)) (λ q. inr q) (r k)
+
+  -- a member is still there, or it is the one that is found
+  pub changed-still : (f : A → A) (ws : List A) (p : A) → In p ws → In p (changed key id f ws) ⊎ (find key id ws ≡ some p)
+  unfolding changed find
+  changed-still f [] p h = absurd h
+  changed-still f (w ∷ ws) p h = go (eqb (key w) id) h (changed-still f ws p)
+    where
+      go : (b : Bool) → In p (w ∷ ws) → (In p ws → In p (changed key id f ws) ⊎ (find key id ws ≡ some p))
+          → In p (cond b (f w ∷ ws) (w ∷ changed key id f ws)) ⊎ (cond b (some w) (find key id ws) ≡ some p)
+      go true (inl e) r = inr (ap (λ (v : A). some v) e)
+      go true (inr k) r = inl (inr k)
+      go false (inl e) r = inl (inl e)
+      go false (inr k) r = ⊎-elim (λ q. inl (inr q)) (λ q. inr q) (r k)
+
+  pub without-still : (ws : List A) (p : A) → In p ws → In p (without key id ws) ⊎ (find key id ws ≡ some p)
+  unfolding without find
+  without-still [] p h = absurd h
+  without-still (w ∷ ws) p h = go (eqb (key w) id) h (without-still ws p)
+    where
+      go : (b : Bool) → In p (w ∷ ws) → (In p ws → In p (without key id ws) ⊎ (find key id ws ≡ some p))
+          → In p (cond b ws (w ∷ without key id ws)) ⊎ (cond b (some w) (find key id ws) ≡ some p)
+      go true (inl e) r = inr (ap (λ (v : A). some v) e)
+      go true (inr k) r = inl k
       go false (inl e) r = inl (inl e)
       go false (inr k) r = ⊎-elim (λ q. inl (inr q)) (λ q. inr q) (r k)
 
@@ -185,113 +228,3 @@ module _ {A B : Type 0} (key : A → ℕ) (key′ : B → ℕ) (g : A → B) (ke
           → cond b (f′ (g w) ∷ map g ws) (g w ∷ changed key′ id f′ (map g ws)) ≡ map g (cond b (f w ∷ ws) (w ∷ changed key id f ws))
       go true r = ap (λ (x : B). x ∷ map g ws) (h w)
       go false r = ap (λ (x : List B). g w ∷ x) r
-
--- ---- those for which a test holds
-module _ {A : Type 0} (t : A → Bool) where
-  pub those-here : (a : A) (s : List A) → t a ≡ true → those t (a ∷ s) ≡ a ∷ those t s
-  unfolding those
-  those-here a s e = rw e refl
-
-  pub those-not : (a : A) (s : List A) → t a ≡ false → those t (a ∷ s) ≡ those t s
-  unfolding those
-  those-not a s e = rw e refl
-
-  pub those-end : (s : List A) (a : A) → those t (s ++ (a ∷ [])) ≡ those t s ++ cond (t a) (a ∷ []) []
-  unfolding those
-  those-end [] a = refl
-  those-end (x ∷ s) a = go (t x) (those-end s a)
-    where
-      go : (b : Bool) → those t (s ++ (a ∷ [])) ≡ those t s ++ cond (t a) (a ∷ []) []
-          → cond b (x ∷ those t (s ++ (a ∷ []))) (those t (s ++ (a ∷ []))) ≡ cond b (x ∷ those t s) (those t s) ++ cond (t a) (a ∷ []) []
-      go true r = ap (λ (v : List A). x ∷ v) r
-      go false r = r
-
-  pub those-few : (s : List A) → length (those t s) ≤ length s
-  unfolding those
-  those-few [] = omega arith
-  those-few (x ∷ s) = go (t x) (those-few s)
-    where
-      go : (b : Bool) → length (those t s) ≤ length s → length (cond b (x ∷ those t s) (those t s)) ≤ suc (length s)
-      go true h = omega arith
-      go false h = omega arith
-
-module _ {A : Type 0} (key : A → ℕ) (x : ℕ) where
-  abbrev mine : A → Bool
-  mine a = eqb (key a) x
-
-  -- the id itself
-  pub find-those : (ws : List A) → find key x (those mine ws) ≡ find key x ws
-  unfolding find those
-  find-those [] = refl
-  find-those (w ∷ ws) = go (eqb (key w) x) refl (find-those ws)
-    where
-      go : (b : Bool) → eqb (key w) x ≡ b → find key x (those mine ws) ≡ find key x ws
-          → find key x (cond b (w ∷ those mine ws) (those mine ws)) ≡ cond b (some w) (find key x ws)
-      go true e r = rw e refl
-      go false e r = r
-
-  pub without-those : (ws : List A) → without key x (those mine ws) ≡ those mine (without key x ws)
-  unfolding without those
-  without-those [] = refl
-  without-those (w ∷ ws) = go (eqb (key w) x) refl (without-those ws)
-    where
-      go : (b : Bool) → eqb (key w) x ≡ b → without key x (those mine ws) ≡ those mine (without key x ws)
-          → without key x (cond b (w ∷ those mine ws) (those mine ws)) ≡ those mine (cond b ws (w ∷ without key x ws))
-      go true e r = rw e refl
-      go false e r = rw e r
-
-  pub changed-those : (f : A → A) → ((a : A) → key (f a) ≡ key a) → (ws : List A)
-      → changed key x f (those mine ws) ≡ those mine (changed key x f ws)
-  unfolding changed those
-  changed-those f h [] = refl
-  changed-those f h (w ∷ ws) = go (eqb (key w) x) refl (changed-those f h ws)
-    where
-      go : (b : Bool) → eqb (key w) x ≡ b → changed key x f (those mine ws) ≡ those mine (changed key x f ws)
-          → changed key x f (cond b (w ∷ those mine ws) (those mine ws)) ≡ those mine (cond b (f w ∷ ws) (w ∷ changed key x f ws))
-      go true e r = rw (e, h w, e) refl
-      go false e r = rw e r
-
-  pub member-those : (ws : List A) → isMember x (map key (those mine ws)) ≡ isMember x (map key ws)
-  unfolding isMember those
-  member-those [] = refl
-  member-those (w ∷ ws) = go (eqb (key w) x) refl (member-those ws)
-    where
-      go : (b : Bool) → eqb (key w) x ≡ b → isMember x (map key (those mine ws)) ≡ isMember x (map key ws)
-          → isMember x (map key (cond b (w ∷ those mine ws) (those mine ws))) ≡ (b || isMember x (map key ws))
-      go true e r = rw e refl
-      go false e r = r
-
-  -- another id
-  module _ (id : ℕ) (other : id ≢ x) where
-    away : (w : A) → eqb (key w) id ≡ true → eqb (key w) x ≡ false
-    away w e = ne-eqb _ _ (λ q. other (sym (eqb-true _ _ e) ∙ q))
-
-    pub without-other : (ws : List A) → those mine (without key id ws) ≡ those mine ws
-    unfolding without those
-    without-other [] = refl
-    without-other (w ∷ ws) = go (eqb (key w) id) refl (without-other ws)
-      where
-        go : (b : Bool) → eqb (key w) id ≡ b → those mine (without key id ws) ≡ those mine ws
-            → those mine (cond b ws (w ∷ without key id ws)) ≡ those mine (w ∷ ws)
-        go true e r = sym (those-not mine w ws (away w e))
-        go false e r = ap (λ (v : List A). cond (eqb (key w) x) (w ∷ v) v) r
-
-    pub changed-other : (f : A → A) → ((a : A) → key (f a) ≡ key a) → (ws : List A)
-        → those mine (changed key id f ws) ≡ those mine ws
-    unfolding changed those
-    changed-other f h [] = refl
-    changed-other f h (w ∷ ws) = go (eqb (key w) id) refl (changed-other f h ws)
-      where
-        go : (b : Bool) → eqb (key w) id ≡ b → those mine (changed key id f ws) ≡ those mine ws
-            → those mine (cond b (f w ∷ ws) (w ∷ changed key id f ws)) ≡ those mine (w ∷ ws)
-        go true e r =
-            those-not mine (f w) ws (ap (λ (k : ℕ). eqb k x) (h w) ∙ away w e) ∙ sym (those-not mine w ws (away w e))
-        go false e r = ap (λ (v : List A). cond (eqb (key w) x) (w ∷ v) v) r
-
-    pub find-without : (ws : List A) → find key x (without key id ws) ≡ find key x ws
-    find-without ws = sym (find-those (without key id ws)) ∙ ap (find key x) (without-other ws) ∙ find-those ws
-
-    pub find-changed : (f : A → A) → ((a : A) → key (f a) ≡ key a) → (ws : List A)
-        → find key x (changed key id f ws) ≡ find key x ws
-    find-changed f h ws =
-        sym (find-those (changed key id f ws)) ∙ ap (find key x) (changed-other f h ws) ∙ find-those ws

@@ -1,5 +1,6 @@
 -- What a call does to a ledger, as one relation: it stays, or it moves in one of five ways, each with what its checks
--- have shown and, where it names an id, the return found under it. A list of calls of bytes is a history of such moves.
+-- have shown and, where it names an id, the return found under it. A return is decided in one of three. A list of calls of bytes is a
+-- history of such moves.
 -- Assumes nothing.
 use mathlib.Core.Path.{_≡_, refl, sym, ap, ap₂, _∙_, subst}
 use mathlib.Core.Bool.{Bool, true, false, cond, not, _&&_}
@@ -26,13 +27,13 @@ use Rattle.rules.specs.Messages.{kindIn, idIn, serverIn, elementsIn, rou
 use Rattle.rules.specs.Messages.{challengeFault, firstSum, secondSum, bothZero}
 use Rattle.rules.specs.Keyed.{find, without, changed}
 use Rattle.rules.specs.Server.{Opened, Waiting, Wait, heldId, mostWaiting, waitingOf, isMember, messageOne, messageTwo, withSums}
-use Rattle.rules.specs.Server.{shareRefusal, oneRefusal, twoRefusal, dropRefusal, closeRefusal}
-use Rattle.rules.specs.Server.{whileOpen, whileOne, whileTwo, whileWaiting}
-use Rattle.rules.specs.Ledger.{Call, share, roundOne, roundTwo, drop, close, Answer, refused, wrote, judged, done, Note}
-use Rattle.rules.specs.Ledger.{Pending, waitsOne, waitsTwo, noteIn, pendingId, Progress, isOpen, isClosed}
-use Rattle.rules.specs.Ledger.{accepted, rejected, dropped, Decided, Ledger, isAccepted, notesWith, idsOf, notesOf}
+use Rattle.rules.specs.Server.{shareRefusal, oneRefusal, twoRefusal, enterRefusal, dropRefusal, closeRefusal}
+use Rattle.rules.specs.Server.{whileOpen, whileOne, whileTwo, whileEntry, whileWaiting}
+use Rattle.rules.specs.Ledger.{Call, share, roundOne, roundTwo, enter, drop, close, Answer, refused, wrote, judged, done, Note}
+use Rattle.rules.specs.Ledger.{Pending, waitsOne, waitsTwo, waitsEntry, noteIn, pendingId, Progress, isOpen, isClosed}
+use Rattle.rules.specs.Ledger.{Decision, entered, rejected, dropped, Decided, Ledger, isEntered, notesWith, idsOf, notesOf}
 use Rattle.rules.specs.Ledger.{closingMessage, noted, noteOf}
-use Rattle.rules.specs.Ledger.{ledgerWait, ledgerStage, ledgerState, refusalOf, decideAs, sumsNoted, ledgerAfter}
+use Rattle.rules.specs.Ledger.{ledgerWait, ledgerStage, ledgerState, refusalOf, decideAs, sumsNoted, acceptNoted, ledgerAfter}
 use Rattle.rules.specs.Ledger.{secondAnswer, secondMessage, answerOf, ledgerStep, ledgerSays, runLedger, ledgerAnswers}
 use Rattle.rules.specs.Pools.{BytesIn, messagesIn, callMessages, handedIn}
 use Rattle.rules.proofs.Histories.Keyed.{no-member-in, through, find-map}
@@ -41,6 +42,9 @@ use Rattle.rules.proofs.Histories.JoinedRuns.{Joined, JoinedOne, round-
 
 abbrev pub at : Progress → List Decided → Ledger
 at p ds = record { progress = p; decided = ds }
+
+abbrev pub decidedAs : Note → Decision → Decided
+decidedAs n d = record { note = n; decision = d }
 
 -- as many ids as returns that are decided
 pub many-used : (ds : List Decided) → length (idsOf (notesOf ds)) ≡ length ds
@@ -55,6 +59,7 @@ module _ (σ : Setting) (o : Opened) where
   unfolding ledgerWait waitingOf
   id-told (waitsOne n) = refl
   id-told (waitsTwo n d e) = refl
+  id-told (waitsEntry n d e) = refl
 
   ids-told : (ws : List Pending) → map heldId (map (ledgerWait σ o) ws) ≡ idsOf (map noteIn ws)
   ids-told [] = refl
@@ -79,37 +84,41 @@ module _ (σ : Setting) (o : Opened) where
     pub pair : allowedPair σ (o .columns) (n .r) (n .s) ≡ true
     pub below : All (λ x. x < σ .modulus) (n .elements)
 
-  abbrev pub verdictOn : Note → List ℕ → Decided
-  verdictOn n joined = record { note = n; decision = cond (bothZero σ (o .servers) joined) accepted rejected }
-
-  abbrev pub dropOf : Note → Decided
-  dropOf n = record { note = n; decision = dropped }
-
   abbrev pub sumsOf : List ℕ → Pending → Pending
   sumsOf joined = sumsNoted σ o (firstSum σ 34 (o .servers) joined) (secondSum σ 34 (o .servers) joined)
 
-  -- from a ledger to the next, with the answer and the round messages handed in
-  pub data Moves : Ledger → Answer → List (List ℕ) → Ledger → Type 0 where
-    stays : (l : Ledger) (n : ℕ) → Moves l (refused n) [] l
-    notes : (ws : List Pending) (ds : List Decided) (n : Note) → Taken ws ds n
-        → Moves (at (isOpen ws) ds) (wrote (messageOne σ o (noted σ o n))) [] (at (isOpen (waitsOne n ∷ ws)) ds)
-    sums : (ws : List Pending) (ds : List Decided) (id : ℕ) (n : Note) (joined : List ℕ)
+  -- the calls on an id that decide the return waiting under it, with the decision, the answer and the round messages handed in
+  pub data Decides (id : ℕ) : Call → Pending → Decision → Answer → List (List ℕ) → Type 0 where
+    rejects : (n : Note) (x y : ℕ) (joined : List ℕ) → Joined σ (o .servers) 35 (n .id) joined
+        → bothZero σ (o .servers) joined ≡ false
+        → Decides id (roundTwo id joined) (waitsTwo n x y) rejected (judged false) (messagesIn σ (o .servers) 35 joined)
+    enters : (n : Note) (x y : ℕ) → Decides id (enter id) (waitsEntry n x y) entered done []
+    drops : (p : Pending) → Decides id (drop id) p dropped done []
+
+  -- from a ledger by a call to the next, with the answer and the round messages handed in
+  pub data Moves : Ledger → Call → Answer → List (List ℕ) → Ledger → Type 0 where
+    stays : {c : Call} (l : Ledger) (n : ℕ) → Moves l c (refused n) [] l
+    notes : {c : Call} (ws : List Pending) (ds : List Decided) (n : Note) → Taken ws ds n
+        → Moves (at (isOpen ws) ds) c (wrote (messageOne σ o (noted σ o n))) [] (at (isOpen (waitsOne n ∷ ws)) ds)
+    sums : {c : Call} (ws : List Pending) (ds : List Decided) (id : ℕ) (n : Note) (joined : List ℕ)
         → find pendingId id ws ≡ some (waitsOne n) → JoinedOne σ (o .servers) (n .id) joined
-        → Moves (at (isOpen ws) ds) (wrote (secondAnswer σ o n joined)) (messagesIn σ (o .servers) 34 joined)
+        → Moves (at (isOpen ws) ds) c (wrote (secondAnswer σ o n joined)) (messagesIn σ (o .servers) 34 joined)
         (at (isOpen (changed pendingId id (sumsOf joined) ws)) ds)
-    judges : (ws : List Pending) (ds : List Decided) (id : ℕ) (p : Pending) (joined : List ℕ)
-        → find pendingId id ws ≡ some p → Joined σ (o .servers) 35 (noteIn p .id) joined
-        → Moves (at (isOpen ws) ds) (judged (bothZero σ (o .servers) joined)) (messagesIn σ (o .servers) 35 joined)
-        (at (isOpen (without pendingId id ws)) (ds ++ (verdictOn (noteIn p) joined ∷ [])))
-    drops : (ws : List Pending) (ds : List Decided) (id : ℕ) (p : Pending) → find pendingId id ws ≡ some p
-        → Moves (at (isOpen ws) ds) done [] (at (isOpen (without pendingId id ws)) (ds ++ (dropOf (noteIn p) ∷ [])))
-    closes : (ds : List Decided) → o .least ≤ length (notesWith isAccepted ds)
-        → Moves (at (isOpen []) ds) (wrote (closingMessage σ o (at (isOpen []) ds))) [] (at isClosed ds)
+    accepts : (ws : List Pending) (ds : List Decided) (id : ℕ) (n : Note) (x y : ℕ) (joined : List ℕ)
+        → find pendingId id ws ≡ some (waitsTwo n x y) → Joined σ (o .servers) 35 (n .id) joined
+        → bothZero σ (o .servers) joined ≡ true
+        → Moves (at (isOpen ws) ds) (roundTwo id joined) (judged true) (messagesIn σ (o .servers) 35 joined)
+        (at (isOpen (changed pendingId id (acceptNoted σ o) ws)) ds)
+    decides : {c : Call} {a : Answer} {h : List (List ℕ)} (ws : List Pending) (ds : List Decided) (id : ℕ) (p : Pending) (d : Decision)
+        → find pendingId id ws ≡ some p → Decides id c p d a h
+        → Moves (at (isOpen ws) ds) c a h (at (isOpen (without pendingId id ws)) (ds ++ (decidedAs (noteIn p) d ∷ [])))
+    closes : {c : Call} (ds : List Decided) → o .least ≤ length (notesWith isEntered ds)
+        → Moves (at (isOpen []) ds) c (wrote (closingMessage σ o (at (isOpen []) ds))) [] (at isClosed ds)
 
   pub data History : Ledger → List Answer → List (List ℕ) → Ledger → Type 0 where
     over : (l : Ledger) → History l [] [] l
-    next : {l l₁ l₂ : Ledger} {a : Answer} {xs : List Answer} {h hs : List (List ℕ)}
-        → Moves l a h l₁ → History l₁ xs hs l₂ → History l (a ∷ xs) (h ++ hs) l₂
+    next : {l l₁ l₂ : Ledger} {c : Call} {a : Answer} {xs : List Answer} {h hs : List (List ℕ)}
+        → Moves l c a h l₁ → History l₁ xs hs l₂ → History l (a ∷ xs) (h ++ hs) l₂
 
   -- ---- each call is a move
   taken-share : (ws : List Pending) (ds : List Decided) (m : List ℕ) (r s room : ℕ) → All (λ b. b < 256) m
@@ -157,7 +166,7 @@ module _ (σ : Setting) (o : Opened) where
         orElse (roundFault σ (o .servers) 34 (w .id) (o .own) (messageOne σ o w) joined)
         (orElse (challengeFault σ (o .servers) joined) (check (leb (roundLength σ 35) room) 14))
 
-    abbrev twoFault : Waiting → ℕ
+    abbrev pub twoFault : Waiting → ℕ
     twoFault w = roundFault σ (o .servers) 35 (w .id) (o .own) (messageTwo σ o w) joined
 
     -- messages of round one that pass are one of each server, all with one pair
@@ -175,30 +184,47 @@ module _ (σ : Setting) (o : Opened) where
 
     one-move : (room : ℕ) (v : Option Pending) → find pendingId id ws ≡ v
         → whileOne (through (ledgerWait σ o) v) (oneFault room) ≡ 0
-        → Moves (at (isOpen ws) ds) (wrote (secondMessage σ o v joined)) (messagesIn σ (o .servers) 34 joined)
+        → Moves (at (isOpen ws) ds) (roundOne id joined room) (wrote (secondMessage σ o v joined)) (messagesIn σ (o .servers) 34 joined)
         (at (isOpen (changed pendingId id (sumsOf joined) ws)) ds)
     unfolding whileOne ledgerWait secondMessage waitingOf
     one-move room none q e = absurd (omega arith)
     one-move room (some (waitsOne n)) q e = sums ws ds id n joined q (one-passed n room e)
     one-move room (some (waitsTwo n x y)) q e = absurd (omega arith)
+    one-move room (some (waitsEntry n x y)) q e = absurd (omega arith)
+
+    -- messages of round two that pass are one of each server
+    pub two-passed : (n : Note) (x y : ℕ) → twoFault (withSums (noted σ o n) x y) ≡ 0 → Joined σ (o .servers) 35 (n .id) joined
+    unfolding waitingOf
+    two-passed n x y e =
+        round-passed σ (o .servers) 35 (n .id) (o .own) (messageTwo σ o (withSums (noted σ o n) x y)) joined e
 
     two-move : (v : Option Pending) → find pendingId id ws ≡ v → whileTwo (through (ledgerWait σ o) v) twoFault ≡ 0
-        → Moves (at (isOpen ws) ds) (judged (bothZero σ (o .servers) joined)) (messagesIn σ (o .servers) 35 joined)
-        (decideAs σ o id v ws ds (cond (bothZero σ (o .servers) joined) accepted rejected))
-    unfolding whileTwo ledgerWait decideAs waitingOf
-    two-move none q e = absurd (omega arith)
-    two-move (some (waitsOne n)) q e = absurd (omega arith)
-    two-move (some (waitsTwo n x y)) q e =
-        let mine = messageTwo σ o (withSums (noted σ o n) x y) in
-        judges ws ds id (waitsTwo n x y) joined q (round-passed σ (o .servers) 35 (n .id) (o .own) mine joined e)
+        → (b : Bool) → bothZero σ (o .servers) joined ≡ b
+        → Moves (at (isOpen ws) ds) (roundTwo id joined) (judged b) (messagesIn σ (o .servers) 35 joined)
+        (cond b (at (isOpen (changed pendingId id (acceptNoted σ o) ws)) ds) (decideAs σ o id v ws ds rejected))
+    unfolding whileTwo ledgerWait decideAs
+    two-move none q e b z = absurd (omega arith)
+    two-move (some (waitsOne n)) q e b z = absurd (omega arith)
+    two-move (some (waitsTwo n x y)) q e true z = accepts ws ds id n x y joined q (two-passed n x y e) z
+    two-move (some (waitsTwo n x y)) q e false z =
+        decides ws ds id (waitsTwo n x y) rejected q (rejects n x y joined (two-passed n x y e) z)
+    two-move (some (waitsEntry n x y)) q e b z = absurd (omega arith)
+
+    enter-move : (v : Option Pending) → find pendingId id ws ≡ v → whileEntry (through (ledgerWait σ o) v) ≡ 0
+        → Moves (at (isOpen ws) ds) (enter id) done [] (decideAs σ o id v ws ds entered)
+    unfolding whileEntry ledgerWait decideAs
+    enter-move none q e = absurd (omega arith)
+    enter-move (some (waitsOne n)) q e = absurd (omega arith)
+    enter-move (some (waitsTwo n x y)) q e = absurd (omega arith)
+    enter-move (some (waitsEntry n x y)) q e = decides ws ds id (waitsEntry n x y) entered q (enters n x y)
 
     drop-move : (v : Option Pending) → find pendingId id ws ≡ v → whileWaiting (through (ledgerWait σ o) v) ≡ 0
-        → Moves (at (isOpen ws) ds) done [] (decideAs σ o id v ws ds dropped)
+        → Moves (at (isOpen ws) ds) (drop id) done [] (decideAs σ o id v ws ds dropped)
     unfolding whileWaiting decideAs
     drop-move none q e = absurd (omega arith)
-    drop-move (some p) q e = drops ws ds id p q
+    drop-move (some p) q e = decides ws ds id p dropped q (drops p)
 
-  -- where closing passes none waits, and at least Q are accepted
+  -- where closing passes none waits, and at least Q are entered
   pub none-waits : (ws : List Pending) (n : ℕ) → orElse (check (eqb (length (map (ledgerWait σ o) ws)) 0) 11) n ≡ 0 → ws ≡ []
   none-waits [] n e = refl
   none-waits (w ∷ ws) n e =
@@ -207,23 +233,23 @@ module _ (σ : Setting) (o : Opened) where
       let none : length ts ≡ 0 = eqb-true _ _ (check-passed (eqb (length ts) 0) 10 (passed .0)) in
       absurd (omega (arith, many-told (w ∷ ws)))
 
-  pub enough-accepted : (waits least rest : ℕ) (ds : List Decided)
-      → orElse (check (eqb waits 0) 11) (orElse (check (leb least (length (notesWith isAccepted ds))) 15) rest) ≡ 0
-      → least ≤ length (notesWith isAccepted ds)
-  enough-accepted waits least rest ds e =
-      let q = or-zero (check (eqb waits 0) 11) (orElse (check (leb least (length (notesWith isAccepted ds))) 15) rest) e in
-      let p = or-zero (check (leb least (length (notesWith isAccepted ds))) 15) rest (q .1) in
-      leb-true _ _ (check-passed (leb least (length (notesWith isAccepted ds))) 14 (p .0))
+  pub enough-entered : (waits least rest : ℕ) (ds : List Decided)
+      → orElse (check (eqb waits 0) 11) (orElse (check (leb least (length (notesWith isEntered ds))) 15) rest) ≡ 0
+      → least ≤ length (notesWith isEntered ds)
+  enough-entered waits least rest ds e =
+      let q = or-zero (check (eqb waits 0) 11) (orElse (check (leb least (length (notesWith isEntered ds))) 15) rest) e in
+      let p = or-zero (check (leb least (length (notesWith isEntered ds))) 15) rest (q .1) in
+      leb-true _ _ (check-passed (leb least (length (notesWith isEntered ds))) 14 (p .0))
 
-  close-move : (ws : List Pending) (ds : List Decided) → ws ≡ [] → o .least ≤ length (notesWith isAccepted ds)
-      → Moves (at (isOpen ws) ds) (wrote (closingMessage σ o (at (isOpen ws) ds))) [] (at isClosed ds)
-  close-move [] ds e q = closes ds q
-  close-move (w ∷ ws) ds e q = absurd (let z : _≡_ {A = ℕ} 0 1 = cc in omega arith)
+  close-move : (room : ℕ) (ws : List Pending) (ds : List Decided) → ws ≡ [] → o .least ≤ length (notesWith isEntered ds)
+      → Moves (at (isOpen ws) ds) (close room) (wrote (closingMessage σ o (at (isOpen ws) ds))) [] (at isClosed ds)
+  close-move room [] ds e q = closes ds q
+  close-move room (w ∷ ws) ds e q = absurd (let z : _≡_ {A = ℕ} 0 1 = cc in omega arith)
 
   passed : (p : Progress) (ds : List Decided) (c : Call) → BytesIn c → refusalOf σ o (at p ds) c ≡ 0
-      → Moves (at p ds) (answerOf σ o (at p ds) c) (callMessages σ o c) (ledgerAfter σ o (at p ds) c)
+      → Moves (at p ds) c (answerOf σ o (at p ds) c) (callMessages σ o c) (ledgerAfter σ o (at p ds) c)
   unfolding refusalOf ledgerState ledgerStage ledgerAfter answerOf callMessages
-      shareRefusal oneRefusal twoRefusal dropRefusal closeRefusal whileOpen
+      shareRefusal oneRefusal twoRefusal enterRefusal dropRefusal closeRefusal whileOpen
   passed (isOpen ws) ds (share m r s room) b e =
       notes ws ds (noteOf σ o m r s) (taken-share ws ds m r s room b (unfold shareRefusal ledgerState ledgerStage whileOpen in e))
   passed (isOpen ws) ds (roundOne id joined room) b e =
@@ -231,25 +257,33 @@ module _ (σ : Setting) (o : Opened) where
       (ap (λ (v : Option Wait). whileOne v (oneFault ws ds id joined room)) (sym (find-told id ws)) ∙ e)
   passed (isOpen ws) ds (roundTwo id joined) b e =
       two-move ws ds id joined (find pendingId id ws) refl
-      (ap (λ (v : Option Wait). whileTwo v (twoFault ws ds id joined)) (sym (find-told id ws)) ∙ e)
+      (ap (λ (v : Option Wait). whileTwo v (twoFault ws ds id joined)) (sym (find-told id ws)) ∙ e) (bothZero σ (o .servers) joined) refl
+  passed (isOpen ws) ds (enter id) b e =
+      enter-move ws ds id [] (find pendingId id ws) refl (ap whileEntry (sym (find-told id ws)) ∙ e)
   passed (isOpen ws) ds (drop id) b e =
       drop-move ws ds id [] (find pendingId id ws) refl (ap whileWaiting (sym (find-told id ws)) ∙ e)
   passed (isOpen ws) ds (close room) b e =
-      close-move ws ds (none-waits ws _ e) (enough-accepted (length (map (ledgerWait σ o) ws)) (o .least) _ ds e)
+      close-move room ws ds (none-waits ws _ e) (enough-entered (length (map (ledgerWait σ o) ws)) (o .least) _ ds e)
   passed isClosed ds (share m r s room) b e = absurd (omega arith)
   passed isClosed ds (roundOne id joined room) b e = absurd (omega arith)
   passed isClosed ds (roundTwo id joined) b e = absurd (omega arith)
+  passed isClosed ds (enter id) b e = absurd (omega arith)
   passed isClosed ds (drop id) b e = absurd (omega arith)
   passed isClosed ds (close room) b e = absurd (omega arith)
 
-  either-way : (l : Ledger) (c : Call) (f : ℕ) → (f ≡ 0 → Moves l (answerOf σ o l c) (callMessages σ o c) (ledgerAfter σ o l c))
-      → Moves l (ledgerSays σ o l c f) (cond (eqb f 0) (callMessages σ o c) []) (ledgerStep σ o l c f)
+  either-way : (l : Ledger) (c : Call) (f : ℕ) → (f ≡ 0 → Moves l c (answerOf σ o l c) (callMessages σ o c) (ledgerAfter σ o l c))
+      → Moves l c (ledgerSays σ o l c f) (cond (eqb f 0) (callMessages σ o c) []) (ledgerStep σ o l c f)
   either-way l c f g = go (eqb f 0) refl
     where
       go : (t : Bool) → eqb f 0 ≡ t
-          → Moves l (cond t (answerOf σ o l c) (refused f)) (cond t (callMessages σ o c) []) (cond t (ledgerAfter σ o l c) l)
+          → Moves l c (cond t (answerOf σ o l c) (refused f)) (cond t (callMessages σ o c) []) (cond t (ledgerAfter σ o l c) l)
       go true e = g (eqb-true f 0 e)
       go false e = stays l f
+
+  pub move : (l : Ledger) (c : Call) → BytesIn c
+      → Moves l c (ledgerSays σ o l c (refusalOf σ o l c)) (cond (eqb (refusalOf σ o l c) 0) (callMessages σ o c) [])
+      (ledgerStep σ o l c (refusalOf σ o l c))
+  move l c b = either-way l c (refusalOf σ o l c) (passed (l .progress) (l .decided) c b)
 
   -- what a list of calls comes to
   pub history : (l : Ledger) (cs : List Call) → All BytesIn cs
@@ -257,5 +291,4 @@ module _ (σ : Setting) (o : Opened) where
   unfolding ledgerAnswers handedIn runLedger
   history l [] all[] = over l
   history l (c ∷ cs) (all∷ b bs) =
-      next (either-way l c (refusalOf σ o l c) (passed (l .progress) (l .decided) c b))
-      (history (ledgerStep σ o l c (refusalOf σ o l c)) cs bs)
+      next (move l c b) (history (ledgerStep σ o l c (refusalOf σ o l c)) cs bs)

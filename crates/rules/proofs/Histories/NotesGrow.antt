@@ -15,12 +15,12 @@ use Rattle.rules.specs.Settings.{Setting}
 use Rattle.rules.specs.Judging.{allowedPair}
 use Rattle.rules.specs.Keyed.{find, without, changed}
 use Rattle.rules.specs.Server.{Opened, mostWaiting}
-use Rattle.rules.specs.Ledger.{Answer, Note, Pending, waitsOne, waitsTwo, noteIn, pendingId, waiting, Decided, Ledger, empty}
-use Rattle.rules.specs.Ledger.{idsOf, notesOf, sumsNoted}
+use Rattle.rules.specs.Ledger.{Call, Answer, Note, Pending, waitsOne, waitsTwo, waitsEntry, noteIn, pendingId, waiting, Decided}
+use Rattle.rules.specs.Ledger.{Ledger, empty, idsOf, notesOf, sumsNoted, acceptNoted}
 use Rattle.rules.specs.Pools.{notesIn}
 use Rattle.rules.proofs.Histories.Shuffled.{rearranged-in, rearranged-distinct, rearranged-before, rearranged-map, to-front}
 use Rattle.rules.proofs.Histories.Keyed.{found-out, changed-keeps}
-use Rattle.rules.proofs.Histories.Moves.{Moves, stays, notes, sums, judges, drops, closes, History, over, next, sumsOf}
+use Rattle.rules.proofs.Histories.Moves.{Moves, stays, notes, sums, accepts, decides, closes, History, over, next, sumsOf}
 
 module _ (σ : Setting) (o : Opened) where
   data Grows (ns ms : List Note) : Type 0 where
@@ -33,9 +33,19 @@ module _ (σ : Setting) (o : Opened) where
   unfolding sumsNoted
   keeps-note d e (waitsOne n) = refl
   keeps-note d e (waitsTwo n x y) = refl
+  keeps-note d e (waitsEntry n x y) = refl
+
+  pub accept-keeps-note : (p : Pending) → noteIn (acceptNoted σ o p) ≡ noteIn p
+  unfolding acceptNoted
+  accept-keeps-note (waitsOne n) = refl
+  accept-keeps-note (waitsTwo n x y) = refl
+  accept-keeps-note (waitsEntry n x y) = refl
 
   pub keeps-id : (joined : List ℕ) (p : Pending) → pendingId (sumsOf σ o joined p) ≡ pendingId p
   keeps-id joined p = ap (λ (n : Note). n .id) (keeps-note _ _ p)
+
+  pub accept-keeps-id : (p : Pending) → pendingId (acceptNoted σ o p) ≡ pendingId p
+  accept-keeps-id p = ap (λ (n : Note). n .id) (accept-keeps-note p)
 
   -- a return that is decided stays noted
   decided-same : (ws : List Pending) (ds : List Decided) (id : ℕ) (p : Pending) (k : Decided) → k .note ≡ noteIn p
@@ -50,18 +60,23 @@ module _ (σ : Setting) (o : Opened) where
       subst (Rearranged (notesOf ds ++ map noteIn ws)) (sym is)
       (rearranged-before (notesOf ds) (rearranged-sym (rearranged-map noteIn (found-out pendingId id ws p q))))
 
-  grows : {l l′ : Ledger} {a : Answer} {h : List (List ℕ)} → Moves σ o l a h l′ → Grows (notesIn l) (notesIn l′)
+  -- a return that is changed too
+  changed-same : (ws : List Pending) (ds : List Decided) (id : ℕ) (f : Pending → Pending) → ((p : Pending) → noteIn (f p) ≡ noteIn p)
+      → Rearranged (notesOf ds ++ map noteIn ws) (notesOf ds ++ map noteIn (changed pendingId id f ws))
+  changed-same ws ds id f keeps =
+      subst (λ (v : List Note). Rearranged (notesOf ds ++ map noteIn ws) (notesOf ds ++ v))
+      (sym (changed-keeps pendingId id noteIn f keeps ws)) (rearranged-refl _)
+
+  grows : {l l′ : Ledger} {c : Call} {a : Answer} {h : List (List ℕ)} → Moves σ o l c a h l′ → Grows (notesIn l) (notesIn l′)
   unfolding notesIn
   grows (stays l n) = same (rearranged-refl _)
   grows (notes ws ds n t) =
       let many : length (notesOf ds ++ map noteIn ws) ≡ length ds + length ws =
       length-append (notesOf ds) (map noteIn ws) ∙ ap₂ (λ (x y : ℕ). x + y) (length-map ds (λ k. k .note)) (length-map ws noteIn) in
       more n (to-front n (notesOf ds) (map noteIn ws)) (omega (arith, t .room)) (t .unused) (t .id-fits) (t .pair) (t .below)
-  grows (sums ws ds id n joined q s) =
-      same (subst (λ (v : List Note). Rearranged (notesOf ds ++ map noteIn ws) (notesOf ds ++ v))
-      (sym (changed-keeps pendingId id noteIn (sumsOf σ o joined) (keeps-note _ _) ws)) (rearranged-refl _))
-  grows (judges ws ds id p joined q s) = same (decided-same ws ds id p _ refl q)
-  grows (drops ws ds id p q) = same (decided-same ws ds id p _ refl q)
+  grows (sums ws ds id n joined q s) = same (changed-same ws ds id (sumsOf σ o joined) (keeps-note _ _))
+  grows (accepts ws ds id n x y joined q s z) = same (changed-same ws ds id (acceptNoted σ o) accept-keeps-note)
+  grows (decides ws ds id p d q s) = same (decided-same ws ds id p _ refl q)
   grows (closes ds q) = same (rearranged-refl _)
 
   -- what holds of the shares noted
@@ -122,21 +137,20 @@ module _ (σ : Setting) (o : Opened) where
   })
 
   -- ---- never more than eight wait
-  eight-step : {l l′ : Ledger} {a : Answer} {h : List (List ℕ)} → Moves σ o l a h l′
+  pub as-many : (ws : List Pending) (id : ℕ) (f : Pending → Pending) → ((p : Pending) → noteIn (f p) ≡ noteIn p)
+      → length (changed pendingId id f ws) ≡ length ws
+  as-many ws id f keeps =
+      sym (length-map (changed pendingId id f ws) noteIn)
+      ∙ ap length (changed-keeps pendingId id noteIn f keeps ws)
+      ∙ length-map ws noteIn
+
+  eight-step : {l l′ : Ledger} {c : Call} {a : Answer} {h : List (List ℕ)} → Moves σ o l c a h l′
       → length (waiting (l .progress)) ≤ mostWaiting → length (waiting (l′ .progress)) ≤ mostWaiting
   eight-step (stays l n) e = e
   eight-step (notes ws ds n t) e = omega (arith, t .below-eight)
-  eight-step (sums ws ds id n joined q s) e =
-      let after : List Pending = changed pendingId id (sumsOf σ o joined) ws in
-      let many : length after ≡ length ws =
-      sym (length-map after noteIn)
-      ∙ ap length (changed-keeps pendingId id noteIn (sumsOf σ o joined) (keeps-note _ _) ws)
-      ∙ length-map ws noteIn in
-      omega arith
-  eight-step (judges ws ds id p joined q s) e =
-      let many : suc (length (without pendingId id ws)) ≡ length ws = rearranged-length (found-out pendingId id ws p q) in
-      omega arith
-  eight-step (drops ws ds id p q) e =
+  eight-step (sums ws ds id n joined q s) e = omega (arith, as-many ws id (sumsOf σ o joined) (keeps-note _ _))
+  eight-step (accepts ws ds id n x y joined q s z) e = omega (arith, as-many ws id (acceptNoted σ o) accept-keeps-note)
+  eight-step (decides ws ds id p d q s) e =
       let many : suc (length (without pendingId id ws)) ≡ length ws = rearranged-length (found-out pendingId id ws p q) in
       omega arith
   eight-step (closes ds q) e = omega arith

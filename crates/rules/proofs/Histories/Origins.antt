@@ -1,10 +1,9 @@
--- Where the answers and the decisions of a history come from: a message written is that of a share, that of joined
--- messages of round one that were handed in, or a closing message; a return judged to the end was judged on joined
--- messages of round two that were handed in, each of a server that there is; a closed ledger wrote its closing message. By the
--- history. Assumes nothing.
+-- Where the answers of a history come from: a message written is that of a share, that of joined messages of round one that were
+-- handed in, or a closing message; messages that were handed in name servers that there are; a closed ledger wrote its closing
+-- message. By the history. Assumes nothing.
 use mathlib.Core.Path.{_≡_, refl, sym, ap, _∙_, subst}
 use mathlib.Core.Logic.{_⊎_, ⊎-elim, inl, inr}
-use mathlib.Core.Bool.{Bool, true, false, cond, true≢false}
+use mathlib.Core.Bool.{Bool, true, false, true≢false}
 use mathlib.Core.List.{List, [], _∷_, _++_, map}
 use mathlib.Core.Option.{some}
 use Prim.Native.Nat.{ℕ, _≤_, _<_}
@@ -13,18 +12,18 @@ use lib.ListN.{length}
 use Rattle.algebra.specs.Lists.{In, countFrom}
 use Rattle.algebra.proofs.Members.{in-append, append-in, in-map, of-map, in-count, count-in}
 use Rattle.rules.specs.Settings.{Setting}
-use Rattle.rules.specs.Messages.{serverIn, placeIn, bothZero}
+use Rattle.rules.specs.Messages.{serverIn, placeIn}
 use Rattle.rules.specs.Keyed.{find, changed}
 use Rattle.rules.specs.Server.{Opened, messageOne}
-use Rattle.rules.specs.Ledger.{Answer, wrote, Note, Pending, waitsOne, noteIn, pendingId, Progress, isOpen, isClosed}
-use Rattle.rules.specs.Ledger.{accepted, rejected, Decided, Ledger, isAccepted, isDropped, notesWith, notesOf}
+use Rattle.rules.specs.Ledger.{Call, Answer, wrote, Note, Pending, waitsOne, noteIn, pendingId, Progress, isOpen}
+use Rattle.rules.specs.Ledger.{isClosed, Decision, Decided, Ledger, isEntered, notesWith, notesOf}
 use Rattle.rules.specs.Ledger.{closingMessage, noted, secondAnswer}
 use Rattle.rules.specs.Pools.{notesIn, messagesIn}
 use Rattle.rules.proofs.Histories.Shuffled.{rearranged-in}
 use Rattle.rules.proofs.Histories.JoinedRuns.{Joined, JoinedOne}
 use Rattle.rules.proofs.Histories.Keyed.{found-out, changed-keeps}
-use Rattle.rules.proofs.Histories.Moves.{at, Moves, stays, notes, sums, judges, drops, closes, History, over, next}
-use Rattle.rules.proofs.Histories.Moves.{verdictOn, dropOf, sumsOf}
+use Rattle.rules.proofs.Histories.Moves.{at, Decides, rejects, enters, drops, Moves, stays, notes, sums, accepts, decides, closes}
+use Rattle.rules.proofs.Histories.Moves.{History, over, next, sumsOf}
 use Rattle.rules.proofs.Histories.NotesGrow.{keeps-notes, keeps-note}
 
 module _ (σ : Setting) (o : Opened) where
@@ -58,14 +57,21 @@ module _ (σ : Setting) (o : Opened) where
       (sym (changed-keeps pendingId id noteIn (sumsOf σ o joined) (keeps-note σ o _ _) ws))
       (in-map noteIn p ws (rearranged-in p (found-out pendingId id ws p q) (inl refl)))))
 
-  first-origin : {l l′ : Ledger} {a : Answer} {h : List (List ℕ)} → Moves σ o l a h l′ → (m : List ℕ) → a ≡ wrote m
+  -- a decision writes no message
+  pub none-written : {id : ℕ} {c : Call} {p : Pending} {d : Decision} {a : Answer} {h : List (List ℕ)} → Decides σ o id c p d a h
+      → (m : List ℕ) → a ≡ wrote m → ⊥
+  none-written (rejects n x y joined s z) m e = let z : _≡_ {A = ℕ} 0 1 = cc in omega arith
+  none-written (enters n x y) m e = let z : _≡_ {A = ℕ} 0 1 = cc in omega arith
+  none-written (drops p) m e = let z : _≡_ {A = ℕ} 0 1 = cc in omega arith
+
+  first-origin : {l l′ : Ledger} {c : Call} {a : Answer} {h : List (List ℕ)} → Moves σ o l c a h l′ → (m : List ℕ) → a ≡ wrote m
       → Origin (notesIn l′) h m
   unfolding notesIn
   first-origin (stays l n) m e = absurd (let z : _≡_ {A = ℕ} 0 1 = cc in omega arith)
   first-origin (notes ws ds n t) m e = of-share n (append-in n (notesOf ds) (n ∷ map noteIn ws) (inr (inl refl))) (cc)
   first-origin (sums ws ds id n joined w s) m e = of-one n (found-in ws ds id (waitsOne n) joined w) joined (handed-here 34 joined) s (cc)
-  first-origin (judges ws ds id p joined w s) m q = absurd (let z : _≡_ {A = ℕ} 0 1 = cc in omega arith)
-  first-origin (drops ws ds id p w) m e = absurd (let z : _≡_ {A = ℕ} 0 1 = cc in omega arith)
+  first-origin (accepts ws ds id n x y joined w s q) m e = absurd (let z : _≡_ {A = ℕ} 0 1 = cc in omega arith)
+  first-origin (decides ws ds id p d w s) m e = absurd (none-written s m e)
   first-origin (closes ds q) m e = of-close (at (isOpen []) ds) (cc)
 
   pub origin : {l l′ : Ledger} {xs : List Answer} {hs : List (List ℕ)} → History σ o l xs hs l′
@@ -86,66 +92,23 @@ module _ (σ : Setting) (o : Opened) where
       let within = in-count 0 (o .servers) (place .0) (place .1) in
       subst Named (place .2) (s .is-of-round (place .0) (omega arith) .is-one)
 
-  first-named : {l l′ : Ledger} {a : Answer} {h : List (List ℕ)} → Moves σ o l a h l′ → (m : List ℕ) → In m h → Named m
+  decided-named : {id : ℕ} {c : Call} {p : Pending} {d : Decision} {a : Answer} {h : List (List ℕ)} → Decides σ o id c p d a h
+      → (m : List ℕ) → In m h → Named m
+  decided-named (rejects n x y joined s z) m k = all-named 35 (n .id) joined m s k
+  decided-named (enters n x y) m k = absurd k
+  decided-named (drops p) m k = absurd k
+
+  first-named : {l l′ : Ledger} {c : Call} {a : Answer} {h : List (List ℕ)} → Moves σ o l c a h l′ → (m : List ℕ) → In m h → Named m
   first-named (stays l n) m k = absurd k
   first-named (notes ws ds n t) m k = absurd k
   first-named (sums ws ds id n joined w s) m k = all-named 34 (n .id) joined m (s .each) k
-  first-named (judges ws ds id p joined w s) m k = all-named 35 (noteIn p .id) joined m s k
-  first-named (drops ws ds id p w) m k = absurd k
+  first-named (accepts ws ds id n x y joined w s q) m k = all-named 35 (n .id) joined m s k
+  first-named (decides ws ds id p d w s) m k = decided-named s m k
   first-named (closes ds q) m k = absurd k
 
   pub handed-named : {l l′ : Ledger} {xs : List Answer} {hs : List (List ℕ)} → History σ o l xs hs l′ → (m : List ℕ) → In m hs → Named m
   handed-named (over l) m k = absurd k
   handed-named (next {h = h} {hs = hs} mv r) m k = ⊎-elim (λ q. first-named mv m q) (λ q. handed-named r m q) (in-append m h hs k)
-
-  -- ---- decisions
-  pub record JudgedOn (hs : List (List ℕ)) (k : Decided) : Type 0 where
-    pub joined : List ℕ
-    pub handed : Handed hs 35 joined
-    pub sound : Joined σ (o .servers) 35 (k .note .id) joined
-    pub says : isAccepted (k .decision) ≡ bothZero σ (o .servers) joined
-
-  judged-more : {hs gs : List (List ℕ)} {k : Decided} → ((j : List ℕ) → In j hs → In j gs) → JudgedOn hs k → JudgedOn gs k
-  judged-more g q = record { joined = q .joined; handed = λ j l. g _ (q .handed j l); sound = q .sound; says = q .says }
-
-  verdict-is : (b : Bool) → isAccepted (cond b accepted rejected) ≡ b
-  verdict-is true = refl
-  verdict-is false = refl
-
-  -- the last of a list, or one before it
-  last-or : (ds : List Decided) (d k : Decided) → In k (ds ++ (d ∷ [])) → (In k ds) ⊎ (d ≡ k)
-  last-or ds d k h = ⊎-elim (λ q. inl q) (λ q. inr (only q)) (in-append k ds (d ∷ []) h)
-    where
-      only : In k (d ∷ []) → d ≡ k
-      only (inl e) = e
-      only (inr q) = absurd q
-
-  first-judged : {l l′ : Ledger} {a : Answer} {h : List (List ℕ)} → Moves σ o l a h l′ → (k : Decided) → In k (l′ .decided)
-      → isDropped (k .decision) ≡ false → In k (l .decided) ⊎ JudgedOn h k
-  first-judged (stays l n) k h f = inl h
-  first-judged (notes ws ds n t) k h f = inl h
-  first-judged (sums ws ds id n joined w s) k h f = inl h
-  first-judged (judges ws ds id p joined w s) k h f =
-      ⊎-elim (λ q. inl q)
-      (λ (q : verdictOn σ o (noteIn p) joined ≡ k). inr (subst (JudgedOn (messagesIn σ (o .servers) 35 joined)) q (record {
-        joined = joined;
-        handed = handed-here 35 joined;
-        sound = s;
-        says = verdict-is (bothZero σ (o .servers) joined);
-      }))) (last-or ds (verdictOn σ o (noteIn p) joined) k h)
-  first-judged (drops ws ds id p w) k h f =
-      ⊎-elim (λ q. inl q)
-      (λ (q : dropOf σ o (noteIn p) ≡ k). absurd (true≢false (ap (λ (v : Decided). isDropped (v .decision)) q ∙ f)))
-      (last-or ds (dropOf σ o (noteIn p)) k h)
-  first-judged (closes ds q) k h f = inl h
-
-  pub judged-on : {l l′ : Ledger} {xs : List Answer} {hs : List (List ℕ)} → History σ o l xs hs l′
-      → (k : Decided) → In k (l′ .decided) → isDropped (k .decision) ≡ false → In k (l .decided) ⊎ JudgedOn hs k
-  judged-on (over l) k q f = inl q
-  judged-on (next {h = h} {hs = hs} mv r) k q f =
-      ⊎-elim
-      (λ old. ⊎-elim (λ v. inl v) (λ v. inr (judged-more (λ j w. append-in j h hs (inl w)) v)) (first-judged mv k old f))
-      (λ new. inr (judged-more (λ j w. append-in j h hs (inr w)) new)) (judged-on r k q f)
 
   -- ---- closing
   abbrev pub ended : Progress → Bool
@@ -153,12 +116,12 @@ module _ (σ : Setting) (o : Opened) where
   ended isClosed = true
 
   -- a closed ledger takes nothing
-  move-closed : {l l′ : Ledger} {a : Answer} {h : List (List ℕ)} → Moves σ o l a h l′ → ended (l .progress) ≡ true → l′ ≡ l
+  move-closed : {l l′ : Ledger} {c : Call} {a : Answer} {h : List (List ℕ)} → Moves σ o l c a h l′ → ended (l .progress) ≡ true → l′ ≡ l
   move-closed (stays l n) e = refl
   move-closed (notes ws ds n t) e = absurd (true≢false (sym e))
   move-closed (sums ws ds id n joined w s) e = absurd (true≢false (sym e))
-  move-closed (judges ws ds id p joined w s) e = absurd (true≢false (sym e))
-  move-closed (drops ws ds id p w) e = absurd (true≢false (sym e))
+  move-closed (accepts ws ds id n x y joined w s q) e = absurd (true≢false (sym e))
+  move-closed (decides ws ds id p d w s) e = absurd (true≢false (sym e))
   move-closed (closes ds q) e = absurd (true≢false (sym e))
 
   pub stays-closed : {l l′ : Ledger} {xs : List Answer} {hs : List (List ℕ)} → History σ o l xs hs l′
@@ -168,18 +131,18 @@ module _ (σ : Setting) (o : Opened) where
       let q = move-closed mv e in
       stays-closed r (ap (λ (v : Ledger). ended (v .progress)) q ∙ e) ∙ q
 
-  -- at least Q are accepted
+  -- at least Q are entered
   abbrev pub Enough : Ledger → Type 0
-  Enough l = o .least ≤ length (notesWith isAccepted (l .decided))
+  Enough l = o .least ≤ length (notesWith isEntered (l .decided))
 
-  first-closing : {l l′ : Ledger} {a : Answer} {h : List (List ℕ)} → Moves σ o l a h l′ → ended (l′ .progress) ≡ true
+  first-closing : {l l′ : Ledger} {c : Call} {a : Answer} {h : List (List ℕ)} → Moves σ o l c a h l′ → ended (l′ .progress) ≡ true
       → (ended (l .progress) ≡ true) ⊎ ((a ≡ wrote (closingMessage σ o l′)) × Enough l′)
   unfolding closingMessage
   first-closing (stays l n) e = inl e
   first-closing (notes ws ds n t) e = absurd (true≢false (sym e))
   first-closing (sums ws ds id n joined w s) e = absurd (true≢false (sym e))
-  first-closing (judges ws ds id p joined w s) e = absurd (true≢false (sym e))
-  first-closing (drops ws ds id p w) e = absurd (true≢false (sym e))
+  first-closing (accepts ws ds id n x y joined w s q) e = absurd (true≢false (sym e))
+  first-closing (decides ws ds id p d w s) e = absurd (true≢false (sym e))
   first-closing (closes ds q) e = inr (refl, q)
 
   pub closing-written : {l l′ : Ledger} {xs : List Answer} {hs : List (List ℕ)} → History σ o l xs hs l′

@@ -2,8 +2,7 @@
 -- the server that it names, for its round and id, ids differ, and each server is named once. So the sums, and the verdict, are the
 -- same at every server that judges a return to the end. Assumes that messages are unaltered.
 use mathlib.Core.Path.{_≡_, sym, ap, ap₂, _∙_, subst}
-use mathlib.Core.Logic.{⊎-elim}
-use mathlib.Core.Bool.{Bool, false, _&&_}
+use mathlib.Core.Bool.{Bool, _&&_}
 use mathlib.Core.List.{List, [], _∷_}
 use Prim.Native.Nat.{ℕ, _<_}
 use native.Mathlib.Omega.{arith}
@@ -17,16 +16,18 @@ use Rattle.algebra.proofs.Rearrangement.{rearranged-sym}
 use Rattle.algebra.proofs.Sums.{sum-ext}
 use Rattle.rules.specs.Settings.{Setting, Facts}
 use Rattle.rules.specs.Messages.{kindIn, idIn, elementsIn, placeIn, serverAt, elementSum, firstSum, secondSum, bothZero}
-use Rattle.rules.specs.Server.{Waiting, waitingOf, sigmaIn, messageOne, messageTwo, withSums}
-use Rattle.rules.specs.Ledger.{Note, Decided, empty, isAccepted, isDropped, idsOf, noted, secondAnswer}
-use Rattle.rules.specs.Pools.{Pool, columns, openedAt, ledgerAt, answersAt, noteUnder, handedIn, notesAt, Unaltered}
+use Rattle.rules.specs.Server.{Opened, Waiting, waitingOf, sigmaIn, messageOne, messageTwo, withSums}
+use Rattle.rules.specs.Ledger.{Call, roundTwo, Note, Ledger, empty, idsOf, noted, secondAnswer, refusalOf, runLedger}
+use Rattle.rules.specs.Pools.{Pool, columns, openedAt, ledgerAt, answersAt, noteUnder, callMessages, handedIn, notesAt}
+use Rattle.rules.specs.Pools.{Unaltered, JudgedToEnd}
 use Rattle.rules.proofs.Histories.JoinedRuns.{IsOf, Joined, JoinedOne, sum-order}
 use Rattle.rules.proofs.Histories.Shuffled.{rearranged-in}
 use Rattle.rules.proofs.Histories.Keyed.{under-in}
 use Rattle.rules.proofs.Histories.Moves.{History, history}
 use Rattle.rules.proofs.Histories.NotesGrow.{Sound, sound-notes}
-use Rattle.rules.proofs.Histories.Origins.{Handed, Origin, of-share, of-one, of-close, origin, JudgedOn, judged-on}
-use Rattle.rules.proofs.Histories.Summing.{SummedOn}
+use Rattle.rules.proofs.Histories.Origins.{Handed, handed-here, Origin, of-share, of-one, of-close, origin}
+use Rattle.rules.proofs.Histories.Summing.{SummedOn, handed-at, two-taken}
+use Rattle.rules.proofs.Histories.Judged.{verdict-taken}
 use Rattle.rules.proofs.Histories.OwnMessages.{kind-one, id-one, elements-one, kind-two, id-two, elements-two}
 use Rattle.rules.proofs.Histories.OwnMessages.{id-noted, kind-closing, pair-below, d-below, e-below, tau-below}
 
@@ -219,15 +220,30 @@ module _ (σ : Setting) (𝓟 : Pool σ) where
           subst (λ (v : ℕ). Noted id v × Summed id v) (place .2) (two .of, two .took)
 
     -- ---- a return judged to the end
-    module _ (i : ℕ) (l : i < 𝓟 .servers) (k : Decided) (h : In k (ledgerAt σ 𝓟 i .decided))
-        (f : isDropped (k .decision) ≡ false) where
-      judgement : JudgedOn σ (openedAt σ 𝓟 i) (handedIn σ (openedAt σ 𝓟 i) empty (𝓟 .calls i)) k
-      judgement =
-          ⊎-elim (λ (q : In k []). absurd q) (λ q. q) (judged-on σ (openedAt σ 𝓟 i) (history-at i l) k h f)
+    module _ (i : ℕ) (l : i < 𝓟 .servers) (id : ℕ) (v : Bool) (k : JudgedToEnd σ 𝓟 i id v) where
+      abbrev o : Opened
+      o = openedAt σ 𝓟 i
 
-      pub agreed : isAccepted (k .decision) ≡ verdictAll (k .note .id)
-      agreed =
-          judgement .says ∙ both-zero i l (k .note .id) (judgement .joined) (judgement .handed) (judgement .sound)
+      abbrev there : Ledger
+      there = runLedger σ o empty (k .by .before)
 
-      pub judged-everywhere : (q : ℕ) → q < 𝓟 .servers → Noted (k .note .id) q × Summed (k .note .id) q
-      judged-everywhere = second-at i l (k .note .id) (judgement .joined) (judgement .handed) (judgement .sound)
+      abbrev two : Call
+      two = roundTwo id (k .joined)
+
+      taken : (refusalOf σ o there two ≡ 0) × (bothZero σ (𝓟 .servers) (k .joined) ≡ v)
+      taken = verdict-taken σ o there id (k .joined) v (k .by .answered)
+
+      handed : HandedAt i 35 (k .joined)
+      unfolding callMessages
+      handed j b =
+          subst (λ (cs : List Call). In (placeIn σ 35 (k .joined) j) (handedIn σ o empty cs)) (sym (k .by .among))
+          (handed-at σ o two empty (k .by .before) (k .by .after) (taken .0) (placeIn σ 35 (k .joined) j) (handed-here σ o 35 (k .joined) j b))
+
+      sound : Joined σ (𝓟 .servers) 35 id (k .joined)
+      sound = two-taken σ o id (k .joined) (there .progress) (there .decided) (taken .0)
+
+      pub agreed : v ≡ verdictAll id
+      agreed = sym (taken .1) ∙ both-zero i l id (k .joined) handed sound
+
+      pub judged-everywhere : (q : ℕ) → q < 𝓟 .servers → Noted id q × Summed id q
+      judged-everywhere = second-at i l id (k .joined) handed sound

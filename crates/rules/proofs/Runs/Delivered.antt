@@ -3,7 +3,7 @@
 -- room take such messages and accept: the shares are sound, and every allowed pair lets them in. Assumes nothing.
 use mathlib.Core.Path.{_≡_, refl, sym, ap, _∙_, subst}
 use mathlib.Core.Logic.{inl, inr}
-use mathlib.Core.Bool.{Bool, true}
+use mathlib.Core.Bool.{true}
 use mathlib.Core.List.{List, [], _∷_, _++_, map}
 use Prim.Native.Nat.{ℕ, _<_}
 use lib.ListN.{getD}
@@ -14,30 +14,25 @@ use Rattle.words.proofs.Below.{all-of-below}
 use Rattle.rules.specs.Settings.{Setting, Facts}
 use Rattle.rules.specs.Judging.{letsIn}
 use Rattle.rules.specs.Making.{makeRefusal}
-use Rattle.rules.specs.Server.{Opened, messageOne, messageTwo}
-use Rattle.rules.specs.Ledger.{Call, share, wrote, judged, Note, waitsOne, noteIn, isOpen, waiting, Ledger}
+use Rattle.rules.specs.Server.{Opened}
+use Rattle.rules.specs.Ledger.{Call, share, enter, Note, waitsOne, noteIn, isOpen, waiting, Ledger}
 use Rattle.rules.specs.Ledger.{empty, notesOf}
 use Rattle.rules.specs.Ledger.{noteOf, refusalOf, ledgerAfter, ledgerStep, runLedger, ledgerAnswers}
 use Rattle.rules.specs.Pools.{BytesIn, Pool, columns, openedAt, ledgerAt, notesIn, notesAt}
-use Rattle.rules.specs.WholeRun.{Ready, bothRounds, firstWait, secondWait}
+use Rattle.rules.specs.WholeRun.{Ready, bothRounds}
 use Rattle.rules.specs.Made.{madePart, shareMade, MadeReturn, NotedFrom, Took, MadeOf, CanTake, MadeAccepted}
 use Rattle.rules.proofs.Returns.Shares.{Made, made}
 use Rattle.rules.proofs.Returns.OnSheets.{sheet-honest-let-in}
 use Rattle.rules.proofs.Returns.MadeMessages.{Makes, makes, made-return}
 use Rattle.rules.proofs.Histories.Moves.{history, at}
+use Rattle.rules.proofs.Histories.Answers.{run-append}
 use Rattle.rules.proofs.Histories.NotesGrow.{keeps-notes}
 use Rattle.rules.proofs.Histories.PoolOpened.{is-read}
 use Rattle.rules.proofs.Runs.Agreement.{found}
-use Rattle.rules.proofs.Runs.Handled.{handled}
+use Rattle.rules.proofs.Runs.Handled.{entered-alone}
 
 -- ---- a share that is taken is noted
 module _ (σ : Setting) (o : Opened) where
-  run-append : (l : Ledger) (before after : List Call)
-      → runLedger σ o l (before ++ after) ≡ runLedger σ o (runLedger σ o l before) after
-  unfolding runLedger
-  run-append l [] after = refl
-  run-append l (c ∷ before) after = run-append (ledgerStep σ o l c (refusalOf σ o l c)) before after
-
   -- a ledger where a share waits that was taken last
   abbrev noting : Ledger → Note → Ledger
   noting l n = at (isOpen (waitsOne n ∷ waiting (l .progress))) (l .decided)
@@ -143,8 +138,6 @@ module _ (σ : Setting) (facts : Facts σ) (𝓟 : Pool σ) (id : ℕ) (values r
     pub made-accepted : MadeAccepted σ 𝓟 id values random r s lent roundLent
     made-accepted i l ones twos p q =
         let o = openedAt σ 𝓟 i in
-        ap (λ (m : List ℕ). ledgerAnswers σ o (ledgerAt σ 𝓟 i) (share m r s lent ∷ bothRounds id ones twos roundLent))
+        ap (λ (m : List ℕ). ledgerAnswers σ o (ledgerAt σ 𝓟 i) (share m r s lent ∷ (bothRounds id ones twos roundLent ++ (enter id ∷ []))))
         (whole-of .message-is i l)
-        ∙ handled σ facts 𝓟 id shares r s lent roundLent made-ready ones twos p q i l
-        ∙ ap (λ (b : Bool). wrote (messageOne σ o (firstWait σ 𝓟 id shares r s i))
-        ∷ wrote (messageTwo σ o (secondWait σ 𝓟 id shares r s i)) ∷ judged b ∷ []) let-in
+        ∙ entered-alone σ facts 𝓟 id shares r s lent roundLent made-ready ones twos p q i l let-in

@@ -1,4 +1,4 @@
--- Where every accepted return is delivered whole, its added-up entries are the encoding of its values, so it keeps its form
+-- Where every entered return is delivered whole, its added-up entries are the encoding of its values, so it keeps its form
 -- and the joined totals are sums of encodings, as whole numbers. Column by column these are numbers of returns, or sums of
 -- values. Assumes the conditions of whole runs.
 use mathlib.Core.Path.{_≡_, refl, sym, ap, _∙_}
@@ -20,7 +20,7 @@ use Rattle.rules.specs.Columns.{Column, yesNo, choice, number, published
 use Rattle.rules.specs.Columns.{publishedFrom}
 use Rattle.rules.specs.Values.{encoded, legalValues, encoding}
 use Rattle.rules.specs.Judging.{addedUp}
-use Rattle.rules.specs.Pools.{Pool, columns, acceptedAt, addedEntry, KeepsForm, DeliveredWhole, Conditions, AllClosed}
+use Rattle.rules.specs.Pools.{Pool, columns, enteredAt, addedEntry, KeepsForm, DeliveredWhole, Conditions, AllClosed}
 use Rattle.rules.specs.WholeRun.{Closed}
 use Rattle.rules.specs.Made.{howMany, MadeOf, joinedTotals, EncodedTotals}
 use Rattle.rules.proofs.Circuits.Legal.{sheet-tests-say-legal}
@@ -78,14 +78,14 @@ module _ (σ : Setting) (facts : Facts σ) (𝓟 : Pool σ) (id : ℕ) (w : Deli
         entries-are = λ i l. entry-is-code i l ∙ sym (mod-eq-of-lt (below i));
       })
 
--- ---- the totals, over the ids that server i accepted
+-- ---- the totals, over the ids that server i entered
 module _ (σ : Setting) (facts : Facts σ) (𝓟 : Pool σ) (closed : Closed σ 𝓟) (i : ℕ) (l : i < 𝓟 .servers) (values : ℕ → List ℕ)
-    (made : (id : ℕ) → In id (acceptedAt σ 𝓟 i) → MadeOf σ 𝓟 id (values id)) where
+    (made : (id : ℕ) → In id (enteredAt σ 𝓟 i) → MadeOf σ 𝓟 id (values id)) where
   abbrev cs : List Column
   cs = columns σ 𝓟
 
   abbrev ids : List ℕ
-  ids = acceptedAt σ 𝓟 i
+  ids = enteredAt σ 𝓟 i
 
   -- the sum of entry e of the encodings
   abbrev coded : ℕ → ℕ
@@ -143,7 +143,7 @@ module _ (σ : Setting) (facts : Facts σ) (𝓟 : Pool σ) (closed : Closed σ 
         ∙ ap coded place-is
         ∙ sum-cong _ _ ids code-is
 
-  each-total : EncodedTotals σ 𝓟 (acceptedAt σ 𝓟 i) values
+  each-total : EncodedTotals σ 𝓟 (enteredAt σ 𝓟 i) values
   unfolding encoded publishedOf valuesOf
   each-total = record {
     totals = whole-totals;
@@ -160,6 +160,6 @@ module _ (σ : Setting) (facts : Facts σ) (𝓟 : Pool σ) (closed : Closed σ 
 
 -- under the conditions, when all servers have closed
 pub encoded-totals : (σ : Setting) → Facts σ → (𝓟 : Pool σ) → Conditions σ 𝓟 → AllClosed σ 𝓟 → (i : ℕ) → i < 𝓟 .servers
-    → (values : ℕ → List ℕ) → ((id : ℕ) → In id (acceptedAt σ 𝓟 i) → MadeOf σ 𝓟 id (values id))
-    → EncodedTotals σ 𝓟 (acceptedAt σ 𝓟 i) values
+    → (values : ℕ → List ℕ) → ((id : ℕ) → In id (enteredAt σ 𝓟 i) → MadeOf σ 𝓟 id (values id))
+    → EncodedTotals σ 𝓟 (enteredAt σ 𝓟 i) values
 encoded-totals σ facts 𝓟 𝓒 ended = each-total σ facts 𝓟 (closed-together σ facts 𝓟 𝓒 ended)

@@ -1,6 +1,6 @@
 -- Field 8 of demand 3: a return of sound shares handed to servers that have room is refused nowhere, and its verdict is that
 -- of its pair: each check is met by what the messages were written with, and their order changes no sum. Other calls mixed in
--- change nothing, since each leaves the return as it waits. Assumes nothing.
+-- change nothing, since each leaves the return as it waits. One that is accepted is entered when this is asked for. Assumes nothing.
 use mathlib.Core.Path.{_≡_, refl, sym, ap, ap₂, _∙_, subst}
 use mathlib.Core.Bool.{Bool, true, cond}
 use mathlib.Core.List.{List, [], _∷_, _++_, map, flatten}
@@ -19,10 +19,11 @@ use Rattle.rules.specs.Settings.{Setting, Facts}
 use Rattle.rules.specs.Judging.{firstOnly, sigmaOf, dSum, eSum, sigmaSum, tauSum, letsIn}
 use Rattle.rules.specs.Making.{shareMessage}
 use Rattle.rules.specs.Messages.{elementIn, challengeFault, elementSum, firstSum, secondSum, bothZero}
-use Rattle.rules.specs.Keyed.{find, those}
+use Rattle.rules.specs.Keyed.{find, changed, those}
 use Rattle.rules.specs.Server.{Opened, Waiting, waitingOf, withSums, sigmaIn, messageOne, messageTwo, summed}
 use Rattle.rules.specs.Server.{oneRefusal, twoRefusal, whileOpen, whileOne, whileTwo}
-use Rattle.rules.specs.Ledger.{Call, share, roundOne, roundTwo, Answer, wrote, judged, Note, Pending, waitsOne, waitsTwo}
+use Rattle.rules.specs.Ledger.{Call, share, roundOne, roundTwo, enter, Answer, wrote, judged, done, Note, Pending}
+use Rattle.rules.specs.Ledger.{waitsOne, waitsTwo, waitsEntry, acceptNoted, rejected, decideAs}
 use Rattle.rules.specs.Ledger.{noteIn, pendingId, isOpen, waiting, Decided, Ledger, idsOf, notesOf}
 use Rattle.rules.specs.Ledger.{ledgerWait, ledgerStage, ledgerState, refusalOf, sumsNoted, ledgerAfter, secondMessage, answerOf}
 use Rattle.rules.specs.Ledger.{ledgerAnswers, ledgerSays, ledgerStep}
@@ -35,8 +36,9 @@ use Rattle.rules.proofs.Histories.WrittenRuns.{Written, written}
 use Rattle.rules.proofs.Histories.OwnMessages.{pair-below, sigma-below, d-below, e-below, tau-below}
 use Rattle.rules.proofs.Histories.Keyed.{found-here, changed-found}
 use Rattle.rules.proofs.Histories.Moves.{at, find-told, sumsOf}
-use Rattle.rules.proofs.Histories.NotesGrow.{keeps-id}
+use Rattle.rules.proofs.Histories.NotesGrow.{keeps-id, accept-keeps-id}
 use Rattle.rules.proofs.Runs.SoundShare.{notes-are, TakenShare, share-taken}
+use Rattle.rules.proofs.Runs.Refusing.{accepted-enter}
 use Rattle.rules.proofs.Runs.Holding.{Holds, holds, none-on, all-on, first-on}
 
 module _ (σ : Setting) (facts : Facts σ) (𝓟 : Pool σ) (id : ℕ) (shares : ℕ → List ℕ) (r s room roundRoom : ℕ)
@@ -176,51 +178,104 @@ module _ (σ : Setting) (facts : Facts σ) (𝓟 : Pool σ) (id : ℕ) (shares :
     two-there i l ws ds h = rw (find-told σ (o i) id ws, h, two-is .passes i l)
 
     module _ (i : ℕ) (l : i < S) where
-      abbrev first₂ : Pending
-      first₂ = waitsTwo (note i) d₀ e₀
-
-      on-two : (v : Ledger) → Holds σ (o i) id first₂ v → (more : List Call) → those (on id) more ≡ two ∷ []
-          → answersTo σ (o i) id v more ≡ judged (bothZero σ S (flatten twos)) ∷ []
-      unfolding answerOf
-      on-two =
-          first-on σ (o i) id first₂ two (judged (bothZero σ S (flatten twos))) [] [] (two-there i l) (λ ws ds h. refl)
-          (λ ws ds h cs q. none-on σ (o i) id _ cs q)
-
-      on-one : (v : Ledger) → Holds σ (o i) id (waitsOne (note i)) v → (more : List Call) → those (on id) more ≡ one ∷ two ∷ []
-          → answersTo σ (o i) id v more ≡ wrote (messageTwo σ (o i) (wait₂ i)) ∷ judged (bothZero σ S (flatten twos)) ∷ []
-      unfolding answerOf secondMessage summed ledgerAfter sumsNoted
-      on-one =
-          first-on σ (o i) id (waitsOne (note i)) one (wrote (messageTwo σ (o i) (wait₂ i))) (two ∷ []) _ (one-there i l)
-          (λ ws ds h. rw h (ap₂ (λ (u v : ℕ). wrote (messageTwo σ (o i) (withSums (wait i) u v))) (same-sum 0) (same-sum 1)))
-          (λ ws ds h cs q. on-two _ (holds _ ds (changed-found pendingId id (sumsOf σ (o i) (flatten ones))
-          (keeps-id σ (o i) (flatten ones)) ws (waitsOne (note i)) h
-          ∙ ap₂ (λ (u v : ℕ). some (waitsTwo (note i) u v)) (same-sum 0) (same-sum 1))) cs q)
-
       named : on id (first i) ≡ true
       named = eq-eqb _ _ (id-read σ 33 id i (shares i) (ready .id-fits))
 
-      -- 8, with other calls mixed in once the share is taken
+      abbrev first₂ : Pending
+      first₂ = waitsTwo (note i) d₀ e₀
+
+      -- the calls behind round two and their answers, where the return has its verdict
+      record Rest (rest : List Call) (xs : List Answer) : Type 0 where
+        later : (ws : List Pending) (ds : List Decided) → find pendingId id ws ≡ some first₂ → (cs : List Call) → those (on id) cs ≡ rest
+            → answersTo σ (o i) id (ledgerAfter σ (o i) (at (isOpen ws) ds) two) cs ≡ xs
+
+      module _ (rest : List Call) (xs : List Answer) (then : Rest rest xs) where
+        on-two : (v : Ledger) → Holds σ (o i) id first₂ v → (more : List Call) → those (on id) more ≡ two ∷ rest
+            → answersTo σ (o i) id v more ≡ judged (bothZero σ S (flatten twos)) ∷ xs
+        unfolding answerOf
+        on-two =
+            first-on σ (o i) id first₂ two (judged (bothZero σ S (flatten twos))) rest xs (two-there i l) (λ ws ds h. refl) (then .later)
+
+        on-one : (v : Ledger) → Holds σ (o i) id (waitsOne (note i)) v → (more : List Call) → those (on id) more ≡ one ∷ two ∷ rest
+            → answersTo σ (o i) id v more ≡ wrote (messageTwo σ (o i) (wait₂ i)) ∷ judged (bothZero σ S (flatten twos)) ∷ xs
+        unfolding answerOf secondMessage summed ledgerAfter sumsNoted
+        on-one =
+            first-on σ (o i) id (waitsOne (note i)) one (wrote (messageTwo σ (o i) (wait₂ i))) (two ∷ rest) _ (one-there i l)
+            (λ ws ds h. rw h (ap₂ (λ (u v : ℕ). wrote (messageTwo σ (o i) (withSums (wait i) u v))) (same-sum 0) (same-sum 1)))
+            (λ ws ds h cs q. on-two _ (holds _ ds (changed-found pendingId id (sumsOf σ (o i) (flatten ones))
+            (keeps-id σ (o i) (flatten ones)) ws (waitsOne (note i)) h
+            ∙ ap₂ (λ (u v : ℕ). some (waitsTwo (note i) u v)) (same-sum 0) (same-sum 1))) cs q)
+
+        -- with other calls mixed in once the share is taken
+        whole-return : (more : List Call) → those (on id) more ≡ one ∷ two ∷ rest
+            → answersTo σ (o i) id (ledgerAt σ 𝓟 i) (share (shareMessage σ id i (shares i)) r s room ∷ more)
+            ≡ wrote (messageOne σ (o i) (wait i)) ∷ wrote (messageTwo σ (o i) (wait₂ i)) ∷ judged (letsIn σ (columns σ 𝓟) S x r s) ∷ xs
+        unfolding answersTo
+        whole-return more q =
+            let v : Ledger = ledgerAt σ 𝓟 i in
+            let after : ℕ → List Answer = λ f. answersTo σ (o i) id (ledgerStep σ (o i) v (first i) f) more in
+            let f : ℕ = refusalOf σ (o i) v (first i) in
+            ap (λ (b : Bool). cond b (ledgerSays σ (o i) v (first i) f ∷ after f) (after f)) named
+            ∙ ap (λ (n : ℕ). ledgerSays σ (o i) v (first i) n ∷ after n) (begun i l .passes)
+            ∙ ap₂ (λ (a : Answer) (u : Ledger). a ∷ answersTo σ (o i) id u more) (begun i l .writes) (begun i l .leaves)
+            ∙ ap (λ (u : List Answer). wrote (messageOne σ (o i) (wait i)) ∷ u)
+            (on-one _ (holds _ _ (found-here pendingId id (waitsOne (note i)) (waiting (v .progress)) refl)) more q
+            ∙ ap (λ (b : Bool). wrote (messageTwo σ (o i) (wait₂ i)) ∷ judged b ∷ xs) verdict-is)
+
+      -- nothing more is asked for, or the entry of a return that the pair lets in
+      no-more : Rest [] []
+      no-more = record { later = λ ws ds h cs q. none-on σ (o i) id _ cs q }
+
+      entry-there : (v : Ledger) → Holds σ (o i) id (waitsEntry (note i) d₀ e₀) v → (more : List Call) → those (on id) more ≡ enter id ∷ []
+          → answersTo σ (o i) id v more ≡ done ∷ []
+      unfolding answerOf
+      entry-there =
+          first-on σ (o i) id (waitsEntry (note i) d₀ e₀) (enter id) done [] []
+          (λ ws ds h. accepted-enter σ (o i) ws ds id (note i) d₀ e₀ h) (λ ws ds h. refl) (λ ws ds h cs q. none-on σ (o i) id _ cs q)
+
+      entry : letsIn σ (columns σ 𝓟) S x r s ≡ true → Rest (enter id ∷ []) (done ∷ [])
+      unfolding ledgerAfter acceptNoted
+      entry lets = record {
+        later = λ ws ds h cs q. (
+            let after : Bool → Ledger = λ b.
+            cond b (at (isOpen (changed pendingId id (acceptNoted σ (o i)) ws)) ds) (decideAs σ (o i) id (find pendingId id ws) ws ds rejected) in
+            subst (λ (b : Bool). answersTo σ (o i) id (after b) cs ≡ done ∷ []) (sym (verdict-is ∙ lets))
+            (entry-there (after true)
+            (holds _ ds (changed-found pendingId id (acceptNoted σ (o i)) (accept-keeps-id σ (o i)) ws first₂ h)) cs q));
+      }
+
+      -- 8, with other calls mixed in
       pub handled-mixed : (more : List Call) → those (on id) more ≡ bothRounds id ones twos roundRoom
           → answersTo σ (o i) id (ledgerAt σ 𝓟 i) (share (shareMessage σ id i (shares i)) r s room ∷ more)
           ≡ wrote (messageOne σ (o i) (wait i)) ∷ wrote (messageTwo σ (o i) (wait₂ i)) ∷ judged (letsIn σ (columns σ 𝓟) S x r s) ∷ []
-      unfolding answersTo
-      handled-mixed more q =
-          let v : Ledger = ledgerAt σ 𝓟 i in
-          let rest : ℕ → List Answer = λ f. answersTo σ (o i) id (ledgerStep σ (o i) v (first i) f) more in
-          let f : ℕ = refusalOf σ (o i) v (first i) in
-          ap (λ (b : Bool). cond b (ledgerSays σ (o i) v (first i) f ∷ rest f) (rest f)) named
-          ∙ ap (λ (n : ℕ). ledgerSays σ (o i) v (first i) n ∷ rest n) (begun i l .passes)
-          ∙ ap₂ (λ (a : Answer) (u : Ledger). a ∷ answersTo σ (o i) id u more) (begun i l .writes) (begun i l .leaves)
-          ∙ ap (λ (u : List Answer). wrote (messageOne σ (o i) (wait i)) ∷ u)
-          (on-one _ (holds _ _ (found-here pendingId id (waitsOne (note i)) (waiting (v .progress)) refl)) more q
-          ∙ ap (λ (b : Bool). wrote (messageTwo σ (o i) (wait₂ i)) ∷ judged b ∷ []) verdict-is)
+      handled-mixed = whole-return [] [] no-more
 
-      -- 8
+      pub handled-entered : letsIn σ (columns σ 𝓟) S x r s ≡ true → (more : List Call)
+          → those (on id) more ≡ bothRounds id ones twos roundRoom ++ (enter id ∷ [])
+          → answersTo σ (o i) id (ledgerAt σ 𝓟 i) (share (shareMessage σ id i (shares i)) r s room ∷ more)
+          ≡ wrote (messageOne σ (o i) (wait i)) ∷ wrote (messageTwo σ (o i) (wait₂ i)) ∷ judged true ∷ done ∷ []
+      handled-entered lets more q =
+          whole-return (enter id ∷ []) (done ∷ []) (entry lets) more q
+          ∙ ap (λ (b : Bool). wrote (messageOne σ (o i) (wait i)) ∷ wrote (messageTwo σ (o i) (wait₂ i)) ∷ judged b ∷ done ∷ []) lets
+
+      -- 8, and no other calls
+      same : eqb id id ≡ true
+      same = eq-eqb id id refl
+
       pub handled : ledgerAnswers σ (o i) (ledgerAt σ 𝓟 i) (first i ∷ bothRounds id ones twos roundRoom)
           ≡ wrote (messageOne σ (o i) (wait i)) ∷ wrote (messageTwo σ (o i) (wait₂ i)) ∷ judged (letsIn σ (columns σ 𝓟) S x r s) ∷ []
       unfolding those
       handled =
-          let same : eqb id id ≡ true = eq-eqb id id refl in
           let both : those (on id) (one ∷ two ∷ []) ≡ one ∷ two ∷ [] = rw same refl in
           sym (all-on σ (o i) id (ledgerAt σ 𝓟 i) (first i ∷ one ∷ two ∷ []) (all∷ named (all∷ same (all∷ same all[]))))
           ∙ handled-mixed (one ∷ two ∷ []) both
+
+      pub entered-alone : letsIn σ (columns σ 𝓟) S x r s ≡ true
+          → ledgerAnswers σ (o i) (ledgerAt σ 𝓟 i) (first i ∷ (bothRounds id ones twos roundRoom ++ (enter id ∷ [])))
+          ≡ wrote (messageOne σ (o i) (wait i)) ∷ wrote (messageTwo σ (o i) (wait₂ i)) ∷ judged true ∷ done ∷ []
+      unfolding those
+      entered-alone lets =
+          let calls : List Call = one ∷ two ∷ enter id ∷ [] in
+          let all : those (on id) calls ≡ calls = rw same refl in
+          sym (all-on σ (o i) id (ledgerAt σ 𝓟 i) (first i ∷ calls) (all∷ named (all∷ same (all∷ same (all∷ same all[])))))
+          ∙ handled-entered lets calls all

@@ -11,15 +11,17 @@ use borrow.Author.Tests.{eqb-true, eqb-false}
 use lib.Dec.{eqb}
 use Rattle.algebra.specs.Lists.{All, all[], all∷}
 use Rattle.rules.specs.Settings.{Setting}
-use Rattle.rules.specs.Keyed.{find, those}
+use Rattle.rules.specs.Messages.{bothZero}
+use Rattle.rules.specs.Keyed.{find, changed, those}
 use Rattle.rules.specs.Server.{Opened, whileOpen, closeRefusal}
-use Rattle.rules.specs.Ledger.{Call, share, roundOne, roundTwo, drop, close, Answer, Pending, pendingId, isOpen}
-use Rattle.rules.specs.Ledger.{Decision, Decided, Ledger, ledgerStage, ledgerState, refusalOf, decideAs}
+use Rattle.rules.specs.Ledger.{Call, share, roundOne, roundTwo, enter, drop, close, Answer, Pending, pendingId, isOpen, rejected}
+use Rattle.rules.specs.Ledger.{Decision, Decided, Ledger, ledgerStage, ledgerState, refusalOf, decideAs, acceptNoted}
 use Rattle.rules.specs.Ledger.{ledgerAfter, answerOf, ledgerStep, ledgerSays, ledgerAnswers}
 use Rattle.rules.specs.Mixing.{on, answersTo}
-use Rattle.rules.proofs.Histories.Keyed.{found-past, find-without, find-changed}
+use Rattle.rules.proofs.Histories.Keyed.{found-past}
+use Rattle.rules.proofs.Histories.Those.{find-without, find-changed}
 use Rattle.rules.proofs.Histories.Moves.{at, sumsOf, none-waits}
-use Rattle.rules.proofs.Histories.NotesGrow.{keeps-id}
+use Rattle.rules.proofs.Histories.NotesGrow.{keeps-id, accept-keeps-id}
 
 module _ (σ : Setting) (o : Opened) (id : ℕ) where
   pub data Holds (p : Pending) : Ledger → Type 0 where
@@ -42,7 +44,13 @@ module _ (σ : Setting) (o : Opened) (id : ℕ) where
   after-holds p ws ds h (share m r s room) q e = holds _ ds (found-past pendingId id _ ws (some p) q h)
   after-holds p ws ds h (roundOne x joined room) q e =
       holds _ ds (find-changed pendingId id x (eqb-false x id q) (sumsOf σ o joined) (keeps-id σ o joined) ws ∙ h)
-  after-holds p ws ds h (roundTwo x joined) q e = decided-holds p ws ds h x (eqb-false x id q) _ _
+  after-holds p ws ds h (roundTwo x joined) q e = by-verdict (bothZero σ (o .servers) joined)
+    where
+      by-verdict : (b : Bool)
+          → Holds p (cond b (at (isOpen (changed pendingId x (acceptNoted σ o) ws)) ds) (decideAs σ o x (find pendingId x ws) ws ds rejected))
+      by-verdict true = holds _ ds (find-changed pendingId id x (eqb-false x id q) (acceptNoted σ o) (accept-keeps-id σ o) ws ∙ h)
+      by-verdict false = decided-holds p ws ds h x (eqb-false x id q) _ _
+  after-holds p ws ds h (enter x) q e = decided-holds p ws ds h x (eqb-false x id q) _ _
   after-holds p ws ds h (drop x) q e = decided-holds p ws ds h x (eqb-false x id q) _ _
   after-holds p ws ds h (close room) q e = absurd (waits-still p ws h (none-waits σ o ws _ e))
 

@@ -1,4 +1,4 @@
--- Fields 2, 3 and 4 of demand 3: when all servers have closed, the accepted ids are the same at each, and joining the
+-- Fields 2, 3 and 4 of demand 3: when all servers have closed, the entered ids are the same at each, and joining the
 -- closing messages is refused 14 at most and gives their number and the sums of the added-up published entries. Sums over
 -- servers and over ids may be taken in either order. Assumes the conditions of whole runs.
 use mathlib.Core.Path.{_≡_, sym, ap, _∙_}
@@ -26,14 +26,14 @@ use Rattle.rules.specs.Columns.{Column, check, publishedIn, publishedFro
 use Rattle.rules.specs.Judging.{addedUp}
 use Rattle.rules.specs.Joining.{messageLength, totalsAt, acceptedCount, sumsIn, totalsSound, joinedFault, joinRefusal}
 use Rattle.rules.specs.Joining.{joinTotals}
-use Rattle.rules.specs.Ledger.{Note, isAccepted, notesWith, ledgerTotals, closingMessage}
-use Rattle.rules.specs.Pools.{Pool, columns, openedAt, ledgerAt, acceptedAt, returnOf, addedEntry, Conditions, AllClosed}
+use Rattle.rules.specs.Ledger.{Note, isEntered, notesWith, ledgerTotals, closingMessage}
+use Rattle.rules.specs.Pools.{Pool, columns, openedAt, ledgerAt, enteredAt, returnOf, addedEntry, Conditions, AllClosed}
 use Rattle.rules.specs.WholeRun.{closings}
 use Rattle.rules.proofs.Histories.MessageBytes.{length-one-by-one, part-one-by-one}
 use Rattle.rules.proofs.Histories.Checks.{at-every}
 use Rattle.rules.proofs.Histories.Opening.{positive}
 use Rattle.rules.proofs.Histories.PoolOpened.{opened, limited, returns-limits}
-use Rattle.rules.proofs.Runs.SameIds.{few-accepted, own-sum, same-ids}
+use Rattle.rules.proofs.Runs.SameIds.{few-entered, own-sum, same-ids}
 use Rattle.rules.proofs.Histories.ClosingBytes.{length-totals, totals-kind, totals-server, totals-count, totals-sums}
 use Rattle.rules.proofs.Histories.ClosingBytes.{map-places, getD-map, sum-modulo}
 
@@ -47,26 +47,26 @@ module _ (σ : Setting) (facts : Facts σ) (𝓟 : Pool σ) (𝓒 : Conditions �
   abbrev p : ℕ
   p = σ .modulus
 
-  -- the accepted ids
+  -- the entered ids
   abbrev ids : List ℕ
-  ids = acceptedAt σ 𝓟 0
+  ids = enteredAt σ 𝓟 0
 
-  abbrev acceptedNotes : ℕ → List Note
-  acceptedNotes i = notesWith isAccepted (ledgerAt σ 𝓟 i .decided)
+  abbrev enteredNotes : ℕ → List Note
+  enteredNotes i = notesWith isEntered (ledgerAt σ 𝓟 i .decided)
 
-  count-at : (i : ℕ) → i < S → length (acceptedNotes i) ≡ length ids
+  count-at : (i : ℕ) → i < S → length (enteredNotes i) ≡ length ids
   count-at i l =
-      sym (length-map (acceptedNotes i) (λ n. n .id)) ∙ rearranged-length (same-ids σ 𝓟 closed facts 𝓒 i 0 l (𝓟 .some-server))
+      sym (length-map (enteredNotes i) (λ n. n .id)) ∙ rearranged-length (same-ids σ 𝓟 closed facts 𝓒 i 0 l (𝓟 .some-server))
 
   pub few-ids : length ids ≤ 𝓟 .returns
-  few-ids = omega (arith, count-at 0 (𝓟 .some-server), few-accepted σ 𝓟 closed 0 (𝓟 .some-server))
+  few-ids = omega (arith, count-at 0 (𝓟 .some-server), few-entered σ 𝓟 closed 0 (𝓟 .some-server))
 
   -- ---- the closing messages
   abbrev closing : ℕ → List ℕ
   closing i = closingMessage σ (openedAt σ 𝓟 i) (ledgerAt σ 𝓟 i)
 
   abbrev totalsOf : ℕ → List ℕ
-  totalsOf i = ledgerTotals σ (openedAt σ 𝓟 i) (acceptedNotes i)
+  totalsOf i = ledgerTotals σ (openedAt σ 𝓟 i) (enteredNotes i)
 
   many-totals : (i : ℕ) → length (totalsOf i) ≡ publishedIn cs
   unfolding ledgerTotals
@@ -79,26 +79,26 @@ module _ (σ : Setting) (facts : Facts σ) (𝓟 : Pool σ) (𝓒 : Conditions �
   closing-length : (i : ℕ) → length (closing i) ≡ messageLength σ cs
   unfolding closingMessage
   closing-length i =
-      length-totals σ (openedAt σ 𝓟 i) (length (acceptedNotes i)) (totalsOf i)
+      length-totals σ (openedAt σ 𝓟 i) (length (enteredNotes i)) (totalsOf i)
       ∙ ap (λ (k : ℕ). 6 + σ .width * k) (many-totals i)
 
   closing-kind : (i : ℕ) → getD (closing i) 0 0 ≡ σ .totalsByte
   unfolding closingMessage
-  closing-kind i = totals-kind σ (openedAt σ 𝓟 i) (length (acceptedNotes i)) (totalsOf i)
+  closing-kind i = totals-kind σ (openedAt σ 𝓟 i) (length (enteredNotes i)) (totalsOf i)
 
   closing-server : (i : ℕ) → getD (closing i) 1 0 ≡ i
   unfolding closingMessage
-  closing-server i = totals-server σ (openedAt σ 𝓟 i) (length (acceptedNotes i)) (totalsOf i)
+  closing-server i = totals-server σ (openedAt σ 𝓟 i) (length (enteredNotes i)) (totalsOf i)
 
   closing-count : (i : ℕ) → i < S → acceptedCount (closing i) ≡ length ids
   unfolding closingMessage
   closing-count i l =
-      let few : length (acceptedNotes i) < 4294967296 = omega (arith, few-accepted σ 𝓟 closed i l, returns-limits σ 𝓟 .1) in
-      totals-count σ (openedAt σ 𝓟 i) (length (acceptedNotes i)) (totalsOf i) few ∙ count-at i l
+      let few : length (enteredNotes i) < 4294967296 = omega (arith, few-entered σ 𝓟 closed i l, returns-limits σ 𝓟 .1) in
+      totals-count σ (openedAt σ 𝓟 i) (length (enteredNotes i)) (totalsOf i) few ∙ count-at i l
 
   closing-sums : (i : ℕ) → sumsIn σ (closing i) ≡ totalsOf i
   unfolding closingMessage
-  closing-sums i = totals-sums σ (openedAt σ 𝓟 i) (length (acceptedNotes i)) (totalsOf i) facts (small-totals i)
+  closing-sums i = totals-sums σ (openedAt σ 𝓟 i) (length (enteredNotes i)) (totalsOf i) facts (small-totals i)
 
   -- one after another
   closings-length : length (closings σ 𝓟) ≡ messageLength σ cs * S
@@ -161,7 +161,7 @@ module _ (σ : Setting) (facts : Facts σ) (𝓟 : Pool σ) (𝓒 : Conditions �
   total-at i l k h =
       ap (λ (v : List ℕ). getD (sumsIn σ v) k 0) (place i l)
       ∙ ap (λ (v : List ℕ). getD v k 0) (closing-sums i)
-      ∙ getD-map (λ e. sumOver (λ n. getD (n .elements) e 0) (acceptedNotes i) % p) (publishedFrom 0 cs) k h
+      ∙ getD-map (λ e. sumOver (λ n. getD (n .elements) e 0) (enteredNotes i) % p) (publishedFrom 0 cs) k h
       ∙ ap (λ (v : ℕ). v % p)
       (own-sum σ 𝓟 closed i l (getD (publishedFrom 0 cs) k 0)
       ∙ rearranged-sum (shareOf (getD (publishedFrom 0 cs) k 0) i) (same-ids σ 𝓟 closed facts 𝓒 i 0 l (𝓟 .some-server)))

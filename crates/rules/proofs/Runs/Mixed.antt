@@ -12,17 +12,19 @@ use borrow.Author.Tests.{eqb-true, eqb-false, ne-eqb}
 use lib.Dec.{eqb}
 use Rattle.algebra.specs.Lists.{All, all[], all∷}
 use Rattle.rules.specs.Settings.{Setting}
+use Rattle.rules.specs.Messages.{bothZero}
 use Rattle.rules.specs.Keyed.{find, those}
-use Rattle.rules.specs.Server.{Opened, whileOpen, shareRefusal, oneRefusal, twoRefusal, dropRefusal, closeRefusal}
-use Rattle.rules.specs.Ledger.{Call, share, roundOne, roundTwo, drop, close, Answer, Pending, waitsOne, noteIn, pendingId}
+use Rattle.rules.specs.Server.{Opened, whileOpen, shareRefusal, oneRefusal, twoRefusal, enterRefusal, dropRefusal, closeRefusal}
+use Rattle.rules.specs.Ledger.{Call, share, roundOne, roundTwo, enter, drop, close, Answer, Pending, waitsOne, noteIn, pendingId}
 use Rattle.rules.specs.Ledger.{Progress, isOpen, isClosed, Decision, Decided, Ledger, empty, ledgerStage, ledgerState}
-use Rattle.rules.specs.Ledger.{refusalOf, decideAs, noteOf, ledgerAfter, answerOf, ledgerStep, ledgerSays, runLedger}
+use Rattle.rules.specs.Ledger.{rejected, refusalOf, decideAs, changeWaiting, acceptNoted, noteOf, ledgerAfter, answerOf, ledgerStep, ledgerSays, runLedger}
 use Rattle.rules.specs.Ledger.{ledgerAnswers}
 use Rattle.rules.specs.Mixing.{on, decidedId, decidedOn, pendingOn, takenOn, callsOn, answersOn, Mixing}
 use Rattle.rules.specs.Pools.{BytesIn}
-use Rattle.rules.proofs.Histories.Keyed.{found-id, those-not, those-end, find-those, without-other, changed-other}
+use Rattle.rules.proofs.Histories.Keyed.{found-id}
+use Rattle.rules.proofs.Histories.Those.{those-not, those-end, find-those, without-other, changed-other}
 use Rattle.rules.proofs.Histories.Moves.{at, sumsOf, none-waits}
-use Rattle.rules.proofs.Histories.NotesGrow.{keeps-id}
+use Rattle.rules.proofs.Histories.NotesGrow.{keeps-id, accept-keeps-id}
 use Rattle.rules.proofs.Runs.OneReturn.{Like, part, is-part, passes, answers-alike, after}
 
 module _ (σ : Setting) (o : Opened) (x : ℕ) where
@@ -41,20 +43,29 @@ module _ (σ : Setting) (o : Opened) (x : ℕ) where
             ∙ append-nil (those (decidedOn x) ds));
       }
 
+  changed-other-id : (ws : List Pending) (ds : List Decided) (a : Ledger) (id : ℕ) (f : Pending → Pending)
+      → ((p : Pending) → pendingId (f p) ≡ pendingId p) → id ≢ x → Like σ o x (at (isOpen ws) ds) a
+      → Like σ o x (changeWaiting σ o (at (isOpen ws) ds) id f) a
+  changed-other-id ws ds a id f keeps ne k =
+      record { waits = k .waits ∙ ap isOpen (sym (changed-other pendingId x id ne f keeps ws)); decided = k .decided }
+
   skips : (p : Progress) (ds : List Decided) (a : Ledger) (c : Call) → on x c ≡ false → refusalOf σ o (at p ds) c ≡ 0
       → Like σ o x (at p ds) a → Like σ o x (ledgerAfter σ o (at p ds) c) a
-  unfolding ledgerAfter refusalOf ledgerState ledgerStage shareRefusal oneRefusal twoRefusal dropRefusal closeRefusal whileOpen
+  unfolding ledgerAfter refusalOf ledgerState ledgerStage shareRefusal oneRefusal twoRefusal enterRefusal dropRefusal closeRefusal whileOpen
   skips (isOpen ws) ds a (share m r s room) q e k = record {
     waits = k .waits ∙ ap isOpen (sym (those-not (pendingOn x) (waitsOne (noteOf σ o m r s)) ws q));
     decided = k .decided;
   }
-  skips (isOpen ws) ds a (roundOne id joined room) q e k = record {
-    waits = k .waits ∙ ap isOpen (sym (changed-other pendingId x id (eqb-false id x q) (sumsOf σ o joined)
-        (keeps-id σ o joined) ws));
-    decided = k .decided;
-  }
-  skips (isOpen ws) ds a (roundTwo id joined) q e k =
-      decided-other ws ds a id _ (eqb-false id x q) (find pendingId id ws) refl k
+  skips (isOpen ws) ds a (roundOne id joined room) q e k =
+      changed-other-id ws ds a id (sumsOf σ o joined) (keeps-id σ o joined) (eqb-false id x q) k
+  skips (isOpen ws) ds a (roundTwo id joined) q e k = by-verdict (bothZero σ (o .servers) joined)
+    where
+      by-verdict : (b : Bool)
+          → Like σ o x (cond b (changeWaiting σ o (at (isOpen ws) ds) id (acceptNoted σ o))
+          (decideAs σ o id (find pendingId id ws) ws ds rejected)) a
+      by-verdict true = changed-other-id ws ds a id (acceptNoted σ o) (accept-keeps-id σ o) (eqb-false id x q) k
+      by-verdict false = decided-other ws ds a id _ (eqb-false id x q) (find pendingId id ws) refl k
+  skips (isOpen ws) ds a (enter id) q e k = decided-other ws ds a id _ (eqb-false id x q) (find pendingId id ws) refl k
   skips (isOpen ws) ds a (drop id) q e k = decided-other ws ds a id _ (eqb-false id x q) (find pendingId id ws) refl k
   skips (isOpen ws) ds a (close room) q e k = record {
     waits = k .waits ∙ ap (λ (s : List Pending). isOpen (those (pendingOn x) s)) (none-waits σ o ws _ e);
@@ -63,6 +74,7 @@ module _ (σ : Setting) (o : Opened) (x : ℕ) where
   skips isClosed ds a (share m r s room) q e k = absurd (omega arith)
   skips isClosed ds a (roundOne id joined room) q e k = absurd (omega arith)
   skips isClosed ds a (roundTwo id joined) q e k = absurd (omega arith)
+  skips isClosed ds a (enter id) q e k = absurd (omega arith)
   skips isClosed ds a (drop id) q e k = absurd (omega arith)
   skips isClosed ds a (close room) q e k = absurd (omega arith)
 

@@ -3,8 +3,8 @@
 -- return waits for it, or was dropped. Assumes that messages are unaltered.
 use mathlib.Core.Path.{_≡_, refl, sym, ap, _∙_, subst}
 use mathlib.Core.Logic.{⊎-elim}
-use mathlib.Core.Bool.{false}
-use mathlib.Core.List.{List, []}
+use mathlib.Core.Bool.{true, false}
+use mathlib.Core.List.{List}
 use Prim.Native.Nat.{ℕ, _<_}
 use native.Mathlib.Omega.{arith}
 use lib.ListN.{getD}
@@ -13,23 +13,20 @@ use Rattle.algebra.proofs.Members.{of-map, in-count, count-in}
 use Rattle.algebra.proofs.Rearrangement.{rearranged-sym}
 use Rattle.rules.specs.Settings.{Setting, Facts}
 use Rattle.rules.specs.Messages.{placeIn, serverAt}
-use Rattle.rules.specs.Ledger.{Call, Note, Pending, waitsOne, waitsTwo, noteIn}
-use Rattle.rules.specs.Ledger.{Decision, accepted, rejected, dropped, isDropped, empty}
-use Rattle.rules.specs.Pools.{Pool, openedAt, handedIn, notesAt, Unaltered, NoVerdict}
+use Rattle.rules.specs.Ledger.{Call, Note, Pending, waitsOne, waitsTwo, waitsEntry, noteIn}
+use Rattle.rules.specs.Ledger.{Decision, entered, rejected, dropped, isEntered, isRejected, empty}
+use Rattle.rules.specs.Pools.{Pool, openedAt, ledgerAt, handedIn, notesAt, Unaltered, NoVerdict}
 use Rattle.rules.proofs.Histories.Shuffled.{rearranged-in}
-use Rattle.rules.proofs.Histories.Summing.{SummedOn, summed-on, summed-at}
+use Rattle.rules.proofs.Histories.Moves.{decidedAs}
+use Rattle.rules.proofs.Histories.Summing.{SummedOn, summed-on, none-was, summed-at}
 use Rattle.rules.proofs.Runs.Agreement.{shareAt, Summed, found, history-at, First, place-one, judged-everywhere}
-
--- what is not dropped is not dropped
-only-dropped : (d : Decision) → (isDropped d ≡ false → ⊥) → d ≡ dropped
-only-dropped accepted f = absurd (f refl)
-only-dropped rejected f = absurd (f refl)
-only-dropped dropped f = refl
+use Rattle.rules.proofs.Runs.VerdictFirst.{of-decided, verdict-first}
 
 -- what waits waits for round one, or it does not
 first-wait : (p : Pending) → ((p ≡ waitsOne (noteIn p) → ⊥) → ⊥) → p ≡ waitsOne (noteIn p)
 first-wait (waitsOne n) f = refl
 first-wait (waitsTwo n d e) f = absurd (f (λ q. (let z : _≡_ {A = ℕ} 0 1 = cc in omega arith)))
+first-wait (waitsEntry n d e) f = absurd (f (λ q. (let z : _≡_ {A = ℕ} 0 1 = cc in omega arith)))
 
 module _ (σ : Setting) (𝓟 : Pool σ) (facts : Facts σ) (𝓤 : Unaltered σ 𝓟) where
   -- ---- server i took round one on the id
@@ -72,6 +69,16 @@ module _ (σ : Setting) (𝓟 : Pool σ) (facts : Facts σ) (𝓤 : Unaltered σ
         differ (ap (λ (v : Note). v .r) (sym at-i) ∙ same .0 ∙ ap (λ (v : Note). v .r) at-j)
         (ap (λ (v : Note). v .s) (sym at-i) ∙ same .1 ∙ ap (λ (v : Note). v .s) at-j)
 
+    -- a decision with a verdict would have had round one
+    only-dropped : (q : ℕ) → q < 𝓟 .servers → (d : Decision) (n : Note) → In (decidedAs n d) (ledgerAt σ 𝓟 q .decided) → n .id ≡ id → d ≡ dropped
+    only-dropped q c entered n h e =
+        absurd (none-summed q c (judged-everywhere σ 𝓟 facts 𝓤 q c id true
+        (verdict-first σ 𝓟 q c .entered-judged id (of-decided σ 𝓟 q c isEntered entered refl id n h e)) q c .1))
+    only-dropped q c rejected n h e =
+        absurd (none-summed q c (judged-everywhere σ 𝓟 facts 𝓤 q c id false
+        (verdict-first σ 𝓟 q c .rejected-judged id (of-decided σ 𝓟 q c isRejected rejected refl id n h e)) q c .1))
+    only-dropped q c dropped n h e = refl
+
     -- 13
     pub unequal : (q : ℕ) → q < 𝓟 .servers → NoVerdict σ 𝓟 id q
     unequal q c = record {
@@ -79,7 +86,6 @@ module _ (σ : Setting) (𝓟 : Pool σ) (facts : Facts σ) (𝓤 : Unaltered σ
           (subst (λ (v : List Call). SummedOn σ (openedAt σ 𝓟 q) (handedIn σ (openedAt σ 𝓟 q) empty v) id) (sym e)
           (summed-at σ (openedAt σ 𝓟 q) id joined room empty before after z));
       waits = λ p h e. first-wait p (λ f. none-summed q c (subst (λ (v : ℕ). Summed σ 𝓟 v q) e
-          (⊎-elim (λ (k : In p []). absurd k) (λ k. k) (summed-on σ (openedAt σ 𝓟 q) (history-at σ 𝓟 q c) p h f))));
-      only-dropped = λ k h e. only-dropped (k .decision) (λ f. none-summed q c
-          (subst (λ (v : ℕ). Summed σ 𝓟 v q) e (judged-everywhere σ 𝓟 facts 𝓤 q c k h f q c .1)));
+          (⊎-elim (λ k. absurd (none-was σ (openedAt σ 𝓟 q) k)) (λ k. k) (summed-on σ (openedAt σ 𝓟 q) (history-at σ 𝓟 q c) p h f))));
+      only-dropped = λ k h e. only-dropped q c (k .decision) (k .note) h e;
     }

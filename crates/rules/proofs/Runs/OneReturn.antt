@@ -17,16 +17,17 @@ use Rattle.rules.specs.Columns.{check}
 use Rattle.rules.specs.Messages.{idIn, bothZero}
 use Rattle.rules.specs.Keyed.{find, without, changed, those}
 use Rattle.rules.specs.Server.{Opened, heldId, mostWaiting, isMember, whileOpen}
-use Rattle.rules.specs.Server.{shareRefusal, oneRefusal, twoRefusal, dropRefusal, closeRefusal}
-use Rattle.rules.specs.Ledger.{Call, share, roundOne, roundTwo, drop, close, wrote, Note, Pending, waitsOne, noteIn, pendingId}
-use Rattle.rules.specs.Ledger.{Progress, isOpen, isClosed, waiting, accepted, rejected, dropped, Decision, Decided, Ledger}
+use Rattle.rules.specs.Server.{shareRefusal, oneRefusal, twoRefusal, enterRefusal, dropRefusal, closeRefusal}
+use Rattle.rules.specs.Ledger.{Call, share, roundOne, roundTwo, enter, drop, close, wrote, Note, Pending, waitsOne, noteIn, pendingId}
+use Rattle.rules.specs.Ledger.{Progress, isOpen, isClosed, waiting, entered, rejected, dropped, Decision, Decided, Ledger, acceptNoted}
 use Rattle.rules.specs.Ledger.{idsOf, notesOf, ledgerWait, ledgerStage, ledgerState, refusalOf, decideAs, noteOf, ledgerAfter}
-use Rattle.rules.specs.Ledger.{secondMessage, answerOf}
+use Rattle.rules.specs.Ledger.{decideWaiting, changeWaiting, secondMessage, answerOf}
 use Rattle.rules.specs.Mixing.{on, decidedId, decidedOn, pendingOn}
-use Rattle.rules.proofs.Histories.Keyed.{member-append, through, found-id, those-here, those-end, those-few}
-use Rattle.rules.proofs.Histories.Keyed.{find-those, without-those, changed-those, member-those}
+use Rattle.rules.proofs.Histories.Keyed.{member-append, through, found-id}
+use Rattle.rules.proofs.Histories.Those.{those-here, those-end, those-few}
+use Rattle.rules.proofs.Histories.Those.{find-those, without-those, changed-those, member-those}
 use Rattle.rules.proofs.Histories.Moves.{at, many-used, many-told, id-told, find-told, sumsOf}
-use Rattle.rules.proofs.Histories.NotesGrow.{keeps-id}
+use Rattle.rules.proofs.Histories.NotesGrow.{keeps-id, accept-keeps-id}
 
 -- ---- checks in an order pass where each does
 or-both : (a b a′ b′ : ℕ) → (a ≡ 0 → a′ ≡ 0) → (b ≡ 0 → b′ ≡ 0) → orElse a b ≡ 0 → orElse a′ b′ ≡ 0
@@ -129,15 +130,17 @@ module _ (σ : Setting) (o : Opened) (x : ℕ) where
 
   pub passes : (p : Progress) (ds : List Decided) (c : Call) → on x c ≡ true → refusalOf σ o (at p ds) c ≡ 0
       → refusalOf σ o (part (at p ds)) c ≡ 0
-  unfolding refusalOf ledgerState ledgerStage shareRefusal oneRefusal twoRefusal dropRefusal closeRefusal whileOpen
+  unfolding refusalOf ledgerState ledgerStage shareRefusal oneRefusal twoRefusal enterRefusal dropRefusal closeRefusal whileOpen
   passes (isOpen ws) ds (share m r s room) q e = share-part ws ds m r s room (eqb-true _ _ q) e
   passes (isOpen ws) ds (roundOne id joined room) q e = rw (wait-part id q ws) at e
   passes (isOpen ws) ds (roundTwo id joined) q e = rw (wait-part id q ws) at e
+  passes (isOpen ws) ds (enter id) q e = rw (wait-part id q ws) at e
   passes (isOpen ws) ds (drop id) q e = rw (wait-part id q ws) at e
   passes (isOpen ws) ds (close room) q e = absurd (false≢true q)
   passes isClosed ds (share m r s room) q e = absurd (omega arith)
   passes isClosed ds (roundOne id joined room) q e = absurd (omega arith)
   passes isClosed ds (roundTwo id joined) q e = absurd (omega arith)
+  passes isClosed ds (enter id) q e = absurd (omega arith)
   passes isClosed ds (drop id) q e = absurd (omega arith)
   passes isClosed ds (close room) q e = absurd (omega arith)
 
@@ -148,6 +151,7 @@ module _ (σ : Setting) (o : Opened) (x : ℕ) where
   answers-alike l (roundOne id joined room) q =
       ap (λ (v : Option Pending). wrote (secondMessage σ o v joined)) (find-part id q (waiting (l .progress)))
   answers-alike l (roundTwo id joined) q = refl
+  answers-alike l (enter id) q = refl
   answers-alike l (drop id) q = refl
   answers-alike l (close room) q = absurd (false≢true q)
 
@@ -168,27 +172,37 @@ module _ (σ : Setting) (o : Opened) (x : ℕ) where
             ∙ ap (λ (b : Bool). those (decidedOn x) ds ++ cond b (k ∷ []) []) mine);
       }
 
+  settled-part : (l : Ledger) (id : ℕ) (d : Decision) → eqb id x ≡ true → Like (decideWaiting σ o l id d) (decideWaiting σ o (part l) id d)
+  settled-part l id d q =
+      rw (find-part id q (waiting (l .progress)))
+      (decided-part (waiting (l .progress)) (l .decided) id d q (find pendingId id (waiting (l .progress))) refl)
+
+  changed-part : (l : Ledger) (id : ℕ) (f : Pending → Pending) → ((p : Pending) → pendingId (f p) ≡ pendingId p) → eqb id x ≡ true
+      → Like (changeWaiting σ o l id f) (changeWaiting σ o (part l) id f)
+  changed-part l id f keeps q =
+      let ws : List Pending = waiting (l .progress) in
+      record {
+        waits = ap isOpen
+            (subst (λ (y : ℕ). changed pendingId y f (those (pendingOn x) ws) ≡ those (pendingOn x) (changed pendingId y f ws))
+            (sym (eqb-true id x q))
+            (changed-those pendingId x f keeps ws));
+        decided = refl;
+      }
+
   pub after : (l : Ledger) (c : Call) → on x c ≡ true → Like (ledgerAfter σ o l c) (ledgerAfter σ o (part l) c)
   unfolding ledgerAfter
   after l (share m r s room) q = record {
     waits = ap isOpen (sym (those-here (pendingOn x) (waitsOne (noteOf σ o m r s)) (waiting (l .progress)) q));
     decided = refl;
   }
-  after l (roundOne id joined room) q =
-      let ws : List Pending = waiting (l .progress) in
-      let f : Pending → Pending = sumsOf σ o joined in
-      record {
-        waits = ap isOpen
-            (subst (λ (y : ℕ). changed pendingId y f (those (pendingOn x) ws) ≡ those (pendingOn x) (changed pendingId y f ws))
-            (sym (eqb-true id x q))
-            (changed-those pendingId x f (keeps-id σ o joined) ws));
-        decided = refl;
-      }
-  after l (roundTwo id joined) q =
-      let d : Decision = cond (bothZero σ (o .servers) joined) accepted rejected in
-      rw (find-part id q (waiting (l .progress)))
-      (decided-part (waiting (l .progress)) (l .decided) id d q (find pendingId id (waiting (l .progress))) refl)
-  after l (drop id) q =
-      rw (find-part id q (waiting (l .progress)))
-      (decided-part (waiting (l .progress)) (l .decided) id dropped q (find pendingId id (waiting (l .progress))) refl)
+  after l (roundOne id joined room) q = changed-part l id (sumsOf σ o joined) (keeps-id σ o joined) q
+  after l (roundTwo id joined) q = by-verdict (bothZero σ (o .servers) joined)
+    where
+      by-verdict : (b : Bool)
+          → Like (cond b (changeWaiting σ o l id (acceptNoted σ o)) (decideWaiting σ o l id rejected))
+          (cond b (changeWaiting σ o (part l) id (acceptNoted σ o)) (decideWaiting σ o (part l) id rejected))
+      by-verdict true = changed-part l id (acceptNoted σ o) (accept-keeps-id σ o) q
+      by-verdict false = settled-part l id rejected q
+  after l (enter id) q = settled-part l id entered q
+  after l (drop id) q = settled-part l id dropped q
   after l (close room) q = absurd (false≢true q)

@@ -2,7 +2,7 @@
 -- waits is refused 11." "too few accepted is refused 15". Of a ledger where the returns ws wait and ds are decided; each by
 -- computing the first check that fails. Assumes nothing.
 use mathlib.Core.Path.{_≡_, refl, ap, _∙_}
-use mathlib.Core.Bool.{Bool, true, false, cond}
+use mathlib.Core.Bool.{Bool, true, false, cond, true≢false}
 use mathlib.Core.List.{List, [], _∷_, _++_, map}
 use mathlib.Core.Option.{some, none}
 use Prim.Native.Nat.{ℕ, _+_, _≤_, _<_}
@@ -15,11 +15,12 @@ use Rattle.records.specs.Outcome.{orElse}
 use Rattle.rules.specs.Settings.{Setting}
 use Rattle.rules.specs.Messages.{idIn, headerFault, elementsFault}
 use Rattle.rules.specs.Keyed.{find}
-use Rattle.rules.specs.Server.{Opened, Wait, heldId, mostWaiting, isMember, whileOpen, whileOne, whileTwo, whileWaiting}
-use Rattle.rules.specs.Server.{totalsLength, shareRefusal, oneRefusal, twoRefusal, dropRefusal, closeRefusal}
-use Rattle.rules.specs.Ledger.{Call, share, roundOne, roundTwo, drop, close, Note, Pending, waitsOne, waitsTwo, noteIn}
-use Rattle.rules.specs.Ledger.{pendingId, isOpen, Decided, Ledger, isAccepted, notesWith, ledgerAfter, ledgerStep, runLedger}
-use Rattle.rules.specs.Ledger.{idsOf, notesOf, ledgerWait, ledgerStage, ledgerState, refusalOf}
+use Rattle.rules.specs.Server.{Opened, Wait, heldId, mostWaiting, isMember, whileOpen, whileOne, whileTwo, whileEntry}
+use Rattle.rules.specs.Server.{whileWaiting, totalsLength, shareRefusal, oneRefusal, twoRefusal, enterRefusal, dropRefusal}
+use Rattle.rules.specs.Server.{closeRefusal}
+use Rattle.rules.specs.Ledger.{Call, share, roundOne, roundTwo, enter, drop, close, Note, Pending, waitsOne, waitsTwo, waitsEntry}
+use Rattle.rules.specs.Ledger.{noteIn, pendingId, isOpen, Decided, Ledger, isEntered, notesWith, ledgerAfter, ledgerStep, runLedger}
+use Rattle.rules.specs.Ledger.{isAccepted, idsOf, notesOf, ledgerWait, ledgerStage, ledgerState, refusalOf}
 use Rattle.rules.proofs.Histories.Keyed.{in-member, not-found, through}
 use Rattle.rules.proofs.Histories.Moves.{at, many-used, many-told, all-ids, find-told}
 
@@ -66,7 +67,7 @@ module _ (σ : Setting) (o : Opened) (ws : List Pending) (ds : List Decided) whe
       ap (isMember (idIn m)) (all-ids σ o ws ds) ∙ in-member (idIn m) (idsOf (notesOf ds ++ map noteIn ws)) k in
       rw (lt-ltb (length ts) mostWaiting g, lt-ltb (length (idsOf (notesOf ds)) + length ts) (o .returns) f, a, b, is) refl
 
-  -- "an id not waiting .. is refused 11": in both rounds, and in a drop
+  -- "an id not waiting .. is refused 11": in both rounds, in an entry and in a drop
   pub not-waiting-one : (id : ℕ) → (In id (map pendingId ws) → ⊥) → (joined : List ℕ) (room : ℕ)
       → refusalOf σ o (at (isOpen ws) ds) (roundOne id joined room) ≡ 11
   unfolding refusalOf ledgerState ledgerStage oneRefusal whileOpen whileOne
@@ -76,6 +77,13 @@ module _ (σ : Setting) (o : Opened) (ws : List Pending) (ds : List Decided) whe
       → refusalOf σ o (at (isOpen ws) ds) (roundTwo id joined) ≡ 11
   unfolding refusalOf ledgerState ledgerStage twoRefusal whileOpen whileTwo
   not-waiting-two id h joined = rw (none-told id h) refl
+
+  pub none-enter : (id : ℕ) → find pendingId id ws ≡ none → refusalOf σ o (at (isOpen ws) ds) (enter id) ≡ 11
+  unfolding refusalOf ledgerState ledgerStage enterRefusal whileOpen whileEntry
+  none-enter id h = rw (find-told σ o id ws, h) refl
+
+  not-waiting-enter : (id : ℕ) → (In id (map pendingId ws) → ⊥) → refusalOf σ o (at (isOpen ws) ds) (enter id) ≡ 11
+  not-waiting-enter id h = none-enter id (not-found pendingId id ws h)
 
   pub not-waiting-drop : (id : ℕ) → (In id (map pendingId ws) → ⊥) → refusalOf σ o (at (isOpen ws) ds) (drop id) ≡ 11
   unfolding refusalOf ledgerState ledgerStage dropRefusal whileOpen whileWaiting
@@ -92,7 +100,26 @@ module _ (σ : Setting) (o : Opened) (ws : List Pending) (ds : List Decided) whe
   unfolding refusalOf ledgerState ledgerStage twoRefusal whileOpen whileTwo ledgerWait
   first-wait-two id n h joined = rw (find-told σ o id ws, h) refl
 
-  -- "a close while any waits is refused 11"
+  -- "Entering a return that has no accepted verdict .. is refused 11"
+  pub no-verdict-enter : (id : ℕ) (p : Pending) → find pendingId id ws ≡ some p → isAccepted p ≡ false
+      → refusalOf σ o (at (isOpen ws) ds) (enter id) ≡ 11
+  unfolding refusalOf ledgerState ledgerStage enterRefusal whileOpen whileEntry ledgerWait
+  no-verdict-enter id (waitsOne n) h e = rw (find-told σ o id ws, h) refl
+  no-verdict-enter id (waitsTwo n x y) h e = rw (find-told σ o id ws, h) refl
+  no-verdict-enter id (waitsEntry n x y) h e = absurd (true≢false e)
+
+  -- a return that has one is entered
+  pub accepted-enter : (id : ℕ) (n : Note) (x y : ℕ) → find pendingId id ws ≡ some (waitsEntry n x y)
+      → refusalOf σ o (at (isOpen ws) ds) (enter id) ≡ 0
+  unfolding refusalOf ledgerState ledgerStage enterRefusal whileOpen whileEntry ledgerWait
+  accepted-enter id n x y h = rw (find-told σ o id ws, h) refl
+
+  -- "Dropping is allowed while a return waits", in whatever stage
+  pub waiting-drop : (id : ℕ) (p : Pending) → find pendingId id ws ≡ some p → refusalOf σ o (at (isOpen ws) ds) (drop id) ≡ 0
+  unfolding refusalOf ledgerState ledgerStage dropRefusal whileOpen whileWaiting
+  waiting-drop id p h = rw (find-told σ o id ws, h) refl
+
+  -- "a close while any waits is refused 11", for entry too
   pub close-waiting : 0 < length ws → (room : ℕ) → refusalOf σ o (at (isOpen ws) ds) (close room) ≡ 11
   unfolding refusalOf ledgerState ledgerStage closeRefusal whileOpen orElse
   close-waiting h room =
@@ -108,19 +135,19 @@ module _ (σ : Setting) (o : Opened) (ds : List Decided) where
   kept : (c : Call) → (refusalOf σ o open-at c ≡ 0 → ⊥) → ledgerStep σ o open-at c (refusalOf σ o open-at c) ≡ open-at
   kept c h = ap (λ (b : Bool). cond b (ledgerAfter σ o open-at c) open-at) (ne-eqb (refusalOf σ o open-at c) 0 h)
 
-  -- at least Q are accepted
-  pub reached : o .least ≤ length (notesWith isAccepted ds) → (room : ℕ) → totalsLength σ o ≤ room
+  -- at least Q are entered
+  pub reached : o .least ≤ length (notesWith isEntered ds) → (room : ℕ) → totalsLength σ o ≤ room
       → refusalOf σ o open-at (close room) ≡ 0
   unfolding refusalOf ledgerState ledgerStage closeRefusal whileOpen orElse
-  reached h room l = rw (le-leb (o .least) (length (notesWith isAccepted ds)) h, le-leb (totalsLength σ o) room l) refl
+  reached h room l = rw (le-leb (o .least) (length (notesWith isEntered ds)) h, le-leb (totalsLength σ o) room l) refl
 
   -- "too few accepted is refused 15"
-  pub too-few : length (notesWith isAccepted ds) < o .least → (room : ℕ) → refusalOf σ o open-at (close room) ≡ 15
+  pub too-few : length (notesWith isEntered ds) < o .least → (room : ℕ) → refusalOf σ o open-at (close room) ≡ 15
   unfolding refusalOf ledgerState ledgerStage closeRefusal whileOpen orElse
-  too-few h room = rw (lt-leb (o .least) (length (notesWith isAccepted ds)) h) refl
+  too-few h room = rw (lt-leb (o .least) (length (notesWith isEntered ds)) h) refl
 
   -- with fewer and N decided every call is refused
-  module _ (few : length (notesWith isAccepted ds) < o .least) where
+  module _ (few : length (notesWith isEntered ds) < o .least) where
     pub few-kept : (room : ℕ) → runLedger σ o open-at (close room ∷ []) ≡ open-at
     unfolding runLedger
     few-kept room = kept (close room) (λ e. omega (arith, too-few few room))
@@ -130,6 +157,7 @@ module _ (σ : Setting) (o : Opened) (ds : List Decided) where
       nothing-taken (share m r s room) e = omega (arith, full σ o [] ds (omega arith) (omega arith) m r s room)
       nothing-taken (roundOne id joined room) e = omega (arith, not-waiting-one σ o [] ds id (λ h. h) joined room)
       nothing-taken (roundTwo id joined) e = omega (arith, not-waiting-two σ o [] ds id (λ h. h) joined)
+      nothing-taken (enter id) e = omega (arith, not-waiting-enter σ o [] ds id (λ h. h))
       nothing-taken (drop id) e = omega (arith, not-waiting-drop σ o [] ds id (λ h. h))
       nothing-taken (close room) e = omega (arith, too-few few room)
 

@@ -10,12 +10,13 @@ use Rattle.rules.specs.WholeRun.{WholeRun}
 use Rattle.rules.proofs.Computed.Facts.{document01-facts}
 use Rattle.rules.proofs.Returns.OnSheets.{sheet-few-pairs}
 use Rattle.rules.proofs.Tables.Opens.{tables-tell, tables-answer}
-use Rattle.rules.proofs.Tables.Erased.{unused-zero, records-hold, erased-zero}
+use Rattle.rules.proofs.Tables.Erased.{counted, summed-up, unused-zero, records-hold, erased-zero}
 use Rattle.rules.proofs.Histories.PoolOpened.{is-read}
 use Rattle.rules.proofs.Runs.WholeTotals.{closed-together}
 use Rattle.rules.proofs.Runs.OneChallenge.{unequal}
 use Rattle.rules.proofs.Runs.Verdicts.{verdict, honest}
-use Rattle.rules.proofs.Runs.Handled.{handled, handled-mixed}
+use Rattle.rules.proofs.Runs.VerdictFirst.{verdict-first}
+use Rattle.rules.proofs.Runs.Handled.{handled, handled-mixed, handled-entered}
 use Rattle.rules.proofs.Runs.Mixed.{mixing, bytes-on}
 use Rattle.rules.proofs.Runs.WithinLimits.{within-returns, at-most-eight, once}
 use Rattle.rules.proofs.Runs.Enough.{closed-enough, totals-enough, close-done, refused-15, shut}
@@ -39,11 +40,15 @@ whole-run σ facts 𝓟 = record {
   handled = λ id shares r s room rounds ready i l ones twos p q. handled σ facts 𝓟 id shares r s room rounds ready ones twos p q i l;
   handled-mixed = λ id shares r s room rounds ready i l ones twos p q.
       handled-mixed σ facts 𝓟 id shares r s room rounds ready ones twos p q i l;
+  handled-entered = λ id shares r s room rounds ready lets i l ones twos p q.
+      handled-entered σ facts 𝓟 id shares r s room rounds ready ones twos p q i l lets;
   mixing = λ i l id. mixing σ (openedAt σ 𝓟 i) id (𝓟 .calls i);
   alone = alone σ facts 𝓟;
   within-returns = within-returns σ 𝓟;
   at-most-eight = at-most-eight σ 𝓟;
   once = once σ 𝓟;
+  counted = counted σ facts 𝓟;
+  summed-up = summed-up σ facts 𝓟;
   holds = records-hold σ facts 𝓟;
   unused = unused-zero σ facts 𝓟;
   erased = erased-zero σ facts 𝓟;
@@ -53,6 +58,7 @@ whole-run σ facts 𝓟 = record {
   too-few = refused-15 σ 𝓟;
   stays-shut = shut σ 𝓟;
   unequal = λ u. unequal σ 𝓟 facts u;
+  verdict-first = verdict-first σ 𝓟;
 }
 
 -- at the setting of document 01

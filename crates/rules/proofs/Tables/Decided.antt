@@ -1,5 +1,5 @@
--- A return that is decided: the table after round two or a drop stands beside the ledger after it. The bytes get the counts, the
--- id and, where it is accepted, the totals; its record is set free and its numbers become 0. Assumes nothing.
+-- A return that is decided: the table after a rejected verdict, an entry or a drop stands beside the ledger after it. The bytes get the counts, the
+-- id and, where it is entered, the totals; its record is set free and its numbers become 0. Assumes nothing.
 use mathlib.Core.Path.{_≡_, refl, sym, ap, ap₂, _∙_, subst}
 use mathlib.Core.Bool.{Bool, true, false, cond}
 use mathlib.Core.List.{List, [], _∷_, _++_, map, append-nil}
@@ -25,19 +25,19 @@ use Rattle.rules.specs.Server.{Opened, Waiting, held, waitingOf, publish
 use Rattle.rules.specs.WaitingList.{placeOf, clearedNumbers}
 use Rattle.rules.specs.Table.{Lent, totalsPlace, idsPlace, sheetSize, columnsIn, returnsIn, openedIn, totalsIn}
 use Rattle.rules.specs.Table.{decidedBytes, decidedTable, addedTotals, addedBytes, waitingUnder}
-use Rattle.rules.specs.Ledger.{Note, Pending, waitsOne, waitsTwo, noteIn, pendingId, isOpen, Decision, accepted, Decided}
-use Rattle.rules.specs.Ledger.{isAccepted, notesWith, idsOf, notesOf, ledgerTotals, ledgerWait}
+use Rattle.rules.specs.Ledger.{Note, Pending, waitsOne, waitsTwo, waitsEntry, noteIn, pendingId, isOpen, Decision, entered, Decided}
+use Rattle.rules.specs.Ledger.{isEntered, notesWith, idsOf, notesOf, ledgerTotals, ledgerWait}
 use Rattle.rules.proofs.Histories.MessageBytes.{width-positive}
 use Rattle.rules.proofs.Histories.Opening.{positive}
 use Rattle.rules.proofs.Histories.Keyed.{found-id, found-out}
-use Rattle.rules.proofs.Histories.Moves.{at}
-use Rattle.rules.proofs.Tables.Parts.{Parts, Sized, assemble, placed, decided-are, accepted-are}
+use Rattle.rules.proofs.Histories.Moves.{at, decidedAs}
+use Rattle.rules.proofs.Tables.Parts.{Parts, Sized, assemble, placed, decided-are, entered-are}
 use Rattle.rules.proofs.Tables.State.{totals-are}
 use Rattle.rules.proofs.Tables.Writes.{setCounts, setRuns, put-counts, put-totals, put-ids}
 use Rattle.rules.proofs.Tables.Listed.{Listed, found-fits, freed-listed}
 use Rattle.rules.proofs.Tables.Invariant.{Beside, opened-same}
 use Rattle.rules.proofs.Tables.Taken.{under-is}
-use Rattle.rules.proofs.Tables.LedgerGrows.{decidedAs, notes-grow, ids-grow, count-grows, totals-grow}
+use Rattle.rules.proofs.Tables.LedgerGrows.{notes-grow, ids-grow, count-grows, totals-grow}
 
 -- a number below p fits its bytes
 pub fits-bytes : (σ : Setting) → Facts σ → (x : ℕ) → x < σ .modulus → x < 256 ^ σ .width
@@ -55,13 +55,13 @@ id-noted ids n id h fit =
     ∙ ap (elementsOf 4 (take (4 * n) ids) ++_)
     (elements-one 4 (omega arith) (bytesOf 4 id) four ∙ ap (λ (k : ℕ). k ∷ []) (value-bytes 4 id h))
 
--- ---- the bytes: one return more decided, counted a more times as accepted, and the totals t
+-- ---- the bytes: one return more decided, counted a more times as entered, and the totals t
 module _ (σ : Setting) (cs : List Column) (g : Parts) (z : Sized σ cs g) (id : ℕ) (room : g .decided < g .returns) where
   abbrev noted : List ℕ
   noted = splice (g .ids) (4 * g .decided) (bytesOf 4 id)
 
   abbrev decidedParts : ℕ → List ℕ → Parts
-  decidedParts a t = setCounts (g .decided + 1) (g .accepted + a) (setRuns t noted g)
+  decidedParts a t = setCounts (g .decided + 1) (g .entered + a) (setRuns t noted g)
 
   inside : 4 * g .decided + 4 ≤ length (g .ids)
   inside = omega (arith, z .ids-long)
@@ -87,7 +87,7 @@ module _ (σ : Setting) (cs : List Column) (g : Parts) (z : Sized σ cs g) (id :
 
   module _ (a : ℕ) (t : List ℕ) (same : length t ≡ length (g .totals)) (one : a ≤ 1) where
     abbrev counted : List ℕ → Parts
-    counted ids = setCounts (g .decided + 1) (g .accepted + a) (setRuns t ids g)
+    counted ids = setCounts (g .decided + 1) (g .entered + a) (setRuns t ids g)
 
     counted-sized : (ids : List ℕ) → length ids ≡ length (g .ids) → Sized σ cs (counted ids)
     counted-sized ids l = record {
@@ -97,7 +97,7 @@ module _ (σ : Setting) (cs : List Column) (g : Parts) (z : Sized σ cs g) (id :
       returns-fit = z .returns-fit;
       sheet-fits = z .sheet-fits;
       decided-few = omega arith;
-      accepted-few = omega (arith, z .accepted-few);
+      entered-few = omega (arith, z .entered-few);
       least-few = z .least-few;
     }
 
@@ -113,9 +113,9 @@ module _ (σ : Setting) (cs : List Column) (g : Parts) (z : Sized σ cs g) (id :
         let put : ℕ → ℕ → ℕ → List ℕ =
         λ d c place. splice (splice u 6 (bytesOf 2 (d + 1) ++ bytesOf 2 (c + a))) (place + 4 * d) (bytesOf 4 id) in
         ap (λ (v : List ℕ). decidedBytes σ (record { bytes = v; slots = T .slots; elements = T .elements }) a id u) is
-        ∙ (λ i. put (decided-are σ cs g z i) (accepted-are σ cs g z i) (placed σ cs g z (idsPlace σ) i))
+        ∙ (λ i. put (decided-are σ cs g z i) (entered-are σ cs g z i) (placed σ cs g z (idsPlace σ) i))
         ∙ ap (λ (v : List ℕ). splice v (idsPlace σ (length (g .sheet)) cs (g .returns) + 4 * g .decided) (bytesOf 4 id))
-        (put-counts σ (setRuns t (g .ids) g) (g .decided + 1) (g .accepted + a))
+        (put-counts σ (setRuns t (g .ids) g) (g .decided + 1) (g .entered + a))
         ∙ put-ids σ cs (counted (g .ids)) (counted-sized (g .ids) refl) (4 * g .decided) (bytesOf 4 id) id-inside
 
 module _ (σ : Setting) (facts : Facts σ) (o : Opened) (many : length (publishedFrom 0 (o .columns)) ≡ publishedIn (o .columns))
@@ -134,10 +134,10 @@ module _ (σ : Setting) (facts : Facts σ) (o : Opened) (many : length (publishe
   rest = without pendingId id ws
 
   abbrev old : List Note
-  old = notesWith isAccepted ds
+  old = notesWith isEntered ds
 
   abbrev grown : Decision → List Note
-  grown d = notesWith isAccepted (ds ++ (decidedAs n d ∷ []))
+  grown d = notesWith isEntered (ds ++ (decidedAs n d ∷ []))
 
   opened : openedIn σ (T .bytes) ≡ o
   opened = opened-same σ o T (at (isOpen ws) ds) b
@@ -162,7 +162,7 @@ module _ (σ : Setting) (facts : Facts σ) (o : Opened) (many : length (publishe
       ∙ sym (ids-grow ds n d)
 
   -- decided as d, with the totals t
-  decide-as : (d : Decision) (a : ℕ) (t U : List ℕ) → a ≤ 1 → g .accepted + a ≡ length (grown d) → length t ≡ length (g .totals)
+  decide-as : (d : Decision) (a : ℕ) (t U : List ℕ) → a ≤ 1 → g .entered + a ≡ length (grown d) → length t ≡ length (g .totals)
       → elementsOf W t ≡ ledgerTotals σ o (grown d) → allBelow (σ .modulus) (elementsOf W t) ≡ true
       → U ≡ assemble σ (setRuns t (g .ids) g)
       → Beside σ o (decidedTable σ T id (decidedBytes σ T a id U)) (at (isOpen rest) (ds ++ (decidedAs n d ∷ [])))
@@ -174,7 +174,7 @@ module _ (σ : Setting) (facts : Facts σ) (o : Opened) (many : length (publishe
     opened-as = b .opened-as;
     tells = record {
       decided-is = ap (_+ 1) (b .tells .decided-is) ∙ sym (count-grows ds n d);
-      accepted-is = count;
+      entered-is = count;
       used-are = used d;
       unused-are = unused σ (o .columns) g (b .sized) id left (b .tells .unused-are);
       totals-are = are;
@@ -189,14 +189,14 @@ module _ (σ : Setting) (facts : Facts σ) (o : Opened) (many : length (publishe
   }
 
   -- rejected or dropped: the totals stay
-  pub kept : (d : Decision) → isAccepted d ≡ false
+  pub kept : (d : Decision) → isEntered d ≡ false
       → Beside σ o (decidedTable σ T id (decidedBytes σ T 0 id (T .bytes))) (at (isOpen rest) (ds ++ (decidedAs n d ∷ [])))
   kept d no-more =
-      let same : grown d ≡ old = notes-grow isAccepted ds n d ∙ ap (λ (t : Bool). old ++ cond t (n ∷ []) []) no-more ∙ append-nil old in
-      decide-as d 0 (g .totals) (T .bytes) (omega arith) (add-zero (g .accepted) ∙ b .tells .accepted-is ∙ ap length (sym same)) refl
+      let same : grown d ≡ old = notes-grow isEntered ds n d ∙ ap (λ (t : Bool). old ++ cond t (n ∷ []) []) no-more ∙ append-nil old in
+      decide-as d 0 (g .totals) (T .bytes) (omega arith) (add-zero (g .entered) ∙ b .tells .entered-is ∙ ap length (sym same)) refl
       (b .tells .totals-are ∙ ap (ledgerTotals σ o) (sym same)) (b .tells .totals-below) (b .is)
 
-  -- accepted: the published entries are added
+  -- entered: the published entries are added
   elements-are : waitingUnder σ T id .elements ≡ n .elements
   unfolding ledgerWait waitingOf
   elements-are = ap (λ (w : Waiting). w .elements) (under-is σ o T ws ds b id v q) ∙ held-elements v
@@ -204,6 +204,7 @@ module _ (σ : Setting) (facts : Facts σ) (o : Opened) (many : length (publishe
       held-elements : (p : Pending) → held (ledgerWait σ o p) .elements ≡ noteIn p .elements
       held-elements (waitsOne m) = refl
       held-elements (waitsTwo m x y) = refl
+      held-elements (waitsEntry m x y) = refl
 
   added-are : addedTotals σ T id ≡ ledgerTotals σ o (old ++ (n ∷ []))
   unfolding addedTotals
@@ -228,10 +229,10 @@ module _ (σ : Setting) (facts : Facts σ) (o : Opened) (many : length (publishe
   totals-many ns = length-map (publishedFrom 0 (o .columns)) _ ∙ many
 
   pub admitted : Beside σ o (decidedTable σ T id (decidedBytes σ T 1 id (addedBytes σ T id)))
-      (at (isOpen rest) (ds ++ (decidedAs n accepted ∷ [])))
+      (at (isOpen rest) (ds ++ (decidedAs n entered ∷ [])))
   unfolding addedBytes
   admitted =
-      let more : grown accepted ≡ old ++ (n ∷ []) = notes-grow isAccepted ds n accepted in
+      let more : grown entered ≡ old ++ (n ∷ []) = notes-grow isEntered ds n entered in
       let new = ledgerTotals σ o (old ++ (n ∷ [])) in
       let t = bytesOfAll W new in
       let back : elementsOf W t ≡ new =
@@ -243,7 +244,7 @@ module _ (σ : Setting) (facts : Facts σ) (o : Opened) (many : length (publishe
       ap₂ (λ (u v : List ℕ). splice u (totalsPlace σ (sheetSize σ u) (columnsIn σ u) (returnsIn σ u)) (bytesOfAll W v)) (b .is) added-are
       ∙ ap (λ (k : ℕ). splice (assemble σ g) k t) (placed σ (o .columns) g (b .sized) (totalsPlace σ))
       ∙ put-totals σ (o .columns) g (b .sized) t long in
-      decide-as accepted 1 t _ (omega arith)
-      (ap (_+ 1) (b .tells .accepted-is) ∙ sym (ap length more ∙ length-append old (n ∷ []))) long
+      decide-as entered 1 t _ (omega arith)
+      (ap (_+ 1) (b .tells .entered-is) ∙ sym (ap length more ∙ length-append old (n ∷ []))) long
       (back ∙ ap (ledgerTotals σ o) (sym more))
       (ap (allBelow (σ .modulus)) back ∙ below-of-all (σ .modulus) new (totals-low (old ++ (n ∷ [])))) put

@@ -1,21 +1,22 @@
--- A decided return leaves nothing behind: a table beside a ledger holds zeros in the room for further ids, in each free record
+-- A decided return leaves its id and, where it is entered, its part of the totals, and nothing else: a table beside a ledger has the
+-- count and the totals of the entered returns, and holds zeros in the room for further ids, in each free record
 -- and in the numbers of its place. By the pieces of its bytes, and by what is known of each record. Assumes nothing.
 use mathlib.Core.Path.{_≡_, sym, ap, ap₂, _∙_}
 use mathlib.Core.List.{map}
 use Prim.Native.Nat.{ℕ, _+_, _-_, _*_, _<_}
 use native.Mathlib.Omega.{arith}
-use lib.ListN.{length, take, replicate}
+use lib.ListN.{length, take, replicate, length-map}
 use Rattle.algebra.specs.Lists.{Rearranged}
 use Rattle.words.specs.Bytes.{part}
 use Rattle.rules.specs.Settings.{Setting, Facts}
-use Rattle.rules.specs.Server.{Opened, mostWaiting}
-use Rattle.rules.specs.Table.{Lent, idsPlace, decidedIn, unusedIn}
-use Rattle.rules.specs.Ledger.{Ledger, waiting, ledgerWait}
+use Rattle.rules.specs.Server.{Opened, ServerState, mostWaiting}
+use Rattle.rules.specs.Table.{Lent, idsPlace, decidedIn, enteredIn, totalsIn, unusedIn, tableState}
+use Rattle.rules.specs.Ledger.{Ledger, waiting, isEntered, notesWith, ledgerTotals, ledgerWait}
 use Rattle.rules.specs.Runs.{runTable}
-use Rattle.rules.specs.Pools.{Pool, columns, openedAt, tableAt, ledgerAt}
+use Rattle.rules.specs.Pools.{Pool, columns, openedAt, tableAt, ledgerAt, enteredAt}
 use Rattle.rules.specs.WholeRun.{waitsAfter, Erased}
 use Rattle.rules.proofs.Tables.Parts.{assemble, placed, decided-are, part-ids}
-use Rattle.rules.proofs.Tables.Invariant.{Beside}
+use Rattle.rules.proofs.Tables.Invariant.{Beside, beside-known}
 use Rattle.rules.proofs.Tables.Opens.{zeros-part, table-after}
 
 module _ (σ : Setting) (o : Opened) (T : Lent) (l : Ledger) (b : Beside σ o T l) where
@@ -49,6 +50,17 @@ module _ (σ : Setting) (facts : Facts σ) (𝓟 : Pool σ) (i : ℕ) (h : i < �
 
   pub records-hold : Rearranged (waitsAfter σ 𝓟 i) (map (ledgerWait σ (openedAt σ 𝓟 i)) (waiting (ledgerAt σ 𝓟 i .progress)))
   records-hold = table-after σ facts 𝓟 i h .listed .same
+
+  -- the count and the totals are those of the entered returns
+  pub counted : enteredIn σ (T .bytes) ≡ length (enteredAt σ 𝓟 i)
+  unfolding tableState
+  counted =
+      ap (λ (k : ServerState). k .entered) (beside-known σ (openedAt σ 𝓟 i) T _ (table-after σ facts 𝓟 i h))
+      ∙ sym (length-map (notesWith isEntered (ledgerAt σ 𝓟 i .decided)) (λ n. n .id))
+
+  pub summed-up : totalsIn σ (T .bytes) ≡ ledgerTotals σ (openedAt σ 𝓟 i) (notesWith isEntered (ledgerAt σ 𝓟 i .decided))
+  unfolding tableState
+  summed-up = ap (λ (k : ServerState). k .totals) (beside-known σ (openedAt σ 𝓟 i) T _ (table-after σ facts 𝓟 i h))
 
   pub erased-zero : (j : ℕ) → j < mostWaiting → Erased (columns σ 𝓟) T j
   erased-zero j k = beside-erased σ (openedAt σ 𝓟 i) T _ (table-after σ facts 𝓟 i h) j k

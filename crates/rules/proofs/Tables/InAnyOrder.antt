@@ -22,12 +22,12 @@ use Rattle.rules.specs.Columns.{check}
 use Rattle.rules.specs.Messages.{elementIn, roundLength, placeIn, serverAt, roundSound, roundFault, challengeFault}
 use Rattle.rules.specs.Messages.{elementSum, bothZero}
 use Rattle.rules.specs.Keyed.{find}
-use Rattle.rules.specs.Server.{Waiting, Wait, awaitsOne, awaitsTwo, heldId, Stage, takes, closed, Opened, ServerState}
+use Rattle.rules.specs.Server.{Waiting, Wait, awaitsOne, awaitsTwo, awaitsEntry, heldId, Stage, takes, closed, Opened, ServerState}
 use Rattle.rules.specs.Server.{summed, withSums, messageOne, messageTwo, whileOpen, whileOne, whileTwo, oneRefusal, twoRefusal}
-use Rattle.rules.specs.Ledger.{Call, share, roundOne, roundTwo, drop, close, refused, wrote, judged}
+use Rattle.rules.specs.Ledger.{Call, share, roundOne, roundTwo, enter, drop, close, refused, wrote, judged}
 use Rattle.rules.specs.WaitingList.{placeOf, slotOf, stageTwo}
 use Rattle.rules.specs.Table.{Lent, tableFault, tableState, waitingUnder, oneRefused, oneTable, oneBytes}
-use Rattle.rules.specs.Table.{decidedBytes, decidedTable, addedBytes, twoRefused, twoVerdict, twoTable}
+use Rattle.rules.specs.Table.{decidedBytes, decidedTable, twoRefused, twoVerdict, acceptedTable, twoTable}
 use Rattle.rules.specs.Runs.{tableRefusal, tableAfter, tableAnswer, tableSays, tableStep}
 use Rattle.rules.specs.AnyOrder.{faultInOrder, oneInOrder, twoInOrder, refusalInOrder, SameCall, AnyOrder}
 use Rattle.rules.proofs.Histories.MessageBytes.{Sized, flatten-cut}
@@ -49,12 +49,14 @@ unfolding whileOne
 one-zero none f e = absurd (omega arith)
 one-zero (some (awaitsOne w)) f e = (w, e)
 one-zero (some (awaitsTwo w)) f e = absurd (omega arith)
+one-zero (some (awaitsEntry w)) f e = absurd (omega arith)
 
 two-zero : (v : Option Wait) (f : Waiting → ℕ) → whileTwo v f ≡ 0 → (w : Waiting) × (f w ≡ 0)
 unfolding whileTwo
 two-zero none f e = absurd (omega arith)
 two-zero (some (awaitsOne w)) f e = absurd (omega arith)
 two-zero (some (awaitsTwo w)) f e = (w, e)
+two-zero (some (awaitsEntry w)) f e = absurd (omega arith)
 
 -- ---- a smaller set of checks that are passed
 open-passes : (st : Stage) (f g : List Wait → ℕ) → ((ws : List Wait) → f ws ≡ 0 → g ws ≡ 0) → whileOpen st f ≡ 0 → whileOpen st g ≡ 0
@@ -67,12 +69,14 @@ unfolding whileOne
 one-passes none f g h e = e
 one-passes (some (awaitsOne w)) f g h e = h w e
 one-passes (some (awaitsTwo w)) f g h e = e
+one-passes (some (awaitsEntry w)) f g h e = e
 
 two-passes : (v : Option Wait) (f g : Waiting → ℕ) → ((w : Waiting) → f w ≡ 0 → g w ≡ 0) → whileTwo v f ≡ 0 → whileTwo v g ≡ 0
 unfolding whileTwo
 two-passes none f g h e = e
 two-passes (some (awaitsOne w)) f g h e = e
 two-passes (some (awaitsTwo w)) f g h e = h w e
+two-passes (some (awaitsEntry w)) f g h e = e
 
 or-passes : (a b c d : ℕ) → (a ≡ 0 → c ≡ 0) → (b ≡ 0 → d ≡ 0) → orElse a b ≡ 0 → orElse c d ≡ 0
 unfolding orElse
@@ -126,6 +130,7 @@ module _ (σ : Setting) where
       let k = tableState σ T in
       or-passes _ _ _ _ (λ q. q) (open-passes (k .stage) _ _ (λ ws. two-passes (find heldId id ws) _ _ (λ w.
       before (k .opened .servers) 35 (w .id) (k .opened .own) (messageTwo σ (k .opened) w) joined))) e
+  still-taken T (enter id) e = e
   still-taken T (drop id) e = e
   still-taken T (close room) e = e
 
@@ -235,8 +240,7 @@ module _ (σ : Setting) where
       two id =
           same-call T (roundTwo id (flatten ms)) (roundTwo id (flatten ns)) (same-two id)
           (λ e. ap judged (same-verdict (many-two id e)))
-          (λ e. ap (λ (b : Bool). decidedTable σ T id
-          (cond b (decidedBytes σ T 1 id (addedBytes σ T id)) (decidedBytes σ T 0 id (T .bytes))))
+          (λ e. ap (λ (b : Bool). cond b (acceptedTable σ T id) (decidedTable σ T id (decidedBytes σ T 0 id (T .bytes))))
           (same-verdict (many-two id e)))
 
 pub any-order : (σ : Setting) → AnyOrder σ

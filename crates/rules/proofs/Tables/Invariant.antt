@@ -14,7 +14,7 @@ use Rattle.rules.specs.Columns.{within, leastFits, readSheet, totalsFit}
 use Rattle.rules.specs.Server.{Opened, Stage, ServerState}
 use Rattle.rules.specs.WaitingList.{waitingCount, waitsIn}
 use Rattle.rules.specs.Table.{Lent, stageOpen, stageClosed, openedIn, tableState, tableFault}
-use Rattle.rules.specs.Ledger.{Progress, isOpen, isClosed, waiting, Decided, Ledger, isAccepted, notesWith, idsOf, notesOf}
+use Rattle.rules.specs.Ledger.{Progress, isOpen, isClosed, waiting, Decided, Ledger, isEntered, notesWith, idsOf, notesOf}
 use Rattle.rules.specs.Ledger.{ledgerTotals}
 use Rattle.rules.proofs.Tables.Parts.{Parts, Sized, assemble}
 use Rattle.rules.proofs.Tables.State.{stageAt, knownAt, opened-is, known-is}
@@ -44,12 +44,12 @@ module _ (σ : Setting) (o : Opened) where
     pub least-is : least ≡ o .least
 
   -- the counts, ids and totals are those of the decided returns
-  pub record Tells (ds : List Decided) (decided accepted : ℕ) (totals ids : List ℕ) : Type 0 where
+  pub record Tells (ds : List Decided) (decided entered : ℕ) (totals ids : List ℕ) : Type 0 where
     pub decided-is : decided ≡ length ds
-    pub accepted-is : accepted ≡ length (notesWith isAccepted ds)
+    pub entered-is : entered ≡ length (notesWith isEntered ds)
     pub used-are : elementsOf 4 (take (4 * decided) ids) ≡ idsOf (notesOf ds)
     pub unused-are : drop (4 * decided) ids ≡ drop (4 * decided) (replicate (length ids) 0)
-    pub totals-are : elementsOf (σ .width) totals ≡ ledgerTotals σ o (notesWith isAccepted ds)
+    pub totals-are : elementsOf (σ .width) totals ≡ ledgerTotals σ o (notesWith isEntered ds)
     pub totals-below : allBelow (σ .modulus) (elementsOf (σ .width) totals) ≡ true
 
   pub record Beside (T : Lent) (l : Ledger) : Type 0 where
@@ -57,7 +57,7 @@ module _ (σ : Setting) (o : Opened) where
     pub is : T .bytes ≡ assemble σ parts
     pub sized : Sized σ (o .columns) parts
     pub opened-as : OpenedAs (parts .servers) (parts .own) (parts .returns) (parts .least)
-    pub tells : Tells (l .decided) (parts .decided) (parts .accepted) (parts .totals) (parts .ids)
+    pub tells : Tells (l .decided) (parts .decided) (parts .entered) (parts .totals) (parts .ids)
     pub staged : parts .stage ≡ stageOf (l .progress)
     pub listed : Listed σ o (waiting (l .progress)) (T .slots) (T .elements)
     pub room : length (l .decided) + length (waiting (l .progress)) ≤ o .returns
@@ -68,8 +68,8 @@ module _ (σ : Setting) (o : Opened) where
     opened = o;
     stage = t;
     used = idsOf (notesOf (l .decided));
-    accepted = length (notesWith isAccepted (l .decided));
-    totals = ledgerTotals σ o (notesWith isAccepted (l .decided));
+    entered = length (notesWith isEntered (l .decided));
+    totals = ledgerTotals σ o (notesWith isEntered (l .decided));
   }
 
   module _ (T : Lent) (l : Ledger) (b : Beside T l) where
@@ -105,7 +105,7 @@ module _ (σ : Setting) (o : Opened) where
               };
           stage = stageAt (b .staged i) (waitsIn (o .columns) (T .slots) (T .elements));
           used = b .tells .used-are i;
-          accepted = b .tells .accepted-is i;
+          entered = b .tells .entered-is i;
           totals = b .tells .totals-are i;
         }
 

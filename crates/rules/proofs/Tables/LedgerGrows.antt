@@ -1,4 +1,4 @@
--- A ledger with one return more decided: its accepted notes, its ids and its totals grow at their end. Assumes nothing.
+-- A ledger with one return more decided: its entered notes, its ids and its totals grow at their end. Assumes nothing.
 use mathlib.Core.Path.{_≡_, refl, sym, ap, _∙_}
 use mathlib.Core.Bool.{Bool, true, false, cond}
 use mathlib.Core.List.{List, [], _∷_, _++_, map, map-append}
@@ -12,9 +12,7 @@ use Rattle.rules.specs.Settings.{Setting}
 use Rattle.rules.specs.Columns.{publishedFrom}
 use Rattle.rules.specs.Server.{Opened, publishedShares}
 use Rattle.rules.specs.Ledger.{Note, Decision, Decided, notesWith, idsOf, notesOf, ledgerTotals}
-
-abbrev pub decidedAs : Note → Decision → Decided
-decidedAs n d = record { note = n; decision = d }
+use Rattle.rules.proofs.Histories.Moves.{decidedAs}
 
 pub notes-grow : (t : Decision → Bool) (ds : List Decided) (n : Note) (d : Decision)
     → notesWith t (ds ++ (decidedAs n d ∷ [])) ≡ notesWith t ds ++ cond (t d) (n ∷ []) []

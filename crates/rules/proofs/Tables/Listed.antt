@@ -1,6 +1,6 @@
 -- The records beside the returns that wait in the ledger: they say the same returns, in another order. A share fills the first
--- free record, round one changes the record of the id that it names, a decision sets it free; the ledger's list changes alike,
--- since its ids differ. Assumes nothing.
+-- free record, a decision sets that of the id that it names free; the ledger's list changes alike, since its ids differ. Assumes
+-- nothing.
 use mathlib.Core.Path.{_≡_, refl, sym, ap, ap₂, _∙_, subst}
 use mathlib.Core.Logic.{inl, inr, _≢_}
 use mathlib.Core.Bool.{true, false, false≢true}
@@ -18,22 +18,21 @@ use Rattle.slots.specs.declared.Slot.{Slot}
 use Rattle.slots.specs.Slots.{freeSlot}
 use Rattle.rules.specs.Settings.{Setting, Facts}
 use Rattle.rules.specs.Judging.{shareSize, allowedPair}
-use Rattle.rules.specs.Keyed.{find, without, changed}
-use Rattle.rules.specs.Server.{Opened, Waiting, Wait, awaitsOne, awaitsTwo, held, heldId, mostWaiting, waitingOf, withSums}
-use Rattle.rules.specs.WaitingList.{stageOne, stageTwo, isFree, freePlace, placeOf, waitingCount, placeSize, runSize, numbersAt}
-use Rattle.rules.specs.WaitingList.{waitingAt, waitAt, recordsFrom, present, waitsIn, recordSound, waitingSound, slotOf}
+use Rattle.rules.specs.Keyed.{find, without}
+use Rattle.rules.specs.Server.{Opened, Waiting, Wait, awaitsOne, held, heldId, mostWaiting, waitingOf}
+use Rattle.rules.specs.WaitingList.{stageOne, isFree, freePlace, placeOf, waitingCount, placeSize, runSize, numbersAt}
+use Rattle.rules.specs.WaitingList.{waitingAt, recordsFrom, present, waitsIn, recordSound, waitingSound, slotOf}
 use Rattle.rules.specs.WaitingList.{numbersOf, putNumbers, clearedNumbers}
-use Rattle.rules.specs.Ledger.{Note, Pending, waitsOne, waitsTwo, pendingId, noted, ledgerWait, sumsNoted}
-use Rattle.rules.proofs.Histories.Keyed.{through, found-out, changed-keeps, without-map, changed-map}
+use Rattle.rules.specs.Ledger.{Note, Pending, waitsOne, pendingId, noted, ledgerWait}
+use Rattle.rules.proofs.Histories.Keyed.{through, found-out, without-map}
 use Rattle.rules.proofs.Histories.Shuffled.{rearranged-in, rearranged-map}
 use Rattle.rules.proofs.Histories.Moves.{id-told, find-told, many-told}
-use Rattle.rules.proofs.Histories.NotesGrow.{keeps-note}
 use Rattle.rules.proofs.Histories.OwnMessages.{d-below, e-below, rh-below, tau-below}
-use Rattle.rules.proofs.Waiting.Records.{count-waits, free-place, found-place, each-sound, waits-soundly, WaitsSoundly}
-use Rattle.rules.proofs.Waiting.Rearranged.{Apart, apart-on, find-rearranged, without-rearranged, changed-rearranged}
-use Rattle.rules.proofs.Waiting.Written.{AtEach, set-each, put-each, records-set, records-put, filled, found-at}
+use Rattle.rules.proofs.Waiting.Records.{count-waits, free-place, found-place, each-sound}
+use Rattle.rules.proofs.Waiting.Rearranged.{Apart, apart-on, find-rearranged, without-rearranged}
+use Rattle.rules.proofs.Waiting.Written.{AtEach, put-each, records-put, filled, found-at}
 use Rattle.rules.proofs.Waiting.Written.{place-fits, length-put}
-use Rattle.rules.proofs.Waiting.Said.{length-numbers, share-says, sums-say, free-says, said, free-sound, taken-sound, numbers-low}
+use Rattle.rules.proofs.Waiting.Said.{length-numbers, share-says, free-says, said, free-sound, taken-sound, numbers-low}
 
 -- what a share that was taken is known to be
 pub record NoteFits (σ : Setting) (o : Opened) (n : Note) : Type 0 where
@@ -103,10 +102,10 @@ module _ (σ : Setting) (o : Opened) (ws : List Pending) (xs : List Slot) (es : 
     abbrev numbers : List ℕ
     numbers = numbersAt (o .columns) es j
 
-    is-found : find heldId id waits ≡ some (ledgerWait σ o v)
+    pub is-found : find heldId id waits ≡ some (ledgerWait σ o v)
     is-found = find-same id ∙ ap (through (ledgerWait σ o)) q
 
-    inside : j < length xs
+    pub inside : j < length xs
     inside = found-place (o .columns) id xs es (ledgerWait σ o v) is-found .0
 
     pub is-said : (isFree here ≡ false) × (waitingAt (o .columns) here numbers ≡ held (ledgerWait σ o v))
@@ -201,7 +200,7 @@ module _ (σ : Setting) (facts : Facts σ) (o : Opened) (ws : List Pending) (xs 
   unfolding waitingOf
   taken-fine = record {
     sound = taken-sound σ (o .columns) w ns (f .pair) (d-below σ facts o n) (e-below σ facts o n)
-        (numbers-low σ (o .columns) w (f .below) (rh-below σ facts o n) (tau-below σ facts o n)) .0;
+        (numbers-low σ (o .columns) w (f .below) (rh-below σ facts o n) (tau-below σ facts o n)) stageOne (omega arith) (omega arith);
     erased = λ e. absurd (false≢true e);
   }
 
@@ -218,73 +217,3 @@ module _ (σ : Setting) (facts : Facts σ) (o : Opened) (ws : List Pending) (xs 
     apart = distinct∷ new (l .apart);
     ids-fit = all∷ (f .id-fits) (l .ids-fit);
   }
-
--- ---- round one: the record of the id gets the sums
-unfoldable summedWait : ℕ → ℕ → Wait → Wait
-summedWait d e (awaitsOne w) = awaitsTwo (withSums w d e)
-summedWait d e (awaitsTwo w) = awaitsTwo w
-
-module _ (σ : Setting) (o : Opened) (d e : ℕ) where
-  summed-told : (p : Pending) → summedWait d e (ledgerWait σ o p) ≡ ledgerWait σ o (sumsNoted σ o d e p)
-  unfolding summedWait ledgerWait sumsNoted
-  summed-told (waitsOne n) = refl
-  summed-told (waitsTwo n x y) = refl
-
-  module _ (ws : List Pending) (xs : List Slot) (es : List ℕ) (l : Listed σ o ws xs es) (id : ℕ) (n : Note)
-      (q : find pendingId id ws ≡ some (waitsOne n)) (d-low : d < σ .modulus) (e-low : e < σ .modulus) where
-    abbrev at : ℕ
-    at = placeOf id xs
-
-    abbrev before : Waiting
-    before = waitingAt (o .columns) (getD xs at freeSlot) (numbersAt (o .columns) es at)
-
-    abbrev after : Slot
-    after = slotOf stageTwo (withSums before d e)
-
-    is-there : at < length xs
-    is-there = inside σ o ws xs es l id (waitsOne n) q
-
-    summed-same : Rearranged (waitsIn (o .columns) (set xs at after) es)
-        (map (ledgerWait σ o) (changed pendingId id (sumsNoted σ o d e) ws))
-    unfolding ledgerWait summedWait
-    summed-same =
-        let os : List (Option Wait) = recordsFrom (o .columns) es 0 xs in
-        let was : before ≡ noted σ o n = is-said σ o ws xs es l id (waitsOne n) q .1 in
-        let is : waitsIn (o .columns) (set xs at after) es ≡ changed heldId id (summedWait d e) (waitsIn (o .columns) xs es) =
-        ap present (records-set (o .columns) es 0 xs at after is-there)
-        ∙ ap (λ (i : ℕ). present (set os at (waitAt (o .columns) after (numbersAt (o .columns) es i)))) (zero-add at)
-        ∙ ap (λ (u : Option Wait). present (set os at u))
-        (sums-say (o .columns) (getD xs at freeSlot) (numbersAt (o .columns) es at) d e)
-        ∙ ap (λ (u : Waiting). present (set os at (some (awaitsTwo (withSums u d e))))) was
-        ∙ found-at (o .columns) id es (awaitsOne (noted σ o n)) 0 xs (is-found σ o ws xs es l id (waitsOne n) q) .changes
-        (summedWait d e) in
-        subst (λ (s : List Wait). Rearranged s (map (ledgerWait σ o) (changed pendingId id (sumsNoted σ o d e) ws))) (sym is)
-        (subst (λ (s : List Wait). Rearranged (changed heldId id (summedWait d e) (waitsIn (o .columns) xs es)) s)
-        (changed-map pendingId heldId (ledgerWait σ o) (id-told σ o) id (sumsNoted σ o d e) (summedWait d e) summed-told ws)
-        (changed-rearranged heldId id (summedWait d e) (l .same) (waits-apart σ o ws xs es l)))
-
-    summed-fine : Fine σ o after (numbersAt (o .columns) es at)
-    unfolding waitingAt
-    summed-fine =
-        let x : Slot = getD xs at freeSlot in
-        let old : WaitsSoundly σ (o .columns) x (numbersAt (o .columns) es at) =
-        waits-soundly σ (o .columns) x (numbersAt (o .columns) es at) (l .fine at is-there .sound)
-        (is-said σ o ws xs es l id (waitsOne n) q .0) in
-        record {
-          sound = taken-sound σ (o .columns) (withSums before d e) (numbersAt (o .columns) es at) (old .pair) d-low e-low
-              (old .numbers-below) .1;
-          erased = λ e. absurd (false≢true e);
-        }
-
-    pub summed-listed : Listed σ o (changed pendingId id (sumsNoted σ o d e) ws) (set xs at after) es
-    summed-listed =
-        let ids : map pendingId (changed pendingId id (sumsNoted σ o d e) ws) ≡ map pendingId ws =
-        changed-keeps pendingId id pendingId (sumsNoted σ o d e) (λ p. ap (λ (m : Note). m .id) (keeps-note σ o d e p)) ws in
-        record {
-          eight = length-set xs at after ∙ l .eight;
-          enough = l .enough;
-          fine = set-each (o .columns) (Fine σ o) xs es (l .fine) at is-there after summed-fine;
-          same = summed-same;
-          apart = subst Distinct (sym ids) (l .apart);
-          ids-fit = subst (All (λ (x : ℕ). x < 256 ^ 4)) (sym ids) (l .ids-fit);
-        }

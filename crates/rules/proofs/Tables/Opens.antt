@@ -139,7 +139,7 @@ module _ (σ : Setting) (facts : Facts σ) (servers own : ℕ) (sheet : List ℕ
     own = own;
     returns = returns;
     decided = 0;
-    accepted = 0;
+    entered = 0;
     least = least;
     sheet = sheet;
     totals = replicate (σ .width * publishedIn cs) 0;
@@ -189,13 +189,13 @@ module _ (σ : Setting) (facts : Facts σ) (servers own : ℕ) (sheet : List ℕ
           returns-fit = omega (arith, few .1);
           sheet-fits = omega (arith, limited .bytes-most, limited .entries-most);
           decided-few = omega arith;
-          accepted-few = omega arith;
+          entered-few = omega arith;
           least-few = within-both 1 returns least (known-open .least-fits) .1;
         };
         opened-as = record { servers-are = refl; own-is = refl; returns-are = refl; least-is = refl };
         tells = record {
           decided-is = refl;
-          accepted-is = refl;
+          entered-is = refl;
           used-are = refl;
           unused-are = ap (λ (k : ℕ). replicate k 0) (sym (length-replicate (4 * returns) 0));
           totals-are = totals-none;

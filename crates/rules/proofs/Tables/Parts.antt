@@ -13,7 +13,7 @@ use Rattle.records.specs.Outcome.{ok}
 use Rattle.rules.specs.Settings.{Setting}
 use Rattle.rules.specs.Columns.{Column, readSheet, columnsOf, listIn, publishedIn}
 use Rattle.rules.specs.Table.{headerLength, totalsPlace, idsPlace}
-use Rattle.rules.specs.Table.{returnsIn, decidedIn, acceptedIn, leastIn, sheetSize, sheetIn, columnsIn}
+use Rattle.rules.specs.Table.{returnsIn, decidedIn, enteredIn, leastIn, sheetSize, sheetIn, columnsIn}
 
 pub record Parts : Type 0 where
   pub stage : ℕ
@@ -21,7 +21,7 @@ pub record Parts : Type 0 where
   pub own : ℕ
   pub returns : ℕ
   pub decided : ℕ
-  pub accepted : ℕ
+  pub entered : ℕ
   pub least : ℕ
   pub sheet : List ℕ
   pub totals : List ℕ
@@ -36,7 +36,7 @@ header σ g =
     ∷ g .servers
     ∷ g .own
     ∷ (bytesOf 2 (g .returns)
-    ++ (bytesOf 2 (g .decided) ++ (bytesOf 2 (g .accepted) ++ (bytesOf 2 (g .least) ++ bytesOf 2 (length (g .sheet))))))
+    ++ (bytesOf 2 (g .decided) ++ (bytesOf 2 (g .entered) ++ (bytesOf 2 (g .least) ++ bytesOf 2 (length (g .sheet))))))
 
 abbrev pub body : Parts → List ℕ
 body g = g .sheet ++ (g .totals ++ (g .ids ++ g .rest))
@@ -45,7 +45,7 @@ unfoldable pub assemble : Setting → Parts → List ℕ
 assemble σ g = header σ g ++ body g
 
 -- the parts have the lengths of the layout, and the counts fit their bytes
-pub record SizedAs (σ : Setting) (cs : List Column) (sheet : List ℕ) (returns decided accepted least : ℕ)
+pub record SizedAs (σ : Setting) (cs : List Column) (sheet : List ℕ) (returns decided entered least : ℕ)
     (totals ids : List ℕ) : Type 0 where
   pub reads : readSheet sheet ≡ ok cs
   pub totals-long : length totals ≡ σ .width * publishedIn cs
@@ -53,11 +53,11 @@ pub record SizedAs (σ : Setting) (cs : List Column) (sheet : List ℕ) (returns
   pub returns-fit : returns < 65536
   pub sheet-fits : length sheet < 65536
   pub decided-few : decided ≤ returns
-  pub accepted-few : accepted ≤ decided
+  pub entered-few : entered ≤ decided
   pub least-few : least ≤ returns
 
 abbrev pub Sized : Setting → List Column → Parts → Type 0
-Sized σ cs g = SizedAs σ cs (g .sheet) (g .returns) (g .decided) (g .accepted) (g .least) (g .totals) (g .ids)
+Sized σ cs g = SizedAs σ cs (g .sheet) (g .returns) (g .decided) (g .entered) (g .least) (g .totals) (g .ids)
 
 -- a part within a list, by its place
 pub part-within : (a x b : List ℕ) (i n : ℕ) → i + n ≤ length x → part (length a + i) n (a ++ (x ++ b)) ≡ part i n x
@@ -85,9 +85,9 @@ module _ (σ : Setting) (cs : List Column) (g : Parts) (z : Sized σ cs g) where
   unfolding assemble bytesOf
   decided-are = value-bytes 2 (g .decided) (omega (arith, z .decided-few, z .returns-fit))
 
-  pub accepted-are : acceptedIn σ T ≡ g .accepted
+  pub entered-are : enteredIn σ T ≡ g .entered
   unfolding assemble bytesOf
-  accepted-are = value-bytes 2 (g .accepted) (omega (arith, z .decided-few, z .returns-fit, z .accepted-few))
+  entered-are = value-bytes 2 (g .entered) (omega (arith, z .decided-few, z .returns-fit, z .entered-few))
 
   pub least-is : leastIn σ T ≡ g .least
   unfolding assemble bytesOf

@@ -11,10 +11,10 @@ use Rattle.records.proofs.Outcome.{or-none}
 use Rattle.rules.specs.Settings.{Setting}
 use Rattle.rules.specs.Messages.{idIn}
 use Rattle.rules.specs.Server.{Opened, Wait, heldId, takes, ServerState, isMember, whileOpen}
-use Rattle.rules.specs.Server.{shareRefusal, oneRefusal, twoRefusal, dropRefusal, closeRefusal}
+use Rattle.rules.specs.Server.{shareRefusal, oneRefusal, twoRefusal, enterRefusal, dropRefusal, closeRefusal}
 use Rattle.rules.specs.WaitingList.{waitsIn}
-use Rattle.rules.specs.Table.{Lent, tableState, tableFault, shareRefused, oneRefused, twoRefused, dropRefused, closeRefused}
-use Rattle.rules.specs.Ledger.{Call, share, roundOne, roundTwo, drop, close, Progress, isOpen, isClosed, waiting, Ledger}
+use Rattle.rules.specs.Table.{Lent, tableState, tableFault, shareRefused, oneRefused, twoRefused, enterRefused, dropRefused, closeRefused}
+use Rattle.rules.specs.Ledger.{Call, share, roundOne, roundTwo, enter, drop, close, Progress, isOpen, isClosed, waiting, Ledger}
 use Rattle.rules.specs.Ledger.{ledgerWait, ledgerStage, ledgerState, refusalOf}
 use Rattle.rules.specs.Runs.{tableRefusal}
 use Rattle.rules.proofs.Histories.Shuffled.{rearranged-map, rearranged-before}
@@ -28,15 +28,17 @@ unfoldable stateRefusal : Setting → ServerState → Call → ℕ
 stateRefusal σ k (share m r s room) = shareRefusal σ k m r s room
 stateRefusal σ k (roundOne id joined room) = oneRefusal σ k id joined room
 stateRefusal σ k (roundTwo id joined) = twoRefusal σ k id joined
+stateRefusal σ k (enter id) = enterRefusal k id
 stateRefusal σ k (drop id) = dropRefusal k id
 stateRefusal σ k (close room) = closeRefusal σ k room
 
 module _ (σ : Setting) where
   by-table : (T : Lent) (c : Call) → tableRefusal σ T c ≡ orElse (tableFault σ T) (stateRefusal σ (tableState σ T) c)
-  unfolding tableRefusal stateRefusal shareRefused oneRefused twoRefused dropRefused closeRefused
+  unfolding tableRefusal stateRefusal shareRefused oneRefused twoRefused enterRefused dropRefused closeRefused
   by-table T (share m r s room) = refl
   by-table T (roundOne id joined room) = refl
   by-table T (roundTwo id joined) = refl
+  by-table T (enter id) = refl
   by-table T (drop id) = refl
   by-table T (close room) = refl
 
@@ -45,13 +47,14 @@ module _ (σ : Setting) where
   by-ledger o l (share m r s room) = refl
   by-ledger o l (roundOne id joined room) = refl
   by-ledger o l (roundTwo id joined) = refl
+  by-ledger o l (enter id) = refl
   by-ledger o l (drop id) = refl
   by-ledger o l (close room) = refl
 
   -- the returns that wait in another order
   module _ (o : Opened) (l : Ledger) (vs ws : List Wait) (p : Rearranged vs ws) (d : Apart heldId vs) where
     in-any-order : (c : Call) → stateRefusal σ (toldWith σ o l (takes vs)) c ≡ stateRefusal σ (toldWith σ o l (takes ws)) c
-    unfolding stateRefusal shareRefusal oneRefusal twoRefusal dropRefusal closeRefusal whileOpen
+    unfolding stateRefusal shareRefusal oneRefusal twoRefusal enterRefusal dropRefusal closeRefusal whileOpen
     in-any-order (share m r s room) =
         let used : List ℕ = toldWith σ o l (takes vs) .used in
         let many : length vs ≡ length ws = rearranged-length p in
@@ -60,6 +63,7 @@ module _ (σ : Setting) where
         rw (many, ids) refl
     in-any-order (roundOne id joined room) = rw (find-rearranged heldId id p d) refl
     in-any-order (roundTwo id joined) = rw (find-rearranged heldId id p d) refl
+    in-any-order (enter id) = rw (find-rearranged heldId id p d) refl
     in-any-order (drop id) = rw (find-rearranged heldId id p d) refl
     in-any-order (close room) = rw (rearranged-length p) refl
 

@@ -17,25 +17,25 @@ use Rattle.rules.specs.Columns.{check, publishedIn, publishedFrom}
 use Rattle.rules.specs.Messages.{bothZero, roundLength, roundFault, challengeFault}
 use Rattle.rules.specs.Keyed.{find, without}
 use Rattle.rules.specs.Server.{Opened, Waiting, Wait, ServerState, messageOne, messageTwo, totalsMessage}
-use Rattle.rules.specs.Server.{whileOpen, whileOne, whileTwo, whileWaiting}
-use Rattle.rules.specs.Server.{shareRefusal, oneRefusal, twoRefusal, dropRefusal, closeRefusal}
-use Rattle.rules.specs.Table.{Lent, stageClosed, openedIn, tableState, decidedTable, decidedBytes, addedBytes}
-use Rattle.rules.specs.Table.{twoVerdict, twoTable, dropTable, closeTable, closeBytes}
-use Rattle.rules.specs.Ledger.{Call, share, roundOne, roundTwo, drop, close, Answer, refused, wrote, judged}
-use Rattle.rules.specs.Ledger.{Pending, waitsOne, waitsTwo, noteIn, pendingId, Progress, isOpen, isClosed}
-use Rattle.rules.specs.Ledger.{Decision, accepted, rejected, dropped, Decided, Ledger, ledgerWait, ledgerStage, ledgerState}
-use Rattle.rules.specs.Ledger.{closingMessage, refusalOf, decideAs, ledgerAfter, secondMessage, answerOf, runLedger, ledgerAnswers}
+use Rattle.rules.specs.Server.{whileOpen, whileOne, whileTwo, whileEntry, whileWaiting}
+use Rattle.rules.specs.Server.{shareRefusal, oneRefusal, twoRefusal, enterRefusal, dropRefusal, closeRefusal}
+use Rattle.rules.specs.Table.{Lent, stageClosed, openedIn, tableState, decidedTable, decidedBytes}
+use Rattle.rules.specs.Table.{twoVerdict, acceptedTable, twoTable, enterTable, dropTable, closeTable, closeBytes}
+use Rattle.rules.specs.Ledger.{Call, share, roundOne, roundTwo, enter, drop, close, Answer, refused, wrote, judged, Note}
+use Rattle.rules.specs.Ledger.{Pending, waitsOne, waitsTwo, waitsEntry, noteIn, pendingId, Progress, isOpen, isClosed}
+use Rattle.rules.specs.Ledger.{Decision, entered, rejected, dropped, Decided, Ledger, ledgerWait, ledgerStage, ledgerState}
+use Rattle.rules.specs.Ledger.{closingMessage, refusalOf, decideAs, changeWaiting, acceptNoted, ledgerAfter, secondMessage}
+use Rattle.rules.specs.Ledger.{answerOf, runLedger, ledgerAnswers}
 use Rattle.rules.specs.Runs.{tableAfter, tableAnswer, runTable, tableAnswers}
 use Rattle.rules.specs.Pools.{BytesIn}
 use Rattle.rules.proofs.Histories.Keyed.{through}
-use Rattle.rules.proofs.Histories.Moves.{at, find-told, none-waits}
+use Rattle.rules.proofs.Histories.Moves.{at, decidedAs, find-told, none-waits}
 use Rattle.rules.proofs.Tables.Writes.{setStage, put-stage}
 use Rattle.rules.proofs.Tables.Listed.{Listed}
 use Rattle.rules.proofs.Tables.Invariant.{Opens, Beside, opened-same, beside-known}
 use Rattle.rules.proofs.Tables.Refusals.{refusal-same}
 use Rattle.rules.proofs.Tables.Passed.{share-passed}
-use Rattle.rules.proofs.Tables.Taken.{share-writes, share-taken, one-writes, one-taken}
-use Rattle.rules.proofs.Tables.LedgerGrows.{decidedAs}
+use Rattle.rules.proofs.Tables.Taken.{share-writes, share-taken, one-writes, one-taken, accepted-taken}
 use Rattle.rules.proofs.Tables.Decided.{kept, admitted}
 
 module _ (σ : Setting) (facts : Facts σ) (o : Opened) (sheet : List ℕ) (open-facts : Opens σ o sheet)
@@ -76,6 +76,7 @@ module _ (σ : Setting) (facts : Facts σ) (o : Opened) (sheet : List ℕ) (open
         after = one-taken σ o T ws ds b id n q joined facts;
       }
       take-one joined room (some (waitsTwo n x y)) q f e = absurd (omega arith)
+      take-one joined room (some (waitsEntry n x y)) q f e = absurd (omega arith)
 
       module _ (v : Pending) (q : find pendingId id ws ≡ some v) where
         decided-after : (U : Lent) (d : Decision)
@@ -84,34 +85,46 @@ module _ (σ : Setting) (facts : Facts σ) (o : Opened) (sheet : List ℕ) (open
         unfolding decideAs
         decided-after U d h = subst (λ (u : Option Pending). Beside σ o U (decideAs σ o id u ws ds d)) (sym q) h
 
-        by-verdict : (joined : List ℕ)
-            → Beside σ o (twoTable σ T id joined)
-            (at (isOpen (without pendingId id ws))
-            (ds ++ (decidedAs (noteIn v) (cond (bothZero σ (o .servers) joined) accepted rejected) ∷ [])))
-        unfolding twoTable twoVerdict
-        by-verdict joined =
-            subst (λ (t : Bool). Beside σ o (twoTable σ T id joined) (after t)) same (go (twoVerdict σ T joined))
-          where
-            after : Bool → Ledger
-            after t = at (isOpen (without pendingId id ws)) (ds ++ (decidedAs (noteIn v) (cond t accepted rejected) ∷ []))
+      -- round two: an accepted return waits on, a rejected one is decided
+      after-two : (joined : List ℕ) (n : Note) (x y : ℕ) → find pendingId id ws ≡ some (waitsTwo n x y)
+          → Beside σ o (twoTable σ T id joined) (ledgerAfter σ o l (roundTwo id joined))
+      unfolding twoTable twoVerdict ledgerAfter
+      after-two joined n x y q =
+          subst (λ (t : Bool). Beside σ o (twoTable σ T id joined) (after t)) same (go (twoVerdict σ T joined))
+        where
+          v : Pending
+          v = waitsTwo n x y
 
-            same : twoVerdict σ T joined ≡ bothZero σ (o .servers) joined
-            same = ap (λ (p : Opened). bothZero σ (p .servers) joined) opened
+          after : Bool → Ledger
+          after t = cond t (changeWaiting σ o l id (acceptNoted σ o)) (decideAs σ o id (find pendingId id ws) ws ds rejected)
 
-            go : (t : Bool)
-                → Beside σ o (decidedTable σ T id (cond t (decidedBytes σ T 1 id (addedBytes σ T id)) (decidedBytes σ T 0 id (T .bytes))))
-                (after t)
-            go true = admitted σ facts o many T ws ds b id v q
-            go false = kept σ facts o many T ws ds b id v q rejected refl
+          same : twoVerdict σ T joined ≡ bothZero σ (o .servers) joined
+          same = ap (λ (p : Opened). bothZero σ (p .servers) joined) opened
+
+          go : (t : Bool) → Beside σ o (cond t (acceptedTable σ T id) (decidedTable σ T id (decidedBytes σ T 0 id (T .bytes)))) (after t)
+          go true = accepted-taken σ o T ws ds b id n x y q
+          go false = decided-after v q _ rejected (kept σ facts o many T ws ds b id v q rejected refl)
 
       take-two : (joined : List ℕ) (v : Option Pending) → find pendingId id ws ≡ v → (f : Waiting → ℕ)
           → whileTwo (through (ledgerWait σ o) v) f ≡ 0 → Taken T l (roundTwo id joined)
-      unfolding whileTwo ledgerWait tableAnswer tableAfter answerOf ledgerAfter twoVerdict
+      unfolding whileTwo ledgerWait tableAnswer tableAfter answerOf twoVerdict
       take-two joined none q f e = absurd (omega arith)
       take-two joined (some (waitsOne n)) q f e = absurd (omega arith)
       take-two joined (some (waitsTwo n x y)) q f e = record {
         answers = ap (λ (p : Opened). judged (bothZero σ (p .servers) joined)) opened;
-        after = decided-after (waitsTwo n x y) q _ _ (by-verdict (waitsTwo n x y) q joined);
+        after = after-two joined n x y q;
+      }
+      take-two joined (some (waitsEntry n x y)) q f e = absurd (omega arith)
+
+      take-enter : (v : Option Pending) → find pendingId id ws ≡ v → whileEntry (through (ledgerWait σ o) v) ≡ 0
+          → Taken T l (enter id)
+      unfolding whileEntry ledgerWait tableAnswer tableAfter answerOf ledgerAfter enterTable
+      take-enter none q e = absurd (omega arith)
+      take-enter (some (waitsOne n)) q e = absurd (omega arith)
+      take-enter (some (waitsTwo n x y)) q e = absurd (omega arith)
+      take-enter (some (waitsEntry n x y)) q e = record {
+        answers = refl;
+        after = decided-after (waitsEntry n x y) q _ entered (admitted σ facts o many T ws ds b id (waitsEntry n x y) q);
       }
 
       take-drop : (v : Option Pending) → find pendingId id ws ≡ v → whileWaiting (through (ledgerWait σ o) v) ≡ 0
@@ -127,7 +140,7 @@ module _ (σ : Setting) (facts : Facts σ) (o : Opened) (sheet : List ℕ) (open
     unfolding tableAnswer tableAfter answerOf ledgerAfter tableState closeBytes closingMessage closeTable
     take-close room nobody = record {
       answers =
-          ap (λ (k : ServerState). wrote (totalsMessage σ (k .opened) (k .accepted) (k .totals)))
+          ap (λ (k : ServerState). wrote (totalsMessage σ (k .opened) (k .entered) (k .totals)))
           (unfold tableState in beside-known σ o T l b);
       after = record {
         parts = setStage stageClosed (b .parts);
@@ -142,7 +155,7 @@ module _ (σ : Setting) (facts : Facts σ) (o : Opened) (sheet : List ℕ) (open
     }
 
     take-open : (c : Call) → BytesIn c → refusalOf σ o l c ≡ 0 → Taken T l c
-    unfolding refusalOf ledgerState ledgerStage oneRefusal twoRefusal dropRefusal closeRefusal whileOpen
+    unfolding refusalOf ledgerState ledgerStage oneRefusal twoRefusal enterRefusal dropRefusal closeRefusal whileOpen
     take-open (share m r s room) bytes e = take-share m r s room bytes e
     take-open (roundOne id joined room) bytes e =
         let f : Waiting → ℕ = λ w.
@@ -152,15 +165,17 @@ module _ (σ : Setting) (facts : Facts σ) (o : Opened) (sheet : List ℕ) (open
     take-open (roundTwo id joined) bytes e =
         let f : Waiting → ℕ = λ w. roundFault σ (o .servers) 35 (w .id) (o .own) (messageTwo σ o w) joined in
         take-two id joined (find pendingId id ws) refl f (ap (λ (v : Option Wait). whileTwo v f) (sym (find-told σ o id ws)) ∙ e)
+    take-open (enter id) bytes e = take-enter id (find pendingId id ws) refl (ap whileEntry (sym (find-told σ o id ws)) ∙ e)
     take-open (drop id) bytes e = take-drop id (find pendingId id ws) refl (ap whileWaiting (sym (find-told σ o id ws)) ∙ e)
     take-open (close room) bytes e = take-close room (none-waits σ o ws _ e)
 
   -- a closed table takes nothing
   closed-takes : (ds : List Decided) (c : Call) → refusalOf σ o (at isClosed ds) c ≡ 0 → ⊥
-  unfolding refusalOf ledgerState ledgerStage shareRefusal oneRefusal twoRefusal dropRefusal closeRefusal whileOpen
+  unfolding refusalOf ledgerState ledgerStage shareRefusal oneRefusal twoRefusal enterRefusal dropRefusal closeRefusal whileOpen
   closed-takes ds (share m r s room) e = omega arith
   closed-takes ds (roundOne id joined room) e = omega arith
   closed-takes ds (roundTwo id joined) e = omega arith
+  closed-takes ds (enter id) e = omega arith
   closed-takes ds (drop id) e = omega arith
   closed-takes ds (close room) e = omega arith
 

@@ -14,10 +14,10 @@ use Rattle.slots.specs.declared.Slot.{Slot}
 use Rattle.rules.specs.Settings.{Setting}
 use Rattle.rules.specs.Columns.{Column, within, leastFits, check, faultIn, sheetFault, totalsFit}
 use Rattle.rules.specs.WaitingList.{waitingCount, waitingSound}
-use Rattle.rules.specs.Table.{Lent, stageClosed, tableLength, sheetSize, sheetIn, columnsIn, returnsIn, decidedIn, acceptedIn}
+use Rattle.rules.specs.Table.{Lent, stageClosed, tableLength, sheetSize, sheetIn, columnsIn, returnsIn, decidedIn, enteredIn}
 use Rattle.rules.specs.Table.{headerLength, headerSound, countsSound, tableSound, tableFault}
 use Rattle.rules.proofs.Tables.Parts.{Parts, Sized, body, assemble, placed, columns-in, size-is, sheet-is}
-use Rattle.rules.proofs.Tables.Parts.{returns-are, decided-are, accepted-are, least-is}
+use Rattle.rules.proofs.Tables.Parts.{returns-are, decided-are, entered-are, least-is}
 use Rattle.rules.proofs.Tables.State.{totals-are}
 
 -- by the number of returns that wait
@@ -71,7 +71,7 @@ module _ (σ : Setting) (cs : List Column) (g : Parts) (z : Sized σ cs g) (xs :
       (and-true _ _
       (le-leb (decidedIn σ T + waitingCount xs) (returnsIn σ T)
       (omega (arith, decided-are σ cs g z, returns-are σ cs g z, m .decided-fit)))
-      (le-leb (acceptedIn σ T) (decidedIn σ T) (omega (arith, decided-are σ cs g z, accepted-are σ cs g z, z .accepted-few)))))
+      (le-leb (enteredIn σ T) (decidedIn σ T) (omega (arith, decided-are σ cs g z, entered-are σ cs g z, z .entered-few)))))
 
   abbrev lent : Lent
   lent = record { bytes = T; slots = xs; elements = es }

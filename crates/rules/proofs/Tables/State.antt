@@ -16,7 +16,7 @@ use Rattle.rules.specs.Columns.{Column, publishedIn}
 use Rattle.rules.specs.Server.{Opened, Wait, Stage, takes, closed, ServerState}
 use Rattle.rules.specs.WaitingList.{waitsIn}
 use Rattle.rules.specs.Table.{Lent, stageOpen, totalsPlace, idsPlace, decidedIn, totalsIn, idsIn, openedIn, stageIn, tableState}
-use Rattle.rules.proofs.Tables.Parts.{Parts, Sized, assemble, placed, columns-in, returns-are, decided-are, accepted-are, least-is}
+use Rattle.rules.proofs.Tables.Parts.{Parts, Sized, assemble, placed, columns-in, returns-are, decided-are, entered-are, least-is}
 use Rattle.rules.proofs.Tables.Parts.{part-totals, part-ids}
 
 abbrev pub openedAt : List Column → Parts → Opened
@@ -31,7 +31,7 @@ knownAt σ cs g ws = record {
   opened = openedAt cs g;
   stage = stageAt (g .stage) ws;
   used = elementsOf 4 (take (4 * g .decided) (g .ids));
-  accepted = g .accepted;
+  entered = g .entered;
   totals = elementsOf (σ .width) (g .totals);
 }
 
@@ -80,6 +80,6 @@ module _ (σ : Setting) (cs : List Column) (g : Parts) (z : Sized σ cs g) where
           opened = opened-is i;
           stage = stage-is i;
           used = ids-are i;
-          accepted = accepted-are σ cs g z i;
+          entered = entered-are σ cs g z i;
           totals = totals-are i;
         }

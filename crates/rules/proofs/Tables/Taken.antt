@@ -1,26 +1,27 @@
--- A share that is taken, and round one: the table after the call stands beside the ledger after it. The bytes stay; the records
+-- A share that is taken, round one, and an accepted verdict: the table after the call stands beside the ledger after it. The bytes stay; the records
 -- and the numbers change as the returns that wait do. Assumes nothing.
-use mathlib.Core.Path.{_≡_, refl, sym, ap, ap₂, _∙_, subst}
+use mathlib.Core.Path.{_≡_, sym, ap, ap₂, _∙_, subst}
 use mathlib.Core.Logic.{_≢_}
 use mathlib.Core.List.{List, _∷_, map}
 use mathlib.Core.Option.{some}
 use Prim.Native.Nat.{ℕ, _+_, _<_}
 use native.Mathlib.Omega.{arith}
-use lib.ListN.{length, getD, set, length-map}
+use lib.ListN.{length, getD, set}
 use Rattle.algebra.specs.Lists.{All}
 use Rattle.slots.specs.Slots.{freeSlot}
 use Rattle.rules.specs.Settings.{Setting, Facts}
 use Rattle.rules.specs.Messages.{idIn, elementsIn, elementSum, firstSum, secondSum}
 use Rattle.rules.specs.Keyed.{find, changed}
 use Rattle.rules.specs.Server.{Opened, Waiting, held, mostWaiting, waitingOf, withSums, summed, messageOne, messageTwo}
-use Rattle.rules.specs.WaitingList.{stageOne, stageTwo, freePlace, placeOf, numbersAt, waitingAt, slotOf, numbersOf, putNumbers}
-use Rattle.rules.specs.Table.{Lent, openedIn, waitingUnder, shareTable, shareBytes, oneTable, oneBytes}
-use Rattle.rules.specs.Ledger.{Note, Pending, waitsOne, pendingId, isOpen, Decided, noteOf, noted, ledgerWait, sumsNoted}
-use Rattle.rules.specs.Ledger.{secondAnswer}
-use Rattle.rules.proofs.Histories.Keyed.{changed-keeps}
+use Rattle.rules.specs.WaitingList.{stageOne, stageTwo, stageEntry, freePlace, placeOf, numbersAt, waitingAt, slotOf, numbersOf, putNumbers}
+use Rattle.rules.specs.Table.{Lent, openedIn, waitingUnder, shareTable, shareBytes, oneTable, oneBytes, acceptedTable}
+use Rattle.rules.specs.Ledger.{Note, Pending, waitsOne, waitsTwo, pendingId, isOpen, Decided, noteOf, noted, ledgerWait}
+use Rattle.rules.specs.Ledger.{sumsNoted, acceptNoted, secondAnswer}
 use Rattle.rules.proofs.Histories.Moves.{at}
 use Rattle.rules.proofs.Histories.OwnMessages.{sum-below}
-use Rattle.rules.proofs.Tables.Listed.{NoteFits, Listed, taken-listed, is-said, summed-listed}
+use Rattle.rules.proofs.Histories.NotesGrow.{keeps-note, accept-keeps-note, as-many}
+use Rattle.rules.proofs.Tables.Listed.{NoteFits, Listed, taken-listed, is-said}
+use Rattle.rules.proofs.Tables.Changed.{summed-listed, accepted-listed}
 use Rattle.rules.proofs.Tables.Invariant.{Beside, opened-same}
 
 module _ (σ : Setting) (o : Opened) (T : Lent) (ws : List Pending) (ds : List Decided) (b : Beside σ o T (at (isOpen ws) ds)) where
@@ -69,13 +70,6 @@ module _ (σ : Setting) (o : Opened) (T : Lent) (ws : List Pending) (ds : List D
     abbrev sums : Opened → Pending → Pending
     sums p = sumsNoted σ p (firstSum σ 34 (p .servers) joined) (secondSum σ 34 (p .servers) joined)
 
-    as-long : length (changed pendingId id (sums o) ws) ≡ length ws
-    as-long =
-        let none : Pending → ℕ = λ p. 0 in
-        sym (length-map (changed pendingId id (sums o) ws) none)
-        ∙ ap length (changed-keeps pendingId id none (sums o) (λ p. refl) ws)
-        ∙ length-map ws none
-
     pub one-taken : Facts σ → Beside σ o (oneTable σ T id joined) (at (isOpen (changed pendingId id (sums o) ws)) ds)
     unfolding oneTable summed elementSum
     one-taken facts =
@@ -98,5 +92,27 @@ module _ (σ : Setting) (o : Opened) (T : Lent) (ws : List Pending) (ds : List D
               (sym opened)
               (summed-listed σ o d e ws (T .slots) (T .elements) (b .listed) id n q (sum-below σ facts (o .servers) _)
               (sum-below σ facts (o .servers) _));
-          room = omega (arith, b .room, as-long);
+          room = omega (arith, b .room, as-many σ o ws id (sums o) (keeps-note σ o _ _));
         }
+
+  -- ---- an accepted verdict
+  pub accepted-taken : (id : ℕ) (n : Note) (x y : ℕ) → find pendingId id ws ≡ some (waitsTwo n x y)
+      → Beside σ o (acceptedTable σ T id) (at (isOpen (changed pendingId id (acceptNoted σ o) ws)) ds)
+  unfolding acceptedTable
+  accepted-taken id n x y q =
+      let j : ℕ = placeOf id (T .slots) in
+      record {
+        parts = b .parts;
+        is = b .is;
+        sized = b .sized;
+        opened-as = b .opened-as;
+        tells = b .tells;
+        staged = b .staged;
+        listed = subst (λ (p : Opened).
+            Listed σ o (changed pendingId id (acceptNoted σ o) ws)
+            (set (T .slots) j (slotOf stageEntry
+            (waitingAt (p .columns) (getD (T .slots) j freeSlot) (numbersAt (p .columns) (T .elements) j))))
+            (T .elements))
+            (sym opened) (accepted-listed σ o ws (T .slots) (T .elements) (b .listed) id n x y q);
+        room = omega (arith, b .room, as-many σ o ws id (acceptNoted σ o) (accept-keeps-note σ o));
+      }

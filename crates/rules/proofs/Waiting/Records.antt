@@ -19,9 +19,10 @@ use Rattle.rules.specs.Settings.{Setting}
 use Rattle.rules.specs.Columns.{Column}
 use Rattle.rules.specs.Judging.{allowedPair}
 use Rattle.rules.specs.Keyed.{find}
-use Rattle.rules.specs.Server.{Wait, awaitsOne, awaitsTwo, heldId, isMember, mostWaiting}
-use Rattle.rules.specs.WaitingList.{stageOne, stageTwo, isFree, firstWhere, freePlace, placeOf, waitingCount, numbersAt, runSize}
-use Rattle.rules.specs.WaitingList.{waitingAt, waitAt, recordsFrom, present, waitsIn, recordSound, recordsSound, waitingSound}
+use Rattle.rules.specs.Server.{Waiting, Wait, awaitsOne, awaitsTwo, awaitsEntry, held, heldId, isMember, mostWaiting}
+use Rattle.rules.specs.WaitingList.{stageOne, stageTwo, stageEntry, isFree, firstWhere, freePlace, placeOf, waitingCount}
+use Rattle.rules.specs.WaitingList.{numbersAt, runSize, waitingAt, waitAs, waitAt, recordsFrom, present, waitsIn}
+use Rattle.rules.specs.WaitingList.{recordSound, recordsSound, waitingSound}
 use Rattle.rules.specs.Table.{Lent, tableSound, headerSound, countsSound, totalsIn, columnsIn}
 
 -- ---- places
@@ -67,6 +68,16 @@ free-place (x ∷ xs) h = go (isFree x) h (free-place xs)
     go false h r = let l : freePlace xs < length xs = r (omega arith) in omega arith
 
 -- ---- the returns that wait
+-- whatever the stage, the return is the same
+pub held-as : (stage : ℕ) (w : Waiting) → held (waitAs stage w) ≡ w
+unfolding waitAs
+held-as stage w = go (eqb stage stageOne) (eqb stage stageTwo)
+  where
+    go : (a b : Bool) → held (cond a (awaitsOne w) (cond b (awaitsTwo w) (awaitsEntry w))) ≡ w
+    go true b = refl
+    go false true = refl
+    go false false = refl
+
 module _ (cs : List Column) where
   -- one record before the others
   count-one : (x : Slot) (ns : List ℕ) (rest : List (Option Wait))
@@ -75,7 +86,7 @@ module _ (cs : List Column) where
   count-one x ns rest = go (isFree x)
     where
       w : Wait
-      w = cond (eqb (x .stage) stageOne) (awaitsOne (waitingAt cs x ns)) (awaitsTwo (waitingAt cs x ns))
+      w = waitAs (x .stage) (waitingAt cs x ns)
 
       go : (b : Bool) → length (present (cond b none (some w) ∷ rest)) ≡ cond b 0 1 + length (present rest)
       go true = sym (zero-add (length (present rest)))
@@ -95,16 +106,17 @@ module _ (cs : List Column) where
       → find heldId id (present (waitAt cs x ns ∷ rest))
       ≡ cond (not (isFree x) && eqb (x .id) id) (waitAt cs x ns) (find heldId id (present rest))
   unfolding find present waitAt waitingAt
-  find-one id x ns rest = go (isFree x) (eqb (x .stage) stageOne)
+  find-one id x ns rest = go (isFree x)
     where
-      at : Bool → Bool → Option Wait
-      at b c = cond b none (some (cond c (awaitsOne (waitingAt cs x ns)) (awaitsTwo (waitingAt cs x ns))))
+      w : Wait
+      w = waitAs (x .stage) (waitingAt cs x ns)
 
-      go : (b c : Bool)
-          → find heldId id (present (at b c ∷ rest)) ≡ cond (not b && eqb (x .id) id) (at b c) (find heldId id (present rest))
-      go true c = refl
-      go false true = refl
-      go false false = refl
+      go : (b : Bool)
+          → find heldId id (present (cond b none (some w) ∷ rest))
+          ≡ cond (not b && eqb (x .id) id) (cond b none (some w)) (find heldId id (present rest))
+      go true = refl
+      go false =
+          ap (λ (v : Waiting). cond (eqb (v .id) id) (some w) (find heldId id (present rest))) (held-as (x .stage) (waitingAt cs x ns))
 
   find-from : (id : ℕ) (es : List ℕ) (k : ℕ) (xs : List Slot)
       → find heldId id (present (recordsFrom cs es k xs))
@@ -159,17 +171,17 @@ module _ (cs : List Column) where
       → isMember id (map heldId (present (waitAt cs x ns ∷ rest)))
       ≡ ((not (isFree x) && eqb (x .id) id) || isMember id (map heldId (present rest)))
   unfolding isMember present waitAt waitingAt
-  member-one id x ns rest = go (isFree x) (eqb (x .stage) stageOne)
+  member-one id x ns rest = go (isFree x)
     where
-      at : Bool → Bool → Option Wait
-      at b c = cond b none (some (cond c (awaitsOne (waitingAt cs x ns)) (awaitsTwo (waitingAt cs x ns))))
+      w : Wait
+      w = waitAs (x .stage) (waitingAt cs x ns)
 
-      go : (b c : Bool)
-          → isMember id (map heldId (present (at b c ∷ rest)))
+      go : (b : Bool)
+          → isMember id (map heldId (present (cond b none (some w) ∷ rest)))
           ≡ ((not b && eqb (x .id) id) || isMember id (map heldId (present rest)))
-      go true c = refl
-      go false true = refl
-      go false false = refl
+      go true = refl
+      go false =
+          ap (λ (v : Waiting). eqb (v .id) id || isMember id (map heldId (present rest))) (held-as (x .stage) (waitingAt cs x ns))
 
   member-from : (id : ℕ) (es : List ℕ) (k : ℕ) (xs : List Slot)
       → isMember id (map heldId (present (recordsFrom cs es k xs))) ≡ ltb (placeOf id xs) (length xs)
@@ -231,10 +243,10 @@ module _ (σ : Setting) (cs : List Column) where
     abbrev low : Bool
     low = ltb (x .d) (σ .modulus) && (ltb (x .e) (σ .modulus) && allBelow (σ .modulus) ns)
 
-    pub stage-most : recordSound σ cs x ns ≡ true → x .stage ≤ stageTwo
+    pub stage-most : recordSound σ cs x ns ≡ true → x .stage ≤ stageEntry
     unfolding recordSound
     stage-most h =
-        leb-true (x .stage) stageTwo (and-left (leb (x .stage) stageTwo) (isFree x || (allowedPair σ cs (x .r) (x .s) && low)) h)
+        leb-true (x .stage) stageEntry (and-left (leb (x .stage) stageEntry) (isFree x || (allowedPair σ cs (x .r) (x .s) && low)) h)
 
     pub waits-soundly : recordSound σ cs x ns ≡ true → isFree x ≡ false → WaitsSoundly σ cs x ns
     unfolding recordSound
@@ -242,7 +254,7 @@ module _ (σ : Setting) (cs : List Column) where
         let rest : Bool = ltb (x .e) (σ .modulus) && allBelow (σ .modulus) ns in
         let all : (allowedPair σ cs (x .r) (x .s) && low) ≡ true =
         sym (ap (λ (b : Bool). b || (allowedPair σ cs (x .r) (x .s) && low)) taken)
-        ∙ and-right (leb (x .stage) stageTwo) (isFree x || (allowedPair σ cs (x .r) (x .s) && low)) h in
+        ∙ and-right (leb (x .stage) stageEntry) (isFree x || (allowedPair σ cs (x .r) (x .s) && low)) h in
         let below : low ≡ true = and-right (allowedPair σ cs (x .r) (x .s)) low all in
         let others : rest ≡ true = and-right (ltb (x .d) (σ .modulus)) rest below in
         record {

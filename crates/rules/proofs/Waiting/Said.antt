@@ -1,14 +1,14 @@
 -- What a record says that a call has written. A share's record and numbers say the return that was taken, since the numbers of a
--- place are the elements of a share and two more; round one's say it with the sums; a freed record says nothing. Each is within
--- the limits, and where a record says a return it is not free. Assumes nothing.
-use mathlib.Core.Path.{_≡_, refl, ap, _∙_}
+-- place are the elements of a share and two more; round one's say it with the sums; an accepted one's the same in its last wait; a
+-- freed record says nothing. Each is within the limits, and where a record says a return it is not free. Assumes nothing.
+use mathlib.Core.Path.{_≡_, refl, sym, ap, _∙_}
 use mathlib.Core.Bool.{Bool, true, false, cond, _&&_}
 use mathlib.Core.List.{List, [], _∷_}
 use mathlib.Core.Option.{some, none}
-use Prim.Native.Nat.{ℕ, _+_, _<_}
+use Prim.Native.Nat.{ℕ, _+_, _≤_, _<_}
 use native.Mathlib.Omega.{arith}
-use borrow.Author.Tests.{lt-ltb}
-use lib.Dec.{eqb, ltb}
+use borrow.Author.Tests.{lt-ltb, le-leb, ne-eqb}
+use lib.Dec.{ltb}
 use lib.ListN.{length, getD, length-append}
 use lib.Seq.{take-at, getD-at, getD-append-add}
 use Rattle.algebra.specs.Lists.{All, all[], all∷}
@@ -20,8 +20,10 @@ use Rattle.slots.specs.Slots.{freeSlot}
 use Rattle.rules.specs.Settings.{Setting}
 use Rattle.rules.specs.Columns.{Column}
 use Rattle.rules.specs.Judging.{shareSize, allowedPair}
-use Rattle.rules.specs.Server.{Waiting, Wait, awaitsOne, awaitsTwo, held, withSums}
-use Rattle.rules.specs.WaitingList.{stageOne, stageTwo, isFree, placeSize, waitingAt, waitAt, recordSound, slotOf, numbersOf}
+use Rattle.rules.specs.Server.{Waiting, Wait, awaitsOne, awaitsTwo, awaitsEntry, held, withSums}
+use Rattle.rules.specs.WaitingList.{stageOne, stageTwo, stageEntry, isFree, placeSize, waitingAt, waitAs, waitAt}
+use Rattle.rules.specs.WaitingList.{recordSound, slotOf, numbersOf}
+use Rattle.rules.proofs.Waiting.Records.{held-as}
 
 module _ (cs : List Column) where
   -- ---- a share
@@ -47,14 +49,19 @@ module _ (cs : List Column) where
         }
 
     pub share-says : waitAt cs (slotOf stageOne w) (numbersOf w) ≡ some (awaitsOne w)
-    unfolding waitAt
+    unfolding waitAt waitAs
     share-says = ap (λ (v : Waiting). some (awaitsOne v)) (numbers-say stageOne)
 
-  -- ---- round one, and a record set free
+  -- ---- round one, an accepted verdict, and a record set free
   pub sums-say : (x : Slot) (ns : List ℕ) (d e : ℕ)
       → waitAt cs (slotOf stageTwo (withSums (waitingAt cs x ns) d e)) ns ≡ some (awaitsTwo (withSums (waitingAt cs x ns) d e))
-  unfolding waitAt waitingAt
+  unfolding waitAt waitAs waitingAt
   sums-say x ns d e = refl
+
+  pub accepted-says : (x : Slot) (ns : List ℕ)
+      → waitAt cs (slotOf stageEntry (waitingAt cs x ns)) ns ≡ some (awaitsEntry (waitingAt cs x ns))
+  unfolding waitAt waitAs waitingAt
+  accepted-says x ns = refl
 
   pub free-says : (ns : List ℕ) → waitAt cs freeSlot ns ≡ none
   unfolding waitAt
@@ -63,16 +70,14 @@ module _ (cs : List Column) where
   -- ---- a record that says a return
   pub said : (x : Slot) (ns : List ℕ) (w : Wait) → waitAt cs x ns ≡ some w → (isFree x ≡ false) × (waitingAt cs x ns ≡ held w)
   unfolding waitAt
-  said x ns w e = go (isFree x) refl (eqb (x .stage) stageOne) e
+  said x ns w e = go (isFree x) refl e
     where
-      at : Bool → Wait
-      at c = cond c (awaitsOne (waitingAt cs x ns)) (awaitsTwo (waitingAt cs x ns))
+      there : Wait
+      there = waitAs (x .stage) (waitingAt cs x ns)
 
-      go : (b : Bool) → isFree x ≡ b → (c : Bool) → cond b none (some (at c)) ≡ some w
-          → (isFree x ≡ false) × (waitingAt cs x ns ≡ held w)
-      go true q c e = absurd (let z : _≡_ {A = ℕ} 0 1 = cc in omega arith)
-      go false q true e = (q, let same : awaitsOne (waitingAt cs x ns) ≡ w = cc in ap held same)
-      go false q false e = (q, let same : awaitsTwo (waitingAt cs x ns) ≡ w = cc in ap held same)
+      go : (b : Bool) → isFree x ≡ b → cond b none (some there) ≡ some w → (isFree x ≡ false) × (waitingAt cs x ns ≡ held w)
+      go true q e = absurd (let z : _≡_ {A = ℕ} 0 1 = cc in omega arith)
+      go false q e = (q, let same : there ≡ w = cc in sym (held-as (x .stage) (waitingAt cs x ns)) ∙ ap held same)
 
 -- ---- the limits
 module _ (σ : Setting) (cs : List Column) where
@@ -82,13 +87,13 @@ module _ (σ : Setting) (cs : List Column) where
 
   pub taken-sound : (w : Waiting) (ns : List ℕ) → allowedPair σ cs (w .r) (w .s) ≡ true → w .d < σ .modulus → w .e < σ .modulus
       → allBelow (σ .modulus) ns ≡ true
-      → (recordSound σ cs (slotOf stageOne w) ns ≡ true) × (recordSound σ cs (slotOf stageTwo w) ns ≡ true)
+      → (stage : ℕ) → 1 ≤ stage → stage ≤ stageEntry → recordSound σ cs (slotOf stage w) ns ≡ true
   unfolding recordSound
-  taken-sound w ns pair d e below =
+  taken-sound w ns pair d e below stage taken few =
       let all : (allowedPair σ cs (w .r) (w .s)
       && (ltb (w .d) (σ .modulus) && (ltb (w .e) (σ .modulus) && allBelow (σ .modulus) ns))) ≡ true =
       and-true _ _ pair (and-true _ _ (lt-ltb (w .d) (σ .modulus) d) (and-true _ _ (lt-ltb (w .e) (σ .modulus) e) below)) in
-      (all, all)
+      rw (le-leb stage stageEntry few, ne-eqb stage 0 (λ z. omega arith)) all
 
   pub numbers-low : (w : Waiting) → All (λ x. x < σ .modulus) (w .elements) → w .rh < σ .modulus → w .tau < σ .modulus
       → allBelow (σ .modulus) (numbersOf w) ≡ true

@@ -20,9 +20,10 @@ use Rattle.slots.specs.declared.Slot.{Slot}
 use Rattle.slots.specs.Slots.{freeSlot}
 use Rattle.rules.specs.Columns.{Column}
 use Rattle.rules.specs.Keyed.{find, without, changed}
-use Rattle.rules.specs.Server.{Waiting, Wait, awaitsOne, awaitsTwo, heldId}
-use Rattle.rules.specs.WaitingList.{stageOne, isFree, firstWhere, freePlace, placeOf, placeSize, numbersAt, waitingAt, waitAt}
+use Rattle.rules.specs.Server.{Waiting, Wait, heldId}
+use Rattle.rules.specs.WaitingList.{isFree, firstWhere, freePlace, placeOf, placeSize, numbersAt, waitingAt, waitAs, waitAt}
 use Rattle.rules.specs.WaitingList.{recordsFrom, present, putNumbers}
+use Rattle.rules.proofs.Waiting.Records.{held-as}
 
 -- ---- numbers of places
 pub place-fits : (cs : List Column) (n i : ℕ) (es : List ℕ) → i < n → placeSize cs * n ≤ length es → placeSize cs * suc i ≤ length es
@@ -143,7 +144,7 @@ module _ (cs : List Column) where
       rest = recordsFrom cs es (suc k) xs
 
       v : Wait
-      v = cond (eqb (x .stage) stageOne) (awaitsOne (waitingAt cs x (numbersAt cs es k))) (awaitsTwo (waitingAt cs x (numbersAt cs es k)))
+      v = waitAs (x .stage) (waitingAt cs x (numbersAt cs es k))
 
       go : (b : Bool) → cond b 0 (suc p) < suc (length xs)
           → (p < length xs → Rearranged (present (set rest p (some w))) (w ∷ present rest))
@@ -187,7 +188,7 @@ module _ (cs : List Column) (id : ℕ) (es : List ℕ) (w : Wait) where
       → Found id (recordsFrom cs es k xs) (placeOf id xs) w
   unfolding find present recordsFrom firstWhere waitAt waitingAt
   found-at k [] q = absurd (let z : _≡_ {A = ℕ} 0 1 = cc in omega arith)
-  found-at k (x ∷ xs) q = go (isFree x) (eqb (x .stage) stageOne) (eqb (x .id) id) refl q (found-at (suc k) xs)
+  found-at k (x ∷ xs) q = go (isFree x) (eqb (x .id) id) refl q (found-at (suc k) xs)
     where
       rest : List (Option Wait)
       rest = recordsFrom cs es (suc k) xs
@@ -195,17 +196,15 @@ module _ (cs : List Column) (id : ℕ) (es : List ℕ) (w : Wait) where
       p : ℕ
       p = placeOf id xs
 
-      here : Waiting
-      here = waitingAt cs x (numbersAt cs es k)
+      here : Wait
+      here = waitAs (x .stage) (waitingAt cs x (numbersAt cs es k))
 
-      at : Bool → Bool → Option Wait
-      at b c = cond b none (some (cond c (awaitsOne here) (awaitsTwo here)))
+      named : eqb (heldId here) id ≡ eqb (x .id) id
+      named = ap (λ (v : Waiting). eqb (v .id) id) (held-as (x .stage) (waitingAt cs x (numbersAt cs es k)))
 
-      go : (b c d : Bool) → eqb (x .id) id ≡ d → find heldId id (present (at b c ∷ rest)) ≡ some w
+      go : (b d : Bool) → eqb (x .id) id ≡ d → find heldId id (present (cond b none (some here) ∷ rest)) ≡ some w
           → (find heldId id (present rest) ≡ some w → Found id rest p w)
-          → Found id (at b c ∷ rest) (cond (not b && d) 0 (suc p)) w
-      go true c d e q r = found-behind-free id rest w p (r q)
-      go false true true e q r = found-first id rest w (awaitsOne here) e q
-      go false true false e q r = found-later id rest w (awaitsOne here) p e r q
-      go false false true e q r = found-first id rest w (awaitsTwo here) e q
-      go false false false e q r = found-later id rest w (awaitsTwo here) p e r q
+          → Found id (cond b none (some here) ∷ rest) (cond (not b && d) 0 (suc p)) w
+      go true d e q r = found-behind-free id rest w p (r q)
+      go false true e q r = found-first id rest w here (named ∙ e) q
+      go false false e q r = found-later id rest w here p (named ∙ e) r q

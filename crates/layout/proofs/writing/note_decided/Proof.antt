@@ -52,7 +52,7 @@ returns c =
       second .write-u162 .ensures,
       first .write-u16 .ensures,
     )
-    (noted-written (a .args .k) (a .args .accepted) (a .args .id) (a .args .t .now) h)
+    (noted-written (a .args .k) (a .args .entered) (a .args .id) (a .args .t .now) h)
 
 pub note-decided-spec : {M : Type 1} → statement M
 note-decided-spec =

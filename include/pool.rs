@@ -6,7 +6,7 @@
 #[derive(Clone, Copy, Debug, Default, PartialEq, Eq)]
 pub struct pool_slot {
     pub id: u32,
-    /// 0 free, 1 awaits round one, 2 awaits round two.
+    /// 0 free, 1 awaits round one, 2 awaits round two, 3 awaits entry.
     pub stage: u32,
     pub r: u64,
     pub s: u64,
@@ -122,6 +122,16 @@ extern "C" {
         joined: *const u8,
         joined_len: usize,
         accepted: *mut u32,
+    ) -> u32;
+
+    pub fn pool_enter(
+        table: *mut u8,
+        table_len: usize,
+        slots: *mut pool_slot,
+        slots_len: usize,
+        elements: *mut u32,
+        elements_len: usize,
+        id: u32,
     ) -> u32;
 
     pub fn pool_drop(

@@ -66,8 +66,9 @@ fn unequal(x: &Setting, own: u32) -> Vec<u8> {
     joined
 }
 
-// The answers of a server's calls by their names: eight returns wait, one is dropped, and another taken in its record to the
-// totals; each call also where it is refused, by the stage, round one by another s or, for opening, by the own number.
+// The answers of a server's calls by their names: eight returns wait, one is dropped, and another taken in its record to its
+// verdict and to the totals; each call also where it is refused, by the stage, round one by another s or, for opening, by the
+// own number.
 fn answers<T: Table>(x: &Setting, own: u32) -> Vec<(&'static str, Answer)> {
     let mut said = vec![("open", T::fresh(x, x.servers).map(|_| Vec::new()))];
     let mut t = T::fresh(x, own).expect("a table");
@@ -86,6 +87,7 @@ fn answers<T: Table>(x: &Setting, own: u32) -> Vec<(&'static str, Answer)> {
     said.extend(ones.map(|message| ("round one", message.map(Vec::from))));
     let twos = [t.round_two(101, &x.twos), t.round_two(ID, &x.twos), t.round_two(ID, &x.twos)];
     said.extend(twos.map(|verdict| ("round two", verdict.map(|accepted| vec![u8::from(accepted)]))));
+    said.extend([t.enter(101), t.enter(ID), t.enter(ID)].map(|done| ("enter", done.map(|()| Vec::new()))));
     let mut out = vec![0xa5; ROOM];
     said.push(("close", t.close(&mut out).map(Vec::from)));
     said.extend((100..108).map(|id| ("drop", t.drop(id).map(|()| Vec::new()))));

@@ -94,7 +94,7 @@ pub fn round_one(
     done(answer, written)
 }
 
-// Whether the return is accepted.
+// Whether the return is accepted; it awaits entry then.
 pub fn round_two(
     table: &mut [u8],
     slots: &mut [Slot],
@@ -109,6 +109,15 @@ pub fn round_two(
         c::pool_round_two(table, len, slots, records, elements, numbers, id, joined, n, &mut accepted)
     };
     done(answer, accepted == 1)
+}
+
+pub fn enter(table: &mut [u8], slots: &mut [Slot], elements: &mut [u32], id: u32) -> Result<(), u32> {
+    let (t, x, e) = (table, slots, elements);
+    let answer = unsafe {
+        let (slots, records, elements, numbers) = (x.as_mut_ptr(), x.len(), e.as_mut_ptr(), e.len());
+        c::pool_enter(t.as_mut_ptr(), t.len(), slots, records, elements, numbers, id)
+    };
+    done(answer, ())
 }
 
 pub fn drop(table: &mut [u8], slots: &mut [Slot], elements: &mut [u32], id: u32) -> Result<(), u32> {
@@ -130,7 +139,7 @@ pub fn close(table: &mut [u8], slots: &[Slot], elements: &[u32], out: &mut [u8])
     done(answer, written)
 }
 
-// The count of accepted returns, and the bytes written.
+// The count of entered returns, and the bytes written.
 pub fn join(servers: u32, sheet: &[u8], returns: u32, joined: &[u8], out: &mut [u8]) -> Result<(u32, usize), u32> {
     let (s, j, at, room) = (sheet, joined, out.as_mut_ptr(), out.len());
     let (mut accepted, mut written) = (0, 0);

@@ -1,10 +1,10 @@
 // The calls on a table. They change it, so each is timed where returns come one after another, on every side alike. A
 // table is opened for 64 returns and seven more. For each id the calls that lead up to the measured one are made unmeasured,
-// then the measured one is timed; after a share or round one the return still waits and is dropped unmeasured. After 64
+// then the measured one is timed; after a share or a round the return still waits and is dropped unmeasured. After 64
 // returns a fresh table is opened, unmeasured. So a share looks through 32 decided ids on the average, and the fast form's
 // list of ids grows as it does in use (a clone of its table would have to make room at every call). Where eight returns
 // wait, seven others were taken before: they stay in the first seven slots and await round one. Closing alone is timed on a
-// table with one accepted return that is restored before each call, unmeasured: by a copy of the three parts, or by a clone.
+// table with one entered return that is restored before each call, unmeasured: by a copy of the three parts, or by a clone.
 // No call may be refused.
 //
 // The clock is read once for several tables in the same state, and the time of an empty turn is taken off. At M = 256
@@ -20,6 +20,7 @@ pub enum Call {
     Share,
     RoundOne,
     RoundTwo,
+    Enter,
     Drop,
     Close,
 }
@@ -85,7 +86,12 @@ fn one_return<T: Table>(x: &Setting, call: Call, id: u32, m: &Messages, tables: 
         all(tables, |t| taken(t.drop(id)));
         return one;
     }
-    all(tables, |t| assert!(t.round_two(id, &m.twos) == Ok(true)))
+    let two = all(tables, |t| assert!(t.round_two(id, &m.twos) == Ok(true)));
+    if call == Call::RoundTwo {
+        all(tables, |t| taken(t.drop(id)));
+        return two;
+    }
+    all(tables, |t| taken(t.enter(id)))
 }
 
 // A table of server 0 in which so many returns wait, under ids of their own.
@@ -100,10 +106,11 @@ pub fn waiting<T: Table>(x: &Setting, others: u32) -> T {
 }
 
 // Takes one return to the totals, so that the table closes.
-fn accept<T: Table>(x: &Setting, table: &mut T) {
+fn enter<T: Table>(x: &Setting, table: &mut T) {
     taken(table.share(x.share(0), x.r, x.s));
     taken(table.round_one(ID, &x.ones));
     taken(table.round_two(ID, &x.twos));
+    taken(table.enter(ID));
 }
 
 // Opens in the place of each table.
@@ -125,7 +132,7 @@ pub fn series<T: Table>(x: &Setting, call: Call, others: u32) -> f64 {
     let mut tables: Vec<T> = (0..tables_for(x)).map(|_| fresh()).collect();
     let mut was = fresh();
     if call == Call::Close {
-        accept(x, &mut was);
+        enter(x, &mut was);
     }
     let (mut messages, mut out) = (Messages::of(x), vec![0; ROOM]);
     let (mut spent, mut empty) = (0.0, 0.0);

@@ -6,7 +6,7 @@ use second::{fast, field::P, Sheet};
 // The returns that a series takes one after another, and the N of its tables: there is room for others that wait.
 pub const RETURNS: u32 = 64;
 pub const LIMIT: u32 = RETURNS + 7;
-// The Q of the tables: one accepted return closes them.
+// The Q of the tables: one entered return closes them.
 pub const LEAST: u32 = 1;
 pub const ROOM: usize = 32768;
 // The bytes of a round-one and of a round-two message.
@@ -52,6 +52,7 @@ impl Setting {
         let twos: Vec<u8> = twos.collect();
         let closings = tables.iter_mut().flat_map(|t| {
             fast::round_two(t, ID, &twos).expect("a verdict");
+            fast::enter(t, ID).expect("accepted");
             fast::close(t, ROOM).expect("totals")
         });
         Setting {

@@ -103,6 +103,7 @@ pub fn run(settings: &[Setting]) {
             ("share", &|x| on_table(x, Call::Share, 0)),
             ("round one", &|x| on_table(x, Call::RoundOne, 0)),
             ("round two", &|x| on_table(x, Call::RoundTwo, 0)),
+            ("enter", &|x| on_table(x, Call::Enter, 0)),
             ("drop", &|x| on_table(x, Call::Drop, 0)),
             ("close", &|x| on_table(x, Call::Close, 0)),
         ],
@@ -116,6 +117,7 @@ pub fn run(settings: &[Setting]) {
             ("share", &|x| on_table(x, Call::Share, 7)),
             ("round one", &|x| on_table(x, Call::RoundOne, 7)),
             ("round two", &|x| on_table(x, Call::RoundTwo, 7)),
+            ("enter", &|x| on_table(x, Call::Enter, 7)),
             ("drop", &|x| on_table(x, Call::Drop, 7)),
         ],
     );

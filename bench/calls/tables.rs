@@ -16,6 +16,7 @@ pub trait Table: Sized {
     fn round_one(&mut self, id: u32, joined: &[u8]) -> Result<[u8; TWO_BYTES], u32>;
     // Whether the return is accepted.
     fn round_two(&mut self, id: u32, joined: &[u8]) -> Result<bool, u32>;
+    fn enter(&mut self, id: u32) -> Result<(), u32>;
     fn drop(&mut self, id: u32) -> Result<(), u32>;
     // The totals message, in the lent buffer or in a list of its own.
     fn close<'a>(&mut self, out: &'a mut [u8]) -> Result<Cow<'a, [u8]>, u32>;
@@ -64,6 +65,10 @@ macro_rules! table_in_parts {
                 $calls::round_two(&mut self.bytes, &mut self.slots, &mut self.elements, id, joined).map($accepted)
             }
 
+            fn enter(&mut self, id: u32) -> Result<(), u32> {
+                $calls::enter(&mut self.bytes, &mut self.slots, &mut self.elements, id)
+            }
+
             fn drop(&mut self, id: u32) -> Result<(), u32> {
                 $calls::drop(&mut self.bytes, &mut self.slots, &mut self.elements, id)
             }
@@ -108,6 +113,10 @@ impl Table for fast::Table {
 
     fn round_two(&mut self, id: u32, joined: &[u8]) -> Result<bool, u32> {
         fast::round_two(self, id, joined).map(accepted)
+    }
+
+    fn enter(&mut self, id: u32) -> Result<(), u32> {
+        fast::enter(self, id)
     }
 
     fn drop(&mut self, id: u32) -> Result<(), u32> {

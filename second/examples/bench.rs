@@ -112,7 +112,7 @@ impl Setting<'_> {
         }))
     }
 
-    /// Round one and round two at one server, on messages of two servers.
+    /// Round one, round two and the entry at one server, on messages of two servers.
     fn rounds(&self) -> Result<f64, u32> {
         let (r, s) = self.challenges[0];
         let (mut tables, mut first, mut second) = (Vec::new(), Vec::new(), Vec::new());
@@ -127,12 +127,13 @@ impl Setting<'_> {
         let cloned = time(20_000, |_| {
             black_box(tables[0].clone());
         });
-        let both = time(20_000, |_| {
+        let all = time(20_000, |_| {
             let mut table = tables[0].clone();
             let _ = black_box(fast::round_one(&mut table, ID, &first, ROOM));
             let _ = black_box(fast::round_two(&mut table, ID, &second));
+            let _ = black_box(fast::enter(&mut table, ID));
         });
-        Ok(both - cloned)
+        Ok(all - cloned)
     }
 }
 

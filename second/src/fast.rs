@@ -20,7 +20,7 @@ pub use crate::listing::{every_return, Listing};
 pub use crate::recount::recount;
 pub use crate::shelf::{shelve, unshelve};
 pub use crate::sizes::{sizes, Sizes};
-pub use crate::table::{close, drop, round_one, round_two, share, Stage};
+pub use crate::table::{close, drop, enter, round_one, round_two, share, Stage};
 pub use making::make;
 
 /// A server's table in the fast form.

@@ -14,7 +14,7 @@
 //! | 3 | 1 | own number |
 //! | 4 | 2 | N |
 //! | 6 | 2 | returns decided, dropped ones included |
-//! | 8 | 2 | returns accepted |
+//! | 8 | 2 | returns entered |
 //! | 10 | 2 | Q |
 //! | 12 | 2 | n, the length of the sheet (a sheet that is read has 1 to 426 bytes) |
 //! | 14 | n | the sheet |
@@ -26,13 +26,14 @@
 //! Exactly eight records, [`Slot`]. A share goes into the first free one, and a return that is
 //! decided leaves its record all 0.
 //!
-//! | field | stage 1, awaits round one | stage 2, awaits round two |
-//! | --- | --- | --- |
-//! | id | of the return | the same |
-//! | r, s | the challenges of its share | the same |
-//! | d, e | d_i and e_i of this server | the sums of round one |
+//! | field | stage 1, awaits round one | stage 2, awaits round two | stage 3, awaits entry |
+//! | --- | --- | --- | --- |
+//! | id | of the return | the same | the same |
+//! | r, s | the challenges of its share | the same | the same |
+//! | d, e | d_i and e_i of this server | the sums of round one | the same |
 //!
-//! Stage 0 is a free record. The record of an id is the first one that waits under it.
+//! Stage 0 is a free record. The record of an id is the first one that waits under it. An accepted
+//! verdict changes the stage and nothing else.
 //!
 //! # The run of numbers
 //!
@@ -51,9 +52,9 @@
 //! # Which tables are refused 11
 //!
 //! Those whose bytes or numbers are too few, whose records are not eight, or whose table byte,
-//! stage, S, own number, N, Q, sheet or refusal 4's rule breaks its limit. The counts: accepted at
+//! stage, S, own number, N, Q, sheet or refusal 4's rule breaks its limit. The counts: entered at
 //! most decided, decided and waiting together at most N. Totals are below p. A record has stage
-//! 0, 1 or 2; where it waits, r is above M and below p, s, d and e are below p, and so are all
+//! 0, 1, 2 or 3; where it waits, r is above M and below p, s, d and e are below p, and so are all
 //! numbers of its place.
 //!
 //! All else is free: what a free record holds and the numbers of its place, the ids' places past
@@ -77,7 +78,7 @@ use crate::refusal;
 use crate::table::{Verdict, CLOSING};
 use layout::{Table, Word};
 use shape::Shape;
-pub use slot::{Slot, AWAITS_ONE, AWAITS_TWO, FREE, SLOTS};
+pub use slot::{Slot, AWAITS_ENTRY, AWAITS_ONE, AWAITS_TWO, FREE, SLOTS};
 
 /// The length of a table's bytes with this sheet and N. Order of refusals: sheet, N, 4.
 pub fn length(sheet: &[u8], limit: u32) -> Result<usize, u32> {
@@ -203,7 +204,8 @@ pub fn round_one(
 }
 
 /// Takes round two's joined messages, in any order, for the return that waits under an id; gives
-/// the verdict. Order of refusals: 11, 12.
+/// the verdict. A rejected return is decided, an accepted one waits for entry. Order of refusals:
+/// 11, 12.
 pub fn round_two(
     table: &mut [u8],
     slots: &mut [Slot],
@@ -218,17 +220,30 @@ pub fn round_two(
     let sigma = sigma(&found, own == 0, found.d, found.e);
     let written = round_two_message(id, own, sigma, found.tau);
     let sums = round_two_sums(table.servers(), &written, joined)?;
-    let verdict = if sums == (0, 0) {
-        table.accept(at);
-        Verdict::Accepted
-    } else {
-        Verdict::Rejected
-    };
-    table.decide(at);
-    Ok(verdict)
+    if sums != (0, 0) {
+        table.decide(at);
+        return Ok(Verdict::Rejected);
+    }
+    table.slots[at].stage = AWAITS_ENTRY;
+    Ok(Verdict::Accepted)
 }
 
-/// Drops the return that waits under an id, which stays used. Refusal: 11.
+/// Enters the accepted return that waits under an id: adds its published entries to the totals.
+/// Refusal: 11.
+pub fn enter(
+    table: &mut [u8],
+    slots: &mut [Slot],
+    elements: &mut [u32],
+    id: u32,
+) -> Result<(), u32> {
+    let mut table = Table::look_over(table, slots, elements)?;
+    let at = awaits(&table, id, AWAITS_ENTRY)?;
+    table.enter(at);
+    table.decide(at);
+    Ok(())
+}
+
+/// Drops the return that waits under an id, accepted or not; the id stays used. Refusal: 11.
 pub fn drop(
     table: &mut [u8],
     slots: &mut [Slot],
@@ -241,7 +256,7 @@ pub fn drop(
     Ok(())
 }
 
-/// Closes the table when at least Q returns are accepted; writes the closing message and gives
+/// Closes the table when at least Q returns are entered; writes the closing message and gives
 /// its length. Order of refusals: 11, 15, 14.
 pub fn close(
     table: &mut [u8],
@@ -253,15 +268,15 @@ pub fn close(
     if table.waiting > 0 {
         return Err(refusal::STAGE);
     }
-    // "Too few accepted is refused 15, between 11 and 14."
-    if table.accepted < table.least {
+    // "Too few accepted is refused 15, between 11 and 14", where "accepted now reads entered".
+    if table.entered < table.least {
         return Err(refusal::FEW);
     }
     let length = 6 + field::WIDTH * table.totals.len();
     let out = out.get_mut(..length).ok_or(refusal::ROOM)?;
     out[0] = CLOSING;
     out[1] = table.own() as u8;
-    out[2..6].copy_from_slice(&(table.accepted as u32).to_le_bytes());
+    out[2..6].copy_from_slice(&(table.entered as u32).to_le_bytes());
     out[6..].copy_from_slice(table.totals.as_flattened());
     table.close();
     Ok(length)

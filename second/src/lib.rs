@@ -45,4 +45,6 @@ pub use recount::recount;
 pub use sheet::{Column, Sheet};
 pub use shelf::{shelve, unshelve};
 pub use sizes::{sizes, Sizes};
-pub use table::{close, drop, open, round_one, round_two, share, Stage, Table, Verdict, PLACES};
+pub use table::{
+    close, drop, enter, open, round_one, round_two, share, Stage, Table, Verdict, PLACES,
+};

@@ -28,7 +28,7 @@ pub const JOINED: u32 = 12;
 pub const FULL: u32 = 13;
 /// Output buffer too short.
 pub const ROOM: u32 = 14;
-/// Fewer than Q returns accepted.
+/// Fewer than Q returns entered.
 pub const FEW: u32 = 15;
 /// Challenges that differ among round one messages.
 pub const UNEQUAL: u32 = 16;

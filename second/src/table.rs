@@ -21,14 +21,16 @@ pub enum Stage {
     AwaitsRoundOne,
     /// Takes round two's joined messages or a drop.
     AwaitsRoundTwo,
+    /// Accepted: takes an entry or a drop.
+    AwaitsEntry,
 }
 
 /// The verdict on a return.
 #[derive(Clone, Copy, Debug, PartialEq, Eq)]
 pub enum Verdict {
-    /// Both sums were 0 modulo p; the published entries are in the totals.
+    /// Both sums were 0 modulo p; the return waits until it is entered or dropped.
     Accepted,
-    /// One of the sums was not 0.
+    /// One of the sums was not 0; the return is decided.
     Rejected,
 }
 
@@ -92,9 +94,9 @@ impl<F> Table<F> {
         &self.state.decided
     }
 
-    /// The number of accepted returns.
-    pub fn accepted(&self) -> u32 {
-        self.state.accepted
+    /// The number of entered returns.
+    pub fn entered(&self) -> u32 {
+        self.state.entered
     }
 
     /// The ids that wait with their stages, in the order of their places.
@@ -109,10 +111,10 @@ impl<F> Table<F> {
         waiting.find(|own| own.id == id).map(|own| own.stage())
     }
 
-    /// The message that this table wrote last for an id that waits.
+    /// The message that this table wrote for the round that an id waits for.
     pub fn waiting_message(&self, id: u32) -> Option<&[u8]> {
         let mut waiting = self.state.waiting();
-        waiting.find(|own| own.id == id).map(|own| own.message())
+        waiting.find(|own| own.id == id)?.message()
     }
 }
 
@@ -162,17 +164,24 @@ pub fn round_one<F>(
 }
 
 /// Takes round two's joined messages, in any order, for the return that waits under an id;
-/// gives the verdict. Order of refusals: 11, 12.
+/// gives the verdict. A rejected return is decided, an accepted one waits for entry. Order of
+/// refusals: 11, 12.
 pub fn round_two<F>(table: &mut Table<F>, id: u32, joined: &[u8]) -> Result<Verdict, u32> {
     table.state.round_two(id, joined)
 }
 
-/// Drops the return that waits under an id, which stays used. Refusal: 11.
+/// Enters the accepted return that waits under an id: adds its published entries to the totals.
+/// Refusal: 11.
+pub fn enter<F>(table: &mut Table<F>, id: u32) -> Result<(), u32> {
+    table.state.enter(id)
+}
+
+/// Drops the return that waits under an id, accepted or not; the id stays used. Refusal: 11.
 pub fn drop<F>(table: &mut Table<F>, id: u32) -> Result<(), u32> {
     table.state.drop(id)
 }
 
-/// Closes the table when at least Q returns are accepted; gives the closing message. Order of
+/// Closes the table when at least Q returns are entered; gives the closing message. Order of
 /// refusals: 11, 15, 14.
 pub fn close<F>(table: &mut Table<F>, room: usize) -> Result<Vec<u8>, u32> {
     table.state.close(room)

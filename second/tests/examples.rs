@@ -252,7 +252,7 @@ fn a_pool_by_hand() {
             .chunks(shape.share_length())
             .map(<[u8]>::to_vec)
             .collect();
-        let (_, _, verdict) = judge(&mut tables, &shares, 1000, 77);
+        let verdict = take(&mut tables, &shares, 1000, 77);
         assert_eq!(verdict, Verdict::Accepted);
     }
     let closings: Vec<u8> = tables

@@ -75,18 +75,18 @@ fn order_of_opening() {
     }
 }
 
-/// 15 with fewer than Q accepted, the closing message with Q and with more.
+/// 15 with fewer than Q entered, the closing message with Q and with more.
 #[test]
 fn from_q_on() {
     for (limit, least) in [(1, 1), (2, 1), (2, 2), (5, 3), (10, 9), (10, 10)] {
         let mut pool = Pool::open(3, limit, least);
-        for accepted in 0..limit {
-            if accepted < least {
+        for entered in 0..limit {
+            if entered < least {
                 pool.refused(15, CLOSE);
             } else {
                 pool.clone().closed();
             }
-            pool.take(End::Accepted);
+            pool.take(End::Entered);
         }
         assert_eq!(pool.closed().count, limit);
     }
@@ -97,11 +97,11 @@ fn from_q_on() {
 fn order_of_closing() {
     let rooms = [0, 1, 5, 17, 18, 1000].map(|room| Call::Close { room });
     let mut pool = Pool::open(2, 5, 2);
-    pool.take(End::Accepted);
+    pool.take(End::Entered);
     for close in &rooms {
         pool.refused(15, close.clone());
     }
-    // 11 before 15: a return waits, for either round.
+    // 11 before 15: a return waits, for either round or for entry.
     let mut waiting = pool.clone();
     let id = waiting.share();
     for close in &rooms {
@@ -111,10 +111,14 @@ fn order_of_closing() {
     for close in &rooms {
         waiting.refused(11, close.clone());
     }
+    waiting.accept(id);
+    for close in &rooms {
+        waiting.refused(11, close.clone());
+    }
     waiting.drop(id);
     waiting.refused(15, CLOSE);
     // 15 goes away before 14.
-    pool.take(End::Accepted);
+    pool.take(End::Entered);
     for close in &rooms[..4] {
         pool.refused(14, close.clone());
     }
@@ -124,7 +128,7 @@ fn order_of_closing() {
     }
 }
 
-/// A lent table that is unsound or closed, with too few accepted and no room: 11.
+/// A lent table that is unsound or closed, with too few entered and no room: 11.
 #[test]
 fn unsound_before_too_few() {
     let table = Lent::open(2, 0, &SHEET, 5, 3).unwrap();
@@ -148,20 +152,28 @@ fn unsound_before_too_few() {
     }
 }
 
+/// The ends that do not count.
+const NOT_ENTERED: [End; 4] = [
+    End::Rejected,
+    End::Dropped,
+    End::DroppedLate,
+    End::DroppedAccepted,
+];
+
 #[test]
 fn rejected_and_dropped_do_not_count() {
-    let mut pool = Pool::open(2, 9, 2);
-    for end in [End::Rejected, End::Dropped, End::DroppedLate] {
+    let mut pool = Pool::open(2, 10, 2);
+    for end in NOT_ENTERED {
         pool.take(end);
         pool.refused(15, CLOSE);
     }
-    pool.take(End::Accepted);
-    for end in [End::Rejected, End::Dropped, End::DroppedLate] {
+    pool.take(End::Entered);
+    for end in NOT_ENTERED {
         pool.refused(15, CLOSE);
         pool.take(end);
     }
     pool.refused(15, CLOSE);
-    pool.take(End::Accepted);
+    pool.take(End::Entered);
     assert_eq!(pool.closed().count, 2);
 }
 
@@ -169,14 +181,15 @@ fn rejected_and_dropped_do_not_count() {
 #[test]
 fn a_15_changes_nothing() {
     let ends = [
-        End::Accepted,
+        End::Entered,
         End::Rejected,
         End::Dropped,
-        End::Accepted,
+        End::Entered,
         End::DroppedLate,
-        End::Accepted,
+        End::DroppedAccepted,
+        End::Entered,
     ];
-    let [mut tried, mut quiet] = [(); 2].map(|()| Pool::open(3, 6, 3));
+    let [mut tried, mut quiet] = [(); 2].map(|()| Pool::open(3, 7, 3));
     for end in ends {
         for room in [0, 17, 1000] {
             tried.refused(15, Call::Close { room });
@@ -189,14 +202,16 @@ fn a_15_changes_nothing() {
     assert_eq!(tried.closed(), quiet.closed());
 }
 
-/// N decided and fewer than Q accepted: every share is 13 and every close 15, for ever.
+/// N decided and fewer than Q entered: every share is 13 and every close 15, for ever.
 #[test]
 fn pools_that_never_close() {
     for (least, ends) in [
         (1, [End::Rejected, End::Dropped, End::DroppedLate]),
-        (2, [End::Accepted, End::Dropped, End::Rejected]),
-        (3, [End::Accepted, End::Rejected, End::Accepted]),
-        (3, [End::DroppedLate, End::Accepted, End::Accepted]),
+        (1, [End::DroppedAccepted; 3]),
+        (2, [End::Entered, End::Dropped, End::Rejected]),
+        (3, [End::Entered, End::Rejected, End::Entered]),
+        (3, [End::DroppedLate, End::Entered, End::Entered]),
+        (3, [End::Entered, End::DroppedAccepted, End::Entered]),
     ] {
         let mut pool = Pool::open(2, 3, least);
         for end in ends {
@@ -207,6 +222,7 @@ fn pools_that_never_close() {
             pool.refused(15, CLOSE);
             pool.refused(15, Call::Close { room: 0 });
             pool.refused(13, pool.share_call(0, id));
+            pool.refused(11, Call::Enter { id });
             pool.refused(11, Call::Drop { id });
         }
         assert!(pool == before && !pool.tables[0].plain.closed());
@@ -219,9 +235,9 @@ fn pools_that_never_close() {
 fn opened_alike() {
     for servers in 2..=8 {
         let mut pool = Pool::open(servers, 4, 2);
-        pool.take(End::Accepted);
+        pool.take(End::Entered);
         pool.refused(15, CLOSE);
-        pool.take(End::Accepted);
+        pool.take(End::Entered);
         pool.closed();
     }
     let mut pool = Pool::open(2, 4, 2);
@@ -231,7 +247,7 @@ fn opened_alike() {
     let bytes = two.lent.bytes.iter().zip(&one.lent.bytes).enumerate();
     let differs = bytes.filter(|(_, (two, one))| two != one);
     assert_eq!(differs.map(|(at, _)| at).collect::<Vec<_>>(), [10]);
-    pool.take(End::Accepted);
+    pool.take(End::Entered);
     assert_eq!(pool.tables[0].call(&CLOSE), Answer::Refused(15));
     assert!(matches!(pool.tables[1].call(&CLOSE), Answer::Message(_)));
 }
@@ -240,7 +256,7 @@ fn opened_alike() {
 #[test]
 fn joining_knows_no_q() {
     let mut pool = Pool::open(2, 5, 4);
-    (0..4).for_each(|_| pool.take(End::Accepted));
+    (0..4).for_each(|_| pool.take(End::Entered));
     let messages = pool.closings();
     for (limit, number) in [(4, None), (5, None), (1024, None), (3, Some(12))] {
         assert_eq!(join(2, &SHEET, limit, &messages, ROOM).err(), number);
@@ -266,7 +282,7 @@ fn joining_knows_no_q() {
 #[test]
 fn closing_room() {
     let mut pool = Pool::open(2, 3, 1);
-    pool.take(End::Accepted);
+    pool.take(End::Entered);
     for room in 0..6 + 4 * 3 {
         pool.refused(14, Call::Close { room });
     }

@@ -65,10 +65,13 @@ impl Model {
                 slot.stage = 2;
                 (slot.d, slot.e) = sums(joined);
             }
-            Call::RoundTwo { id, .. } => {
-                if *answer == Answer::Verdict(Verdict::Accepted) {
-                    self.accept(*id);
-                }
+            Call::RoundTwo { id, .. } if *answer == Answer::Verdict(Verdict::Accepted) => {
+                let record = self.record(*id);
+                self.slots[record].stage = 3;
+            }
+            Call::RoundTwo { id, .. } => self.decide(*id),
+            Call::Enter { id } => {
+                self.enter(*id);
                 self.decide(*id);
             }
             Call::Drop { id } => self.decide(*id),
@@ -122,7 +125,7 @@ impl Model {
         (field::sub(rh, sigma), tau)
     }
 
-    fn accept(&mut self, id: u32) {
+    fn enter(&mut self, id: u32) {
         let place = self.width() * self.record(id);
         let mut at = 14 + self.bytes[12] as usize + 256 * self.bytes[13] as usize;
         for entry in self.sheet.published_entries() {

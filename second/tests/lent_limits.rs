@@ -22,14 +22,14 @@ const SHEETS: [&[u8]; 5] = [
 #[test]
 fn header_and_sheet_bytes_changed() {
     for (sheet, limit) in [
-        (&[17, 18, 3, 19, 24][..], 5),
+        (&[17, 18, 3, 19, 24][..], 6),
         (&[17], 6),
         (&[17; 9], 1024),
-        (&[20, 5, 0, 0, 0, 17], 5),
+        (&[20, 5, 0, 0, 0, 17], 6),
     ] {
         let Stages { tables, calls } = stages(sheet, limit);
         for (number, table) in tables.iter().enumerate() {
-            assert_eq!(check(table, &calls), number < 4);
+            assert_eq!(check(table, &calls), number < 5);
             for at in 0..14 + sheet.len() {
                 for byte in 0..=255 {
                     let other = changed(table, |t| t.bytes[at] = byte);
@@ -45,7 +45,7 @@ fn header_and_sheet_bytes_changed() {
 fn counts_at_their_limits() {
     let Stages { tables, calls } = stages(&[17], 6);
     let put = |table: &Lent, at, number| check(&put(table, at, number), &calls);
-    let counts = [(2, 0), (2, 1), (2, 1), (3, 2)];
+    let counts = [(2, 0), (2, 1), (2, 1), (2, 1), (3, 3)];
     for (table, (decided, waiting)) in tables.iter().zip(counts) {
         assert_eq!(table.bytes[4..12], [6, 0, decided as u8, 0, 1, 0, 1, 0]);
         assert!(put(table, 6, 6 - waiting) && !put(table, 6, 7 - waiting));
@@ -68,7 +68,7 @@ fn records_at_their_limits() {
     for sheet in SHEETS {
         let Stages { tables, calls } = stages(sheet, 8);
         let gates = Sheet::read(sheet).unwrap().multiplications() as u64;
-        for (table, record) in tables[..4].iter().flat_map(|t| (0..8).map(move |i| (t, i))) {
+        for (table, record) in tables[..5].iter().flat_map(|t| (0..8).map(move |i| (t, i))) {
             let free = table.slots[record].stage == 0;
             let with = |change: &dyn Fn(&mut Slot)| {
                 let other = changed(table, |t| change(&mut t.slots[record]));
@@ -89,13 +89,14 @@ fn records_at_their_limits() {
             for id in [0, 1, 2, 3, 5, u32::MAX] {
                 assert!(with(&|slot| slot.id = id));
             }
-            for stage in [3, 4, 255, 256, 257, 1 << 31, u32::MAX] {
+            for stage in [4, 5, 255, 256, 257, 259, 1 << 31, u32::MAX] {
                 assert!(!with(&|slot| slot.stage = stage));
             }
             // A record of 0 has no r above M.
             assert!(with(&|slot| slot.stage = 0));
-            assert_eq!(with(&|slot| slot.stage = 1), !free);
-            assert_eq!(with(&|slot| slot.stage = 2), !free);
+            for stage in 1..=3 {
+                assert_eq!(with(&|slot| slot.stage = stage), !free);
+            }
         }
     }
 }
@@ -104,9 +105,9 @@ fn records_at_their_limits() {
 #[test]
 fn elements_at_their_limits() {
     for sheet in SHEETS {
-        let Stages { tables, calls } = stages(sheet, 5);
+        let Stages { tables, calls } = stages(sheet, 6);
         let published = Sheet::read(sheet).unwrap().published();
-        for table in &tables[..4] {
+        for table in &tables[..5] {
             let width = table.run / 8;
             for at in 0..table.numbers.len() {
                 // Past the run all is free as well.
@@ -141,9 +142,9 @@ fn elements_at_their_limits() {
 /// Too few bytes, too few numbers, other than eight records.
 #[test]
 fn short_and_long_parts() {
-    let Stages { tables, calls } = stages(&[17, 18, 3, 19, 5], 5);
+    let Stages { tables, calls } = stages(&[17, 18, 3, 19, 5], 6);
     for (number, table) in tables.iter().enumerate() {
-        let fits = |fits: bool| fits && number < 4;
+        let fits = |fits: bool| fits && number < 5;
         for length in 0..table.bytes.len() {
             let other = changed(table, |t| t.bytes.truncate(length));
             assert_eq!(check(&other, &calls), fits(length >= table.length));
@@ -166,7 +167,7 @@ fn short_and_long_parts() {
                 length,
                 run,
             };
-            assert_eq!(taken(&table, &calls), [false; 6]);
+            assert_eq!(taken(&table, &calls), [false; 8]);
         }
     }
 }
@@ -176,9 +177,9 @@ fn short_and_long_parts() {
 #[test]
 fn ids_that_come_twice() {
     let Stages { tables, calls } = stages(&[17, 19, 3], 8);
-    let both = &tables[3];
-    assert_eq!((both.slots[0].id, both.slots[0].stage), (3, 1));
-    assert_eq!((both.slots[2].id, both.slots[2].stage), (5, 2));
+    let both = &tables[4];
+    let told = both.slots.iter().map(|slot| (slot.id, slot.stage));
+    assert!(told.take(4).eq([(3, 1), (0, 0), (5, 2), (6, 3)]));
     // Both records under 5: the first one awaits round one.
     let twice = changed(both, |t| t.slots[0].id = 5);
     assert!(check(&twice, &calls));
@@ -204,6 +205,33 @@ fn ids_that_come_twice() {
         Answer::Verdict(_)
     ));
     assert_eq!(sound(&decided), sound(both));
+}
+
+/// The first record that waits under an id counts for entering too.
+#[test]
+fn entries_of_ids_that_come_twice() {
+    let Stages { tables, calls } = stages(&[17, 19, 3], 8);
+    let all = &tables[4];
+    let twice = changed(all, |t| t.slots[0].id = 6);
+    assert!(check(&twice, &calls));
+    let enter = Call::Enter { id: 6 };
+    assert_eq!(twice.clone().call(&enter), Answer::Refused(11));
+    let mut dropped = twice.clone();
+    assert_eq!(dropped.call(&Call::Drop { id: 6 }), Answer::Dropped);
+    assert_eq!(dropped.slots[3], all.slots[3]);
+    assert_eq!(dropped.call(&enter), Answer::Entered);
+    // Two that await entry: each is added by an entry of its own.
+    let both = changed(all, |t| {
+        t.slots[0] = t.slots[3];
+        let width = t.run / 8;
+        t.numbers.copy_within(3 * width..4 * width, 0);
+    });
+    let mut once = both.clone();
+    assert_eq!(once.call(&enter), Answer::Entered);
+    assert_eq!((once.slots[0].stage, once.slots[3].stage), (0, 3));
+    assert_eq!(once.call(&enter), Answer::Entered);
+    assert_eq!(once.call(&enter), Answer::Refused(11));
+    assert_eq!(once.bytes[8], all.bytes[8] + 2);
 }
 
 /// Eight records that wait in a table with N = 1,024: the last place counts as the others.
@@ -235,7 +263,7 @@ fn all_eight_places() {
 fn free_parts_have_no_say() {
     for sheet in SHEETS {
         let Stages { tables, calls } = stages(sheet, 8);
-        for table in &tables[..4] {
+        for table in &tables[..5] {
             let width = table.run / 8;
             let full = changed(table, |t| {
                 for record in (0..8).filter(|&i| table.slots[i].stage == 0) {

@@ -8,9 +8,7 @@ use common::lent_table::Lent;
 use common::twins::Twins;
 use common::*;
 use second::gen::{self, Answer, Call, Origin, Return, Rng, Script, Server, Step};
-use second::{open, Sheet, Verdict};
-
-const ACCEPTED: Answer = Answer::Verdict(Verdict::Accepted);
+use second::{open, Sheet, Stage};
 
 /// Some calls with their answers.
 type Course = Vec<(Call, Answer)>;
@@ -28,15 +26,10 @@ fn alone(setting: &Setting, given: &Return, rng: &mut Rng) -> Course {
     } = *setting;
     let open = |own| open(servers, own, sheet, limit, least).unwrap();
     let mut tables: Vec<_> = (0..servers).map(open).collect();
-    let share = |own: usize| Call::Share {
-        message: given.shares[own].clone(),
-        r: given.r,
-        s: given.s,
-        room: ONE_BYTES,
-    };
     let mut course = Course::new();
+    let share = |own| share_of(given, own);
     let joined = everywhere(setting.own, &mut tables, &mut course, share);
-    // Some are dropped in the first wait, some in the second.
+    // Some are dropped in the first wait, some in the second, some when they are accepted.
     let last = rng.below(8);
     if last > 0 {
         let one = Call::RoundOne {
@@ -48,11 +41,25 @@ fn alone(setting: &Setting, given: &Return, rng: &mut Rng) -> Course {
         if last > 1 {
             let two = Call::RoundTwo { id, joined };
             everywhere(setting.own, &mut tables, &mut course, |_| two.clone());
-            return course;
         }
     }
-    everywhere(setting.own, &mut tables, &mut course, |_| Call::Drop { id });
+    let end = match tables[0].stage(id) {
+        None => return course,
+        Some(Stage::AwaitsEntry) if last > 2 => Call::Enter { id },
+        Some(_) => Call::Drop { id },
+    };
+    everywhere(setting.own, &mut tables, &mut course, |_| end.clone());
     course
+}
+
+/// A return's share at a server.
+fn share_of(given: &Return, own: usize) -> Call {
+    Call::Share {
+        message: given.shares[own].clone(),
+        r: given.r,
+        s: given.s,
+        room: ONE_BYTES,
+    }
 }
 
 /// A call at every server; notes that of one server, and gives the messages, joined.
@@ -134,8 +141,8 @@ fn shuffled(call: &Call, rng: &mut Rng) -> Call {
 
 /// Mixes courses at one table, each in its order, never more than eight waiting; every answer
 /// is the one that it got alone, where the joined messages stood in server order. Then closes,
-/// where enough are accepted. Gives how many waited at most.
-fn mixed(setting: &Setting, courses: &[Course], rng: &mut Rng) -> usize {
+/// where enough are entered. Gives how many waited at most, and for entry.
+fn mixed(setting: &Setting, courses: &[Course], rng: &mut Rng) -> [usize; 2] {
     let Setting {
         servers,
         own,
@@ -145,7 +152,7 @@ fn mixed(setting: &Setting, courses: &[Course], rng: &mut Rng) -> usize {
     } = *setting;
     let mut table = Twins::open(servers, own, sheet, limit, least);
     let mut done = vec![0; courses.len()];
-    let mut most = 0;
+    let mut most = [0, 0];
     let left = |done: &[usize]| -> Vec<usize> {
         let places = 0..done.len();
         places.filter(|&i| done[i] < courses[i].len()).collect()
@@ -161,13 +168,16 @@ fn mixed(setting: &Setting, courses: &[Course], rng: &mut Rng) -> usize {
         }
         assert_eq!(table.call(&call), *answer, "{call}");
         done[i] += 1;
-        most = most.max(table.plain.waiting().len());
+        let waiting = table.plain.waiting();
+        let accepted = |(_, stage): &&(u32, Stage)| *stage == Stage::AwaitsEntry;
+        let counts = [waiting.len(), waiting.iter().filter(accepted).count()];
+        most = std::array::from_fn(|k| counts[k].max(most[k]));
     }
-    let accepted = |course: &&Course| course.iter().any(|(_, answer)| *answer == ACCEPTED);
-    let accepted = courses.iter().filter(accepted).count();
+    let entered = |course: &&Course| course.iter().any(|(_, answer)| *answer == Answer::Entered);
+    let entered = courses.iter().filter(entered).count();
     match table.call(&Call::Close { room: ROOM }) {
-        Answer::Message(_) => assert!(accepted >= least as usize),
-        answer => assert!(answer == Answer::Refused(15) && accepted < least as usize),
+        Answer::Message(_) => assert!(entered >= least as usize),
+        answer => assert!(answer == Answer::Refused(15) && entered < least as usize),
     }
     most
 }
@@ -176,17 +186,20 @@ fn mixed(setting: &Setting, courses: &[Course], rng: &mut Rng) -> usize {
 #[test]
 fn eight_returns_mixed() {
     let mut rng = Rng::new(61);
-    let (mut runs, mut full) = (0, 0);
+    let (mut runs, mut full, mut accepted) = (0, 0, 0);
     while runs < 300 {
         let returns = rng.pick([3, 8, 8, 12]);
         let Some(setting) = Setting::random(&mut rng, 10, returns) else {
             continue;
         };
         let courses = setting.courses(&mut rng, returns);
-        full += usize::from(mixed(&setting, &courses, &mut rng) == 8);
+        let most = mixed(&setting, &courses, &mut rng);
+        full += usize::from(most[0] == 8);
+        accepted += usize::from(most[1] > 2);
         runs += 1;
     }
     assert!(full > 30, "{full} times eight waited");
+    assert!(accepted > 30, "{accepted} times three waited for entry");
 }
 
 /// The same with sheets of full size, on which a share has up to 774 elements.
@@ -210,7 +223,8 @@ fn eight_large_returns_mixed() {
 fn named(call: &Call) -> Option<u32> {
     match call {
         Call::Share { message, .. } => Some(id_of(message)),
-        Call::RoundOne { id, .. } | Call::RoundTwo { id, .. } | Call::Drop { id } => Some(*id),
+        Call::RoundOne { id, .. } | Call::RoundTwo { id, .. } => Some(*id),
+        Call::Enter { id } | Call::Drop { id } => Some(*id),
         Call::Close { .. } => None,
     }
 }

@@ -188,6 +188,7 @@ fn each_server_its_own_order() {
     let mut sorted = open_all(3, &SHEET, 5);
     let (first, second, verdict) = judge(&mut sorted, &shares, 100, 3);
     assert_eq!(verdict, Verdict::Accepted);
+    enter_all(&mut sorted, ID);
     let closings = sorted.iter_mut().map(|table| close(table, ROOM).unwrap());
     let closings: Vec<Vec<u8>> = closings.collect();
     for from in 0..6 {
@@ -203,6 +204,7 @@ fn each_server_its_own_order() {
             let joined = ordered(&second, order(own));
             let two = table.call(&Call::RoundTwo { id: ID, joined });
             assert_eq!(two, Answer::Verdict(Verdict::Accepted));
+            assert_eq!(table.call(&Call::Enter { id: ID }), Answer::Entered);
             let close = table.call(&Call::Close { room: 1000 });
             assert_eq!(close, Answer::Message(closings[own].clone()));
         }

@@ -4,7 +4,7 @@ mod common;
 
 use common::*;
 use second::gen::Rng;
-use second::{close, drop, join, make, open, round_one, round_two, share, shelve, unshelve};
+use second::{close, drop, enter, join, make, open, round_one, round_two, share, shelve, unshelve};
 use second::{Joined, Sheet};
 
 #[test]
@@ -219,6 +219,7 @@ fn any_bytes_at_every_call() {
         let _ = share(&mut table, &bytes, r, s, ROOM);
         let _ = round_one(&mut table, number, &bytes, ROOM);
         let _ = round_two(&mut table, number, &bytes);
+        let _ = enter(&mut table, number);
         let _ = drop(&mut table, number);
         let _ = close(&mut table, length);
     }

@@ -27,7 +27,7 @@ fn play(met: &mut Met, script: &Script) {
     for step in &script.steps {
         let table = &mut tables[step.server as usize];
         assert_eq!(table.call(&step.call), step.answer);
-        let few = table.accepted() < least;
+        let few = table.entered() < least;
         let full = few && table.decided().len() == limit as usize;
         // What a pool that can never close still answers, besides the closes of any.
         if matches!(step.call, Call::Close { .. }) || (full && step.answer == FULL) {
@@ -85,7 +85,7 @@ fn orderly_closes() {
         play(&mut met, &script);
         note(&mut met, "scripts closed", script.truth.is_some());
     }
-    enough(&met, &[("scripts closed", 250), ("closed", 1200)]);
+    enough(&met, &[("scripts closed", 225), ("closed", 1100)]);
     enough(
         &met,
         &[("15, then closed", 100), ("15 with N decided", 100)],

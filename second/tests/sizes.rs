@@ -99,7 +99,7 @@ fn what_the_calls_give() {
         assert_eq!(made.len(), 2 * told.share_bytes);
         let mut tables = open_all(2, &sheet, told.greatest_limit);
         let shares = split(&Sheet::read(&sheet).unwrap(), &made);
-        judge(&mut tables, &shares, 1000, 3);
+        take(&mut tables, &shares, 1000, 3);
         let closing = second::close(&mut tables[0], ROOM).unwrap();
         assert_eq!(closing.len(), 6 + 4 * told.published);
     }

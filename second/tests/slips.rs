@@ -153,10 +153,11 @@ fn beside_others() {
         let two = Call::RoundTwo { id, joined };
         for table in &mut tables {
             assert_eq!(table.call(&two), Answer::Verdict(Verdict::Accepted));
+            assert_eq!(table.call(&Call::Enter { id }), Answer::Entered);
         }
     }
     for table in &tables {
         assert_eq!(table.plain.decided(), [0, 1, 2, 3, 4, 5, 6, 7]);
-        assert_eq!(table.plain.accepted(), 6);
+        assert_eq!(table.plain.entered(), 6);
     }
 }

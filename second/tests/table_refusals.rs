@@ -4,18 +4,8 @@ mod common;
 
 use common::*;
 use second::field::P;
-use second::{close, drop, open, round_one, round_two, share, Sheet, Stage, Table, Verdict};
-
-/// A call that is refused with this number and changes nothing.
-fn refused<T: std::fmt::Debug + PartialEq>(
-    table: &mut Table,
-    number: u32,
-    call: impl FnOnce(&mut Table) -> Result<T, u32>,
-) {
-    let before = table.clone();
-    assert_eq!(call(table), Err(number));
-    assert_eq!(*table, before);
-}
+use second::{close, drop, enter, open, round_one, round_two, share};
+use second::{Sheet, Stage, Table, Verdict};
 
 /// Two tables that await round one, with the joined messages of round one.
 fn waiting(sheet: &[u8], limit: u32) -> (Vec<Table>, Vec<u8>) {
@@ -49,6 +39,8 @@ fn share_order() {
     let table = &mut tables[0];
     round_two(table, 7, &second).unwrap();
     refused(table, 13, |t| share(t, &[], 0, P, 0));
+    enter(table, 7).unwrap();
+    refused(table, 13, |t| share(t, &[], 0, P, 0));
     close(table, ROOM).unwrap();
     refused(table, 11, |t| share(t, &[], 0, P, 0));
 
@@ -74,59 +66,6 @@ fn share_order() {
 }
 
 #[test]
-fn share_message_faults() {
-    let sheet = [17, 19, 3];
-    let shares = honest(&sheet, 3, 1);
-    let mut table = open(3, 1, &sheet, 5, 1).unwrap();
-    let good = &shares[1];
-    // Every other kind byte, every other server.
-    for byte in (0..=255).filter(|&byte| byte != 33) {
-        let message = with(good, 0, &[byte]);
-        refused(&mut table, 7, |t| share(t, &message, 100, 0, ONE_BYTES));
-    }
-    for byte in (0..=255).filter(|&byte| byte != 1) {
-        let message = with(good, 5, &[byte]);
-        refused(&mut table, 7, |t| share(t, &message, 100, 0, ONE_BYTES));
-    }
-    // Every shorter length, some longer ones.
-    for length in (0..good.len()).chain([good.len() + 1, good.len() + 4, good.len() + 1000]) {
-        let message = resized(good, length);
-        refused(&mut table, 7, |t| share(t, &message, 100, 0, ONE_BYTES));
-    }
-    // Every element.
-    for at in (6..good.len()).step_by(4) {
-        for large in [P32, P32 + 1, u32::MAX] {
-            let message = with(good, at, &large.to_le_bytes());
-            refused(&mut table, 8, |t| share(t, &message, 100, 0, ONE_BYTES));
-        }
-    }
-    challenges(&mut table, good);
-}
-
-/// Challenges outside their range, never cut: M = 4.
-fn challenges(table: &mut Table, good: &[u8]) {
-    for r in [
-        0,
-        1,
-        3,
-        4,
-        P,
-        P + 1,
-        (1 << 32) + 4,
-        (1 << 32) + 100,
-        u64::MAX,
-    ] {
-        refused(table, 9, |t| share(t, good, r, 0, ONE_BYTES));
-    }
-    for s in [P, P + 1, 1 << 32, (1 << 32) + 1, u64::MAX] {
-        refused(table, 9, |t| share(t, good, 5, s, ONE_BYTES));
-    }
-    for (r, s) in [(5, 0), (8, P - 1), (9, 1), (P - 1, P - 1)] {
-        assert!(share(&mut table.clone(), good, r, s, ONE_BYTES).is_ok());
-    }
-}
-
-#[test]
 fn stages() {
     let sheet = [17];
     let (mut tables, first) = waiting(&sheet, 3);
@@ -135,12 +74,13 @@ fn stages() {
     // A table at which nothing waits takes a share or a close.
     refused(&mut idle, 11, |t| round_one(t, 7, &first, TWO_BYTES));
     refused(&mut idle, 11, |t| round_two(t, 7, &first));
+    refused(&mut idle, 11, |t| enter(t, 7));
     refused(&mut idle, 11, |t| drop(t, 7));
     // A return that awaits round one takes that round or a drop.
-    let shares = honest(&sheet, 2, 9);
     let table = &mut tables[0];
     assert_eq!(table.waiting(), [(7, Stage::AwaitsRoundOne)]);
     refused(table, 11, |t| round_two(t, 7, &first));
+    refused(table, 11, |t| enter(t, 7));
     refused(table, 11, |t| close(t, ROOM));
     assert_eq!(table.waiting_message(7).unwrap(), &first[..ONE_BYTES]);
     assert_eq!(drop(&mut table.clone(), 7), Ok(()));
@@ -149,19 +89,34 @@ fn stages() {
     let table = &mut tables[0];
     assert_eq!(table.waiting(), [(7, Stage::AwaitsRoundTwo)]);
     refused(table, 11, |t| round_one(t, 7, &first, TWO_BYTES));
+    refused(table, 11, |t| enter(t, 7));
     refused(table, 11, |t| close(t, ROOM));
     assert_eq!(table.waiting_message(7).unwrap(), &second[..TWO_BYTES]);
     assert_eq!(drop(&mut table.clone(), 7), Ok(()));
     assert_eq!(round_two(table, 7, &second), Ok(Verdict::Accepted));
-    assert_eq!(table.waiting(), []);
-    refused(table, 11, |t| round_two(t, 7, &second));
-    refused(table, 11, |t| drop(t, 7));
-    // Closed takes nothing.
-    close(table, ROOM).unwrap();
-    assert!(table.closed());
-    refused(table, 11, |t| share(t, &shares[0], 100, 0, ONE_BYTES));
+    // An accepted return takes an entry or a drop.
+    assert_eq!(table.waiting(), [(7, Stage::AwaitsEntry)]);
+    assert_eq!(table.waiting_message(7), None);
     refused(table, 11, |t| round_one(t, 7, &first, TWO_BYTES));
     refused(table, 11, |t| round_two(t, 7, &second));
+    refused(table, 11, |t| close(t, ROOM));
+    assert_eq!(drop(&mut table.clone(), 7), Ok(()));
+    assert_eq!(enter(table, 7), Ok(()));
+    assert_eq!(table.waiting(), []);
+    refused(table, 11, |t| round_two(t, 7, &second));
+    refused(table, 11, |t| enter(t, 7));
+    refused(table, 11, |t| drop(t, 7));
+    closed_takes_nothing(table, &first, &second);
+}
+
+fn closed_takes_nothing(table: &mut Table, first: &[u8], second: &[u8]) {
+    close(table, ROOM).unwrap();
+    assert!(table.closed());
+    let shares = honest(&[17], 2, 9);
+    refused(table, 11, |t| share(t, &shares[0], 100, 0, ONE_BYTES));
+    refused(table, 11, |t| round_one(t, 7, first, TWO_BYTES));
+    refused(table, 11, |t| round_two(t, 7, second));
+    refused(table, 11, |t| enter(t, 7));
     refused(table, 11, |t| drop(t, 7));
     refused(table, 11, |t| close(t, ROOM));
 }
@@ -265,16 +220,16 @@ fn joined_second(table: &mut Table, second: &[u8], place: usize) {
 fn decided_ids_and_the_limit() {
     let sheet = [17];
     let mut tables = open_all(2, &sheet, 3);
-    let accepted = honest(&sheet, 2, 1);
-    assert_eq!(judge(&mut tables, &accepted, 5, 1).2, Verdict::Accepted);
+    let entered = honest(&sheet, 2, 1);
+    assert_eq!(take(&mut tables, &entered, 5, 1), Verdict::Accepted);
     let mut rejected = honest(&sheet, 2, 2);
     let last = rejected[0].len() - 4;
     let c = (u32::from_le_bytes(rejected[0][last..].try_into().unwrap()) + 1) % P32;
     rejected[0][last..].copy_from_slice(&c.to_le_bytes());
-    assert_eq!(judge(&mut tables, &rejected, 5, 1).2, Verdict::Rejected);
-    // Accepted and rejected ids are used; so are dropped ones.
+    assert_eq!(take(&mut tables, &rejected, 5, 1), Verdict::Rejected);
+    // Entered and rejected ids are used; so are dropped ones.
     for (server, table) in tables.iter_mut().enumerate() {
-        refused(table, 10, |t| share(t, &accepted[server], 5, 1, ONE_BYTES));
+        refused(table, 10, |t| share(t, &entered[server], 5, 1, ONE_BYTES));
         refused(table, 10, |t| share(t, &rejected[server], 5, 1, ONE_BYTES));
         let third = honest(&sheet, 2, 3);
         share(table, &third[server], 5, 1, ONE_BYTES).unwrap();
@@ -288,7 +243,7 @@ fn decided_ids_and_the_limit() {
     }
     // A dropped id is refused 10 while N is not reached.
     let mut table = open(2, 0, &sheet, 2, 1).unwrap();
-    share(&mut table, &accepted[0], 5, 1, ONE_BYTES).unwrap();
+    share(&mut table, &entered[0], 5, 1, ONE_BYTES).unwrap();
     drop(&mut table, 1).unwrap();
-    refused(&mut table, 10, |t| share(t, &accepted[0], 5, 1, ONE_BYTES));
+    refused(&mut table, 10, |t| share(t, &entered[0], 5, 1, ONE_BYTES));
 }

@@ -37,8 +37,8 @@ fn pool(rng: &mut Rng, bytes: &[u8]) {
         let random = gen::elements(rng, count);
         let messages = make(bytes, servers, id, &values, &random, ROOM).unwrap();
         let (r, s) = gen::pair(rng, sheet.multiplications());
-        let judged = judge(&mut tables, &split(&sheet, &messages), r, s);
-        assert_eq!(judged.2, Verdict::Accepted);
+        let verdict = take(&mut tables, &split(&sheet, &messages), r, s);
+        assert_eq!(verdict, Verdict::Accepted);
         add_values(&sheet, &values, &mut expected);
     }
     let closings = tables.iter_mut().map(|table| close(table, ROOM).unwrap());
@@ -95,7 +95,7 @@ fn a_full_pool() {
             }
         } else {
             let (r, s) = gen::pair(&mut rng, 1);
-            assert_eq!(judge(&mut tables, &shares, r, s).2, Verdict::Accepted);
+            assert_eq!(take(&mut tables, &shares, r, s), Verdict::Accepted);
             count += 1;
             total += value;
         }
@@ -125,8 +125,8 @@ fn every_return_at_the_top() {
         let random = gen::elements(&mut rng, shape.share_elements() + 4);
         let messages = fast::make(&sheet, 2, id, &words(&[top]), &random, ROOM).unwrap();
         let (r, s) = gen::pair(&mut rng, 48);
-        let judged = judge(&mut tables, &split(&shape, &messages), r, s);
-        assert_eq!(judged.2, Verdict::Accepted);
+        let verdict = take(&mut tables, &split(&shape, &messages), r, s);
+        assert_eq!(verdict, Verdict::Accepted);
     }
     let closings = tables.iter_mut().map(|table| close(table, ROOM).unwrap());
     let joined = closings.collect::<Vec<_>>().concat();
@@ -139,6 +139,21 @@ fn every_return_at_the_top() {
     );
 }
 
+/// Hours, and what is said to be left to 200.
+const HOURS: [(u64, u64); 11] = [
+    (200, 0),
+    (0, 200),
+    (199, 1),
+    (201, 255),
+    (201, 0),
+    (201, 1),
+    (255, 55),
+    (255, 201),
+    (200, 1),
+    (0, 0),
+    (256, 200),
+];
+
 /// Hours of 201 to 255 with a top of 200, the bits of v right, the others the bits of any
 /// number: made as a workshop makes a return, and rejected. With hours up to 200 and the bits of
 /// what is left to 200 it is accepted.
@@ -146,19 +161,7 @@ fn every_return_at_the_top() {
 fn hours_past_the_top() {
     let sheet = Sheet::read(&top_column(200)).unwrap();
     let mut rng = Rng::new(12);
-    for (value, rest) in [
-        (200, 0),
-        (0, 200),
-        (199, 1),
-        (201, 255),
-        (201, 0),
-        (201, 1),
-        (255, 55),
-        (255, 201),
-        (200, 1),
-        (0, 0),
-        (256, 200),
-    ] {
+    for (value, rest) in HOURS {
         let bits = |number: u64| (0..8).map(move |j| number >> j & 1);
         let entries: Vec<u64> = std::iter::once(value)
             .chain(bits(value))
@@ -167,11 +170,14 @@ fn hours_past_the_top() {
         let good = value + rest == 200;
         let given = Return::of_entries(&mut rng, &sheet, 3, 1, &entries);
         let mut tables = open_all(3, &top_column(200), 10);
-        // Hours that are accepted, so that the pool closes.
+        // Hours that are entered, so that the pool closes.
         let other = honest(&top_column(200), 3, 2);
-        judge(&mut tables, &other, 1000, 5);
+        take(&mut tables, &other, 1000, 5);
         let (_, second, verdict) = judge(&mut tables, &given.shares, given.r, 5);
         assert_eq!(verdict == Verdict::Accepted, good, "{value} {rest}");
+        if good {
+            enter_all(&mut tables, 1);
+        }
         // The polynomials are those of the entries: a test tells.
         assert_eq!(sums(&second).0, 0);
         let hours = added_up(&sheet, &other).unwrap()[0] as u32;
@@ -213,7 +219,7 @@ fn a_dropped_share_leaves_no_trace_in_the_totals() {
     let mut make = |id| Return::random(&mut rng, &sheet, 2, id, Origin::Honest);
     let (given, other) = (make(1), make(2));
     let mut tables = open_all(2, &[19, 4], 3);
-    judge(&mut tables, &other.shares, other.r, other.s);
+    take(&mut tables, &other.shares, other.r, other.s);
     for (own, table) in tables.iter_mut().enumerate() {
         share(table, &given.shares[own], given.r, given.s, ONE_BYTES).unwrap();
         drop(table, 1).unwrap();

@@ -6,6 +6,7 @@ mod tables;
 
 use second::gen::Rng;
 
+use crate::c;
 use crate::guard::{Lent, Word};
 use crate::layout::{Parts, SLOTS};
 
@@ -25,6 +26,7 @@ pub enum Function {
     Share,
     RoundOne,
     RoundTwo,
+    Enter,
     Drop,
     Close,
     Join,
@@ -120,7 +122,8 @@ impl Call {
             Function::Share => self.share(rng),
             Function::RoundOne => self.round_one(rng),
             Function::RoundTwo => self.round_two(rng),
-            Function::Drop => self.drop(rng),
+            Function::Enter => self.by_id(rng, c::pool_enter),
+            Function::Drop => self.by_id(rng, c::pool_drop),
             Function::Close => self.close(rng),
             Function::Join => self.join(rng),
             Function::Shelve => self.shelve(rng),

@@ -93,7 +93,7 @@ fn shares(suite: &mut Suite, sheet: &[u8], servers: u32, told: [u32; 9]) -> Verd
 }
 
 /// The greatest N told opens; one more is refused, 4 or at 1,025 2. The totals are as many as told: of a table that has
-/// one accepted, by hand.
+/// one entered, by hand.
 fn openings(suite: &mut Suite, sheet: &[u8], servers: u32, told: [u32; 9]) -> Verdict {
     let (published, greatest) = (told[2], told[8]);
     let open = Call::open_table(servers, 1, sheet, greatest);

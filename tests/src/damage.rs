@@ -53,7 +53,7 @@ fn records(rng: &mut Rng, table: &mut Parts) {
         }
         3 => table.slots[one] = table.slots[two],
         4 => table.slots[one] = Slot::default(),
-        5 => table.slots[one].stage = rng.pick([0, 1, 2, 3, 255, 256, u32::MAX]),
+        5 => table.slots[one].stage = rng.pick([0, 1, 2, 3, 3, 4, 255, 256, 259, u32::MAX]),
         6 => table.slots.truncate(rng.pick([0, 1, count - 1])),
         _ => table.slots.push(table.slots[one]),
     }
@@ -70,7 +70,7 @@ fn fields(rng: &mut Rng, slots: &mut [Slot]) {
         let number = rng.pick([0, 1, 2, below, P - 1, P, P + 1, 1 << 32, (1 << 32) + below, any]);
         match rng.below(6) {
             0 => slots[at].id = rng.pick([slots[from].id, any as u32]),
-            1 => slots[at].stage = rng.pick([0, 1, 2, number as u32]),
+            1 => slots[at].stage = rng.pick([0, 1, 2, 3, number as u32]),
             2 => slots[at].r = number,
             3 => slots[at].s = number,
             4 => slots[at].d = number,

@@ -1,4 +1,4 @@
-//! What a decided return leaves in the tables: its id and, where it was accepted, what it added to the totals.
+//! What a decided return leaves in the tables: its id and, where it was entered, what it added to the totals.
 
 use std::collections::HashSet;
 
@@ -12,13 +12,15 @@ use crate::suite::{Suite, Verdict};
 /// How a return ends.
 #[derive(Clone, Copy, Debug, PartialEq, Eq)]
 pub enum End {
-    Accepted,
+    Entered,
     Rejected,
+    /// Dropped in the first wait, in the second, or after an accepted verdict.
     DroppedFirst,
     DroppedSecond,
+    DroppedThird,
 }
 
-pub const ENDS: [End; 4] = [End::Accepted, End::Rejected, End::DroppedFirst, End::DroppedSecond];
+pub const ENDS: [End; 5] = [End::Entered, End::Rejected, End::DroppedFirst, End::DroppedSecond, End::DroppedThird];
 
 /// What is added to the first entry of a return that is to be rejected.
 const FALSE: u64 = 7;
@@ -39,20 +41,28 @@ fn made(suite: &mut Suite, rng: &mut Rng, pool: &Pool, id: u32, values: &[u8], e
 /// Takes a return to its end; looks at the tables whenever it waits.
 fn play(suite: &mut Suite, pool: &mut Pool, shares: &[Vec<u8>], end: End, look: impl Fn(&Pool) -> Verdict) -> Verdict {
     let joined = pool.share(suite, shares, 1_000_003, 19)?;
+    let id = id_of(&joined);
     look(pool)?;
     if end == End::DroppedFirst {
-        return pool.drop(suite, id_of(&joined));
+        return pool.drop(suite, id);
     }
     let joined = pool.round_one(suite, &joined)?;
     look(pool)?;
     if end == End::DroppedSecond {
-        return pool.drop(suite, id_of(&joined));
+        return pool.drop(suite, id);
     }
     let verdicts = pool.round_two(suite, &joined)?;
-    if verdicts.iter().any(|&verdict| verdict != u64::from(end == End::Accepted)) {
+    if verdicts.iter().any(|&verdict| verdict != u64::from(end != End::Rejected)) {
         return Err(format!("{end:?}: the verdicts are {verdicts:?}"));
     }
-    Ok(())
+    if end == End::Rejected {
+        return Ok(());
+    }
+    look(pool)?;
+    match end {
+        End::Entered => pool.enter(suite, id),
+        _ => pool.drop(suite, id),
+    }
 }
 
 /// Takes a return of zeros to its end.
@@ -100,20 +110,23 @@ fn clean(pool: &Pool) -> Verdict {
     Ok(())
 }
 
-/// So many returns wait beside the one that is looked at, every other one in the second wait.
+/// So many returns wait beside the one that is looked at, in each of the three waits.
 fn company(suite: &mut Suite, rng: &mut Rng, pool: &mut Pool, count: u32) -> Verdict {
     for id in 100..100 + count {
         let values = gen::values(rng, &pool.sheet);
         let shares = pool.make(suite, rng, id, &values)?;
         let joined = pool.share(suite, &shares, 1_000_003, 19)?;
-        if id % 2 == 1 {
-            pool.round_one(suite, &joined)?;
+        if id % 3 > 0 {
+            let joined = pool.round_one(suite, &joined)?;
+            if id % 3 == 2 {
+                pool.round_two(suite, &joined)?;
+            }
         }
     }
     Ok(())
 }
 
-/// No part of a share stays, however the return ends, nor when the table is closed. A return was accepted before, so that
+/// No part of a share stays, however the return ends, nor when the table is closed. A return was entered before, so that
 /// no total is a part of this share. Others wait beside it: none, some, seven; those are dropped before the close.
 pub fn bytes(suite: &mut Suite) -> Verdict {
     let sheets = [(2, vec![17]), (3, vec![18, 3, 19, 4, 17]), (8, vec![19, 24]), (2, vec![18, 64, 18, 64])];
@@ -122,7 +135,7 @@ pub fn bytes(suite: &mut Suite) -> Verdict {
         let mut pool = Pool::open(suite, servers, &sheet, 3 + others)?;
         let values = gen::values(&mut rng, &pool.sheet);
         let shares = pool.make(suite, &mut rng, 1, &values)?;
-        play(suite, &mut pool, &shares, End::Accepted, |_| Ok(()))?;
+        play(suite, &mut pool, &shares, End::Entered, |_| Ok(()))?;
         company(suite, &mut rng, &mut pool, others)?;
         let tables = pool.tables.clone();
         for end in ENDS {
@@ -155,13 +168,13 @@ fn added(pool: &Pool, places: impl Iterator<Item = usize>, expected: &[u64]) -> 
 }
 
 /// All tables added up show a return while it waits. They show zeros when it is decided, and when they are closed.
-/// Another is accepted before, so that the pool closes.
+/// Another is entered before, so that the pool closes.
 pub fn sums(suite: &mut Suite) -> Verdict {
     let values = [[1, 0, 0, 0], [2, 0, 0, 0], [9, 0, 0, 0]].concat();
     for (servers, end) in [2, 5].into_iter().flat_map(|servers| ENDS.map(|end| (servers, end))) {
         let mut rng = suite.seed(u64::from(servers));
         let mut pool = Pool::open(suite, servers, &[17, 18, 3, 19, 4], 2)?;
-        take(suite, &mut rng, &mut pool, 1, End::Accepted)?;
+        take(suite, &mut rng, &mut pool, 1, End::Entered)?;
         let shares = made(suite, &mut rng, &pool, 2, &values, end)?;
         let first = if end == End::Rejected { 1 + FALSE } else { 1 };
         play(suite, &mut pool, &shares, end, |pool| added(pool, pool.sheet.published_entries(), &[first, 0, 0, 1, 9]))?;

@@ -1,5 +1,6 @@
 //! Every refusal of every function by one fault, and every two faults at once: the earlier in document 01's order wins.
 
+mod rounds;
 mod tables;
 
 use second::gen::{self, Rng};
@@ -8,7 +9,8 @@ use second::Sheet;
 use crate::calls::{Call, Function};
 use crate::layout::put_word;
 use crate::suite::{Suite, Verdict};
-pub use tables::{close, drop, open, round_one, round_two, share};
+pub use rounds::{round_one, round_two};
+pub use tables::{close, drop, enter, open, share};
 
 const P: u64 = 2_147_483_647;
 

@@ -3,7 +3,7 @@
 use second::gen::Rng;
 
 use crate::calls::{Call, Function};
-use crate::layout::{Parts, CLOSED, SLOTS};
+use crate::layout::{Parts, AWAITS_ENTRY, AWAITS_ONE, CLOSED, SLOTS};
 use crate::pools::Pool;
 use crate::reference::{ONE_BYTES, TWO_BYTES};
 use crate::suite::Suite;
@@ -20,6 +20,11 @@ pub fn other(record: usize) -> u32 {
     500 + record as u32
 }
 
+/// The stage of the other return that waits in a record: each of the three in turn.
+pub fn other_stage(record: usize) -> u32 {
+    1 + record as u32 % 3
+}
+
 /// The table, closed. One in which others wait cannot be closed, but by hand.
 fn closed(suite: &mut Suite, pool: &mut Pool, own: usize) -> Result<Parts, String> {
     if pool.tables[own].waiting() > 0 {
@@ -32,9 +37,10 @@ fn closed(suite: &mut Suite, pool: &mut Pool, own: usize) -> Result<Parts, Strin
 /// A server's table in every stage, and the messages that it takes next.
 pub struct Fixture {
     pub idle: Parts,
-    /// NEXT awaits round one, or round two.
+    /// NEXT awaits round one, round two, or entry.
     pub first: Parts,
     pub second: Parts,
+    pub third: Parts,
     pub closed: Parts,
     /// As `idle`, with N returns that are decided or wait.
     pub full: Parts,
@@ -55,12 +61,11 @@ impl Fixture {
         let mut rng = suite.seed(u64::from(servers) + 16 * own as u64);
         let mut pool = Pool::open(suite, servers, sheet, returns)?;
         let decided = pool.make_zeros(suite, &mut rng, DECIDED)?;
-        pool.judge(suite, &decided, 1_000_003, 19)?;
+        pool.admit(suite, &decided, 1_000_003, 19)?;
         Fixture::of(suite, rng, pool, own)
     }
 
-    /// The same with N at least 9: others wait in all records but this one, which NEXT gets; those of odd records await
-    /// round two.
+    /// The same with N at least 9: others wait in all records but this one, which NEXT gets, in each of the stages.
     pub fn among(
         suite: &mut Suite,
         servers: u32,
@@ -77,11 +82,16 @@ impl Fixture {
             let shares = pool.make_zeros(suite, &mut rng, id)?;
             joined.push(pool.share(suite, &shares, 1_000_003 + number as u64, 19)?);
         }
-        let last = pool.round_one(suite, &joined[record])?;
-        pool.round_two(suite, &last)?;
-        for number in (1..SLOTS).step_by(2).filter(|&number| number != record) {
-            pool.round_one(suite, &joined[number])?;
+        for (number, joined) in joined.iter().enumerate() {
+            let stage = if number == record { AWAITS_ENTRY } else { other_stage(number) };
+            if stage > AWAITS_ONE {
+                let last = pool.round_one(suite, joined)?;
+                if stage == AWAITS_ENTRY {
+                    pool.round_two(suite, &last)?;
+                }
+            }
         }
+        pool.enter(suite, DECIDED)?;
         Fixture::of(suite, rng, pool, own)
     }
 
@@ -94,6 +104,8 @@ impl Fixture {
         let first = pool.tables[own].clone();
         let joined_two = pool.round_one(suite, &joined_one)?;
         let second = pool.tables[own].clone();
+        pool.round_two(suite, &joined_two)?;
+        let third = pool.tables[own].clone();
         pool.tables.clone_from(&idle);
         let closed = closed(suite, &mut pool, own)?;
         pool.tables.clone_from(&idle);
@@ -107,6 +119,7 @@ impl Fixture {
             idle: idle[own].clone(),
             first,
             second,
+            third,
             closed,
             full: pool.tables[own].clone(),
             share: shares[own].clone(),
@@ -135,6 +148,10 @@ impl Fixture {
         Call { table, id: NEXT, message, ..Call::of(Function::RoundTwo) }
     }
 
+    pub fn enter(&self) -> Call {
+        Call { table: self.third.clone(), id: NEXT, ..Call::of(Function::Enter) }
+    }
+
     pub fn drop(&self) -> Call {
         Call { table: self.first.clone(), id: NEXT, ..Call::of(Function::Drop) }
     }
@@ -143,13 +160,20 @@ impl Fixture {
         Call { table: self.idle.clone(), room: self.closing, ..Call::of(Function::Close) }
     }
 
-    /// The five calls, each with the arguments that its own stage takes.
+    /// The calls on one return, each with the arguments that its own stage takes, which all are done.
+    pub fn on_next(&self) -> Vec<Call> {
+        vec![self.share(), self.round_one(), self.round_two(), self.enter(), self.drop()]
+    }
+
+    /// All six calls, each with the arguments that its own stage takes.
     pub fn calls(&self) -> Vec<Call> {
-        vec![self.share(), self.round_one(), self.round_two(), self.drop(), self.close()]
+        let mut calls = self.on_next();
+        calls.push(self.close());
+        calls
     }
 
     /// The table in every stage.
-    pub fn stages(&self) -> [&Parts; 5] {
-        [&self.idle, &self.first, &self.second, &self.closed, &self.full]
+    pub fn stages(&self) -> [&Parts; 6] {
+        [&self.idle, &self.first, &self.second, &self.third, &self.closed, &self.full]
     }
 }

@@ -15,6 +15,7 @@ pub const CLOSED: u8 = 1;
 pub const FREE: u32 = 0;
 pub const AWAITS_ONE: u32 = 1;
 pub const AWAITS_TWO: u32 = 2;
+pub const AWAITS_ENTRY: u32 = 3;
 /// The records of a table.
 pub const SLOTS: usize = 8;
 
@@ -110,7 +111,7 @@ pub struct Table {
     pub own: u32,
     pub returns: usize,
     pub decided: usize,
-    pub accepted: usize,
+    pub entered: usize,
     pub least: usize,
     pub bytes: Vec<u8>,
     pub sheet: Sheet,
@@ -147,8 +148,8 @@ fn header(slice: &[u8]) -> Option<Table> {
     let bytes = slice.get(14..14 + length)?.to_vec();
     let sheet = Sheet::read(&bytes).ok()?;
     let at = places(length, &sheet, returns);
-    let (decided, accepted) = (short(slice, 6), short(slice, 8));
-    Some(Table { closed: slice[1] == CLOSED, servers, own, returns, decided, accepted, least, bytes, sheet, at })
+    let (decided, entered) = (short(slice, 6), short(slice, 8));
+    Some(Table { closed: slice[1] == CLOSED, servers, own, returns, decided, entered, least, bytes, sheet, at })
 }
 
 /// Every part has its length, and the counts are sound.
@@ -156,17 +157,17 @@ fn counts(table: &Table, parts: &Parts) -> bool {
     let fits = table.sheet.columns().iter().all(|column| table.returns as u64 * column.largest() < P);
     let long = parts.bytes.len() >= table.at.length && parts.elements.len() >= table.at.run;
     let taken = table.decided + parts.waiting();
-    fits && long && parts.slots.len() == SLOTS && taken <= table.returns && table.accepted <= table.decided
+    fits && long && parts.slots.len() == SLOTS && taken <= table.returns && table.entered <= table.decided
 }
 
-/// A record is free, or awaits a round with r and s in range and all its other numbers below p.
+/// A record is free, or awaits a round or entry with r and s in range and all its other numbers below p.
 fn record(table: &Table, parts: &Parts, number: usize) -> bool {
     let slot = parts.slots[number];
     let numbers = || table.place(parts, number).iter().all(|&number| u64::from(number) < P);
     let range = || slot.r > table.sheet.multiplications() as u64 && slot.r < P;
     match slot.stage {
         FREE => true,
-        AWAITS_ONE | AWAITS_TWO => range() && [slot.s, slot.d, slot.e].iter().all(|&x| x < P) && numbers(),
+        AWAITS_ONE..=AWAITS_ENTRY => range() && [slot.s, slot.d, slot.e].iter().all(|&x| x < P) && numbers(),
         _ => false,
     }
 }

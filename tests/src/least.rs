@@ -1,13 +1,14 @@
 //! The least count Q, told by hand: opening with it, closing from it on, and where it stands in a table.
 
+mod tables;
+
 use crate::calls::{plain, Call, Function, Outcome};
 use crate::decided::{take, End, ENDS};
-use crate::fixture::Fixture;
 use crate::layout::{put_short, Parts};
 use crate::pools::Pool;
 use crate::reference::ONE_BYTES;
 use crate::suite::{Suite, Verdict};
-use crate::tables::{changed, fixtures};
+pub use tables::{compared, damaged};
 
 const SHEET: [u8; 3] = [17, 18, 2];
 /// The length of its totals message.
@@ -91,22 +92,22 @@ pub fn opening_order(suite: &mut Suite) -> Verdict {
     Ok(())
 }
 
-/// 15 with fewer than Q accepted; with Q and with more the tables close, and join to the count.
+/// 15 with fewer than Q entered; with Q and with more the tables close, and join to the count.
 pub fn from(suite: &mut Suite) -> Verdict {
     for (servers, returns, least) in [(2, 1, 1), (2, 2, 1), (2, 2, 2), (3, 5, 3), (8, 4, 2), (2, 10, 10)] {
         let mut rng = suite.seed(u64::from(32 + returns));
         let mut pool = Pool::open_from(suite, servers, &SHEET, returns, least)?;
-        for accepted in 0..=returns {
-            if accepted < least {
+        for entered in 0..=returns {
+            if entered < least {
                 pool.close_refused(suite, 15)?;
             } else {
                 let open = pool.tables.clone();
                 let join = pool.close(suite)?;
-                suite.gives(&join, joined(accepted, accepted))?;
+                suite.gives(&join, joined(entered, entered))?;
                 pool.tables = open;
             }
-            if accepted < returns {
-                take(suite, &mut rng, &mut pool, accepted, End::Accepted)?;
+            if entered < returns {
+                take(suite, &mut rng, &mut pool, entered, End::Entered)?;
             }
         }
     }
@@ -128,7 +129,7 @@ fn rooms(suite: &mut Suite, table: &Parts, short: u32, enough: u32) -> Verdict {
 pub fn closing_order(suite: &mut Suite) -> Verdict {
     let mut rng = suite.seed(33);
     let mut pool = Pool::open_from(suite, 2, &SHEET, 5, 2)?;
-    take(suite, &mut rng, &mut pool, 1, End::Accepted)?;
+    take(suite, &mut rng, &mut pool, 1, End::Entered)?;
     rooms(suite, &pool.tables[1], 15, 15)?;
     for (at, byte) in [(0, 2), (1, 1), (1, 2), (2, 9), (3, 2), (8, 2), (10, 0), (10, 6), (11, 1)] {
         rooms(suite, &pool.tables[1].with(|table| table.bytes[at] = byte), 11, 11)?;
@@ -139,6 +140,8 @@ pub fn closing_order(suite: &mut Suite) -> Verdict {
     let joined = pool.round_one(suite, &joined)?;
     rooms(suite, &pool.tables[1], 11, 11)?;
     pool.round_two(suite, &joined)?;
+    rooms(suite, &pool.tables[1], 11, 11)?;
+    pool.enter(suite, 2)?;
     rooms(suite, &pool.tables[1], 14, 0)?;
     pool.close(suite)?;
     rooms(suite, &pool.tables[1], 11, 11)
@@ -161,9 +164,9 @@ pub fn kept(suite: &mut Suite) -> Verdict {
     let mut pools = Vec::new();
     for tries in [0, 3] {
         let mut rng = suite.seed(35);
-        let mut pool = Pool::open_from(suite, 2, &SHEET, 6, 3)?;
+        let mut pool = Pool::open_from(suite, 2, &SHEET, 7, 3)?;
         let mut tables = Vec::new();
-        for (id, end) in (0..).zip(ENDS.into_iter().chain([End::Accepted, End::Accepted])) {
+        for (id, end) in (0..).zip(ENDS.into_iter().chain([End::Entered, End::Entered])) {
             for _ in 0..tries {
                 pool.tables.iter().try_for_each(|table| rooms(suite, table, 15, 15))?;
             }
@@ -178,14 +181,16 @@ pub fn kept(suite: &mut Suite) -> Verdict {
     Ok(())
 }
 
-/// N decided and fewer than Q accepted: every share is 13 and every close 15, for ever.
+/// N decided and fewer than Q entered: every share is 13 and every close 15, for ever.
 pub fn never(suite: &mut Suite) -> Verdict {
-    use End::{Accepted, DroppedFirst, DroppedSecond, Rejected};
+    use End::{DroppedFirst, DroppedSecond, DroppedThird, Entered, Rejected};
     for (least, ends) in [
         (1, [Rejected, DroppedFirst, DroppedSecond]),
-        (2, [Accepted, DroppedFirst, Rejected]),
-        (3, [Accepted, Rejected, Accepted]),
-        (3, [DroppedSecond, Accepted, Accepted]),
+        (1, [DroppedThird, DroppedThird, DroppedThird]),
+        (2, [Entered, DroppedFirst, Rejected]),
+        (2, [DroppedThird, Entered, DroppedThird]),
+        (3, [Entered, Rejected, Entered]),
+        (3, [DroppedSecond, Entered, Entered]),
     ] {
         let mut rng = suite.seed(36);
         let mut pool = Pool::open_from(suite, 2, &SHEET, 3, least)?;
@@ -198,7 +203,9 @@ pub fn never(suite: &mut Suite) -> Verdict {
             let share = Call { table, message, r: 1_000_003, s: 19, room: ONE_BYTES, ..Call::of(Function::Share) };
             suite.number(&share, 13)?;
             suite.number(&Call { message: Vec::new(), ..share.clone() }, 13)?;
-            suite.number(&Call { id, ..Call { function: Function::Drop, ..share } }, 11)?;
+            for function in [Function::Enter, Function::Drop] {
+                suite.number(&Call { function, id, ..share.clone() }, 11)?;
+            }
         }
     }
     Ok(())
@@ -209,13 +216,13 @@ pub fn alike(suite: &mut Suite) -> Verdict {
     for servers in 2..=8 {
         let mut rng = suite.seed(u64::from(37 + servers));
         let mut pool = Pool::open_from(suite, servers, &SHEET, 4, 2)?;
-        take(suite, &mut rng, &mut pool, 1, End::Accepted)?;
+        take(suite, &mut rng, &mut pool, 1, End::Entered)?;
         pool.close_refused(suite, 15)?;
         for table in &pool.tables {
             suite.number(&closes(&with_least(table, 1), CLOSING), 0)?;
             suite.number(&closes(&with_least(table, 3), CLOSING), 15)?;
         }
-        take(suite, &mut rng, &mut pool, 2, End::Accepted)?;
+        take(suite, &mut rng, &mut pool, 2, End::Entered)?;
         for table in &pool.tables {
             suite.number(&closes(&with_least(table, 3), CLOSING), 15)?;
         }
@@ -230,7 +237,7 @@ pub fn joining(suite: &mut Suite) -> Verdict {
     let mut rng = suite.seed(46);
     let mut pool = Pool::open_from(suite, 2, &SHEET, 5, 4)?;
     for id in 0..4 {
-        take(suite, &mut rng, &mut pool, id, End::Accepted)?;
+        take(suite, &mut rng, &mut pool, id, End::Entered)?;
     }
     let join = pool.close(suite)?;
     for (returns, number) in [(3, 12), (4, 0), (5, 0), (1024, 0)] {
@@ -242,54 +249,6 @@ pub fn joining(suite: &mut Suite) -> Verdict {
         suite.number(&call, number)?;
         if number == 0 {
             suite.gives(&call, joined(count.into(), 4))?;
-        }
-    }
-    Ok(())
-}
-
-/// Bytes 10 and 11 of a table at every stage: refused 11 by every call exactly where Q is outside 1 to N.
-pub fn damaged(suite: &mut Suite) -> Verdict {
-    for fixture in fixtures(suite)? {
-        let calls = fixture.calls();
-        for table in fixture.stages() {
-            let returns = usize::from(table.bytes[4]);
-            for least in (1..=returns).chain([0, returns + 1, returns + 2, 255, 256, 257, 1024, 32_768, 65_535]) {
-                let good = (1..=returns).contains(&least);
-                changed(suite, &calls, table, good, |t| put_short(&mut t.bytes, 10, least))?;
-            }
-            // N below Q.
-            let most = with_least(table, returns);
-            changed(suite, &calls, &most, false, |t| put_short(&mut t.bytes, 4, returns - 1))?;
-        }
-    }
-    Ok(())
-}
-
-/// Closing compares both bytes of Q with both of the accepted count; all other calls do the same with any Q.
-pub fn compared(suite: &mut Suite) -> Verdict {
-    suite.seed(47);
-    let opened = suite.check(&opens(1024, 1))?.map_or(Parts::default(), |done| done.table);
-    let numbers = [0, 1, 2, 254, 255, 256, 257, 258, 511, 512, 513, 1023, 1024];
-    for (accepted, least) in numbers.into_iter().flat_map(|accepted| numbers[1..].iter().map(move |&q| (accepted, q))) {
-        let table = with_least(&opened, least).with(|table| {
-            put_short(&mut table.bytes, 6, 1024);
-            put_short(&mut table.bytes, 8, accepted);
-        });
-        suite.number(&closes(&table, CLOSING), if accepted < least { 15 } else { 0 })?;
-    }
-    for fixture in [Fixture::new(suite, 2, 1, &SHEET, 9)?, Fixture::among(suite, 3, 0, &SHEET, 10, 3)?] {
-        for call in [fixture.share(), fixture.round_one(), fixture.round_two(), fixture.drop()] {
-            let one = suite.check(&call)?;
-            for least in [2, 9] {
-                let many = suite.check(&Call { table: with_least(&call.table, least), ..call.clone() })?;
-                let same = many.map(|mut done| {
-                    done.table = with_least(&done.table, 1);
-                    done
-                });
-                if same != one || one.is_err() {
-                    return Err(suite.failure(&call, &format!("otherwise with Q = {least}")));
-                }
-            }
         }
     }
     Ok(())

@@ -174,7 +174,7 @@ fn id_used(suite: &mut Suite, id: u32) -> Verdict {
     let mut rng = suite.seed(u64::from(id));
     let mut pool = Pool::open(suite, 2, &[17], 3)?;
     let shares = pool.make(suite, &mut rng, id, &[1, 0, 0, 0])?;
-    pool.judge(suite, &shares, 9, 9)?;
+    pool.admit(suite, &shares, 9, 9)?;
     for byte in 0..4 {
         let mut message = shares[1].clone();
         let (table, r, s, room) = (pool.tables[1].clone(), 9, 9, ONE_BYTES);
@@ -217,7 +217,7 @@ pub fn rooms(suite: &mut Suite) -> Verdict {
         room(suite, &fixture.close(), 6 + 4 * sheet.published())?;
         let mut pool = Pool::open(suite, servers, &bytes, 2)?;
         let shares = pool.make_zeros(suite, &mut rng, 5)?;
-        pool.judge(suite, &shares, 1_000_003, 19)?;
+        pool.admit(suite, &shares, 1_000_003, 19)?;
         let join = pool.close(suite)?;
         room(suite, &join, 4 * sheet.published())?;
     }

@@ -8,15 +8,18 @@ mod circuits;
 mod counts;
 mod damage;
 mod decided;
+mod entering;
 mod examples;
 mod faults;
 mod fixture;
 mod guard;
+mod hall;
 mod layout;
 mod least;
 mod limits;
 mod lists;
 mod mixed;
+mod named;
 mod orders;
 mod pages;
 mod pools;
@@ -27,6 +30,7 @@ mod scripts;
 mod shelf;
 mod sizes;
 mod stack;
+mod stopped;
 mod suite;
 mod tables;
 mod tally;
@@ -39,6 +43,7 @@ use std::process::ExitCode;
 use std::time::{Duration, Instant};
 
 use calls::Function;
+use named::NAMED;
 use suite::{Suite, Verdict};
 use tally::Tally;
 
@@ -49,7 +54,7 @@ const POOL_BLOCKS: (u64, u64) = (3, 30);
 const MIXED_BLOCKS: (u64, u64) = (6, 40);
 
 /// The refusals of each function, by the header.
-const REFUSALS: [(Function, &[u32]); 14] = [
+const REFUSALS: [(Function, &[u32]); 15] = [
     (Function::Sizes, &[0, 1, 2]),
     (Function::Circuit, &[0, 1, 2, 14]),
     (Function::ReadCircuit, &[0, 1, 2, 3]),
@@ -59,126 +64,12 @@ const REFUSALS: [(Function, &[u32]); 14] = [
     (Function::Share, &[0, 7, 8, 9, 10, 11, 13, 14]),
     (Function::RoundOne, &[0, 11, 12, 14, 16]),
     (Function::RoundTwo, &[0, 11, 12]),
+    (Function::Enter, &[0, 11]),
     (Function::Drop, &[0, 11]),
     (Function::Close, &[0, 11, 14, 15]),
     (Function::Join, &[0, 1, 2, 4, 12, 14]),
     (Function::Shelve, &[0, 2, 14, 19]),
     (Function::Unshelve, &[0, 2, 14, 19]),
-];
-
-type Test = fn(&mut Suite) -> Verdict;
-
-/// Named tests without a seed of their own.
-const NAMED: [(&str, Test); 109] = [
-    ("header: constants", sizes::constants),
-    ("header: a slot", sizes::slot),
-    ("header: sizes", sizes::lengths),
-    ("header: sizes of runs", sizes::runs),
-    ("header: sizes of lists", sizes::lists),
-    ("examples: sheets", examples::sheets),
-    ("examples: an honest return", examples::honest),
-    ("examples: a false entry", examples::cheating),
-    ("examples: joining", examples::joining),
-    ("sizes: sheets at fault", counts::refusals),
-    ("sizes: told by hand", counts::by_hand),
-    ("sizes: every column", counts::columns),
-    ("sizes: random sheets", counts::random),
-    ("faults alone and in pairs: circuit", faults::circuit),
-    ("faults alone and in pairs: read_circuit", circuits::order),
-    ("faults alone and in pairs: every_return", lists::order),
-    ("faults alone and in pairs: make", faults::make),
-    ("faults alone and in pairs: open", faults::open),
-    ("faults alone and in pairs: share", faults::share),
-    ("faults alone and in pairs: round_one", faults::round_one),
-    ("faults alone and in pairs: round_two", faults::round_two),
-    ("faults alone and in pairs: drop", faults::drop),
-    ("faults alone and in pairs: close", faults::close),
-    ("faults alone and in pairs: join", faults::join),
-    ("faults alone and in pairs: shelve", shelf::shelving),
-    ("faults alone and in pairs: unshelve", shelf::unshelving),
-    ("limits: sheets", limits::sheets),
-    ("limits: circuits", circuits::limits),
-    ("limits: opening", limits::opening),
-    ("limits: r and s", limits::pairs),
-    ("limits: ids", limits::ids),
-    ("limits: rooms", limits::rooms),
-    ("limits: elements", limits::elements),
-    ("limits: values", limits::values),
-    ("tables: every header byte", tables::headers),
-    ("tables: bytes after the sheet", tables::bodies),
-    ("tables: lengths", tables::lengths),
-    ("tables: header limits", tables::header_limits),
-    ("tables: totals and ids", tables::numbers),
-    ("tables: sheets", tables::sheets),
-    ("tables: ids decided", tables::ids),
-    ("tables: random damage", tables::random),
-    ("records: not eight", records::counts),
-    ("records: length of the run of numbers", records::runs),
-    ("records: fields", records::fields),
-    ("records: stages", records::stages),
-    ("records: numbers of a place", records::elements),
-    ("records: how many may wait", records::taken_room),
-    ("records: what is free", records::free),
-    ("records: numbers that the share does not give", records::own),
-    ("records: an id that waits twice", records::twice),
-    ("waiting: a ninth share", waiting::ninth),
-    ("waiting: decided and waiting are N", waiting::full),
-    ("waiting: an id used again", waiting::used),
-    ("waiting: stages", waiting::stages),
-    ("waiting: messages of another id", waiting::others),
-    ("waiting: closing", waiting::closing),
-    ("waiting: the record that is freed", waiting::freed),
-    ("waiting: the first free record", waiting::first_free),
-    ("waiting: what a record tells", waiting::told),
-    ("orders: from the last to the first", orders::turned),
-    ("orders: every run of four messages", orders::every_run),
-    ("orders: a server twice", orders::twice),
-    ("orders: a server missing", orders::missing),
-    ("orders: the own message altered", orders::own),
-    ("orders: the others' messages altered", orders::others),
-    ("orders: lengths", orders::lengths),
-    ("orders: 11, 12 and 14", orders::order),
-    ("orders: totals messages", orders::totals),
-    ("orders: random orders and damage", orders::random),
-    ("challenges: in the message", challenges::told),
-    ("challenges: another r or s", challenges::numbers),
-    ("challenges: every place", challenges::places),
-    ("challenges: servers that slipped", challenges::slips),
-    ("challenges: 11, 12, 16 and 14", challenges::order),
-    ("challenges: until it is dropped", challenges::dropped),
-    ("challenges: lengths of messages", challenges::lengths),
-    ("least count: opening", least::opening),
-    ("least count: order of opening", least::opening_order),
-    ("least count: closing from Q on", least::from),
-    ("least count: order of closing", least::closing_order),
-    ("least count: rejected and dropped returns", least::others),
-    ("least count: 15 changes nothing", least::kept),
-    ("least count: pools that never close", least::never),
-    ("least count: servers opened alike", least::alike),
-    ("least count: joining", least::joining),
-    ("least count: in damaged tables", least::damaged),
-    ("least count: beside the accepted", least::compared),
-    ("mixed returns: the largest sheets", mixed::large),
-    ("tops: a circuit told by hand", tops::circuit),
-    ("tops: values past the top", tops::past),
-    ("tops: bits that are none", tops::no_bits),
-    ("tops: tables of the longest sheet", tops::tables),
-    ("decided: the bytes of a share", decided::bytes),
-    ("decided: tables added up", decided::sums),
-    ("every return: told by hand", lists::by_hand),
-    ("every return: limits", lists::limits),
-    ("every return: rooms", lists::exact_rooms),
-    ("every return: random sheets", lists::random),
-    ("every return: all and no other", lists::no_other),
-    ("shelf: told by hand", shelf::by_hand),
-    ("shelf: limits", shelf::limits),
-    ("shelf: rooms", shelf::exact_rooms),
-    ("shelf: every R, many W", shelf::every_size),
-    ("shelf: share messages", shelf::shares),
-    ("pools: the largest sheets", pools::large),
-    ("pools: 1,024 returns", pools::many),
-    ("pools: the highest totals", pools::highest),
-    ("64 KiB of stack", stack::enough),
 ];
 
 /// Whole runs in four threads at once.
@@ -236,12 +127,13 @@ fn named(tally: &mut Tally, suite: &mut Suite, text: &str) {
 fn fixed(tally: &mut Tally) {
     let mut suite = Suite::new();
     named(tally, &mut suite, "");
-    let (before, unequal) = (suite.calls, scripts::unequal(&suite));
+    let (before, met) = (suite.calls, scripts::met(&suite));
     tally.blocks(&mut suite, "whole runs", SCRIPT_BLOCKS, scripts::script);
-    tally.note("whole runs: challenges that differ", scripts::often(&suite, unequal));
+    tally.note("whole runs: entries, challenges that differ", scripts::often(&suite, met));
     tally.blocks(&mut suite, "single calls", CASE_BLOCKS, scripts::cases);
     tally.blocks(&mut suite, "pools made by the library", POOL_BLOCKS, pools::pool);
     tally.blocks(&mut suite, "mixed returns", MIXED_BLOCKS, mixed::mix);
+    tally.note("mixed returns: eight waiting, some for entry", mixed::often(&suite));
     let verdict = threads(&mut suite);
     tally.note("whole runs in threads", verdict);
     let plans = [SCRIPT_BLOCKS, CASE_BLOCKS, POOL_BLOCKS, MIXED_BLOCKS];

@@ -6,7 +6,7 @@ use second::gen::{self, Origin, Return, Rng};
 use second::Sheet;
 
 use crate::calls::{plain, Call, Function};
-use crate::layout::{read, words, Slot, SLOTS};
+use crate::layout::{read, words, Slot, AWAITS_ENTRY, SLOTS};
 use crate::orders::shuffled;
 use crate::pools::Pool;
 use crate::reference::{ONE_BYTES, TWO_BYTES};
@@ -19,6 +19,7 @@ enum Phase {
     Share,
     One,
     Two,
+    Enter,
     Drop,
 }
 
@@ -33,7 +34,7 @@ struct Course {
     given: Return,
     /// The phases with what they give at each server.
     phases: Vec<(Phase, Vec<Given>)>,
-    /// What its accepted shares add up to; `None` where it is not accepted.
+    /// What its entered shares add up to; `None` where it is not entered.
     totals: Option<Vec<u64>>,
     /// The phase that it is in, and the servers that this phase has still to call.
     now: usize,
@@ -61,6 +62,7 @@ fn call(given: &Return, phase: Phase, server: usize, last: &[Given]) -> Call {
         }
         Phase::One => Call { id, message, room: TWO_BYTES, ..Call::of(Function::RoundOne) },
         Phase::Two => Call { id, message, ..Call::of(Function::RoundTwo) },
+        Phase::Enter => Call { id, ..Call::of(Function::Enter) },
         Phase::Drop => Call { id, ..Call::of(Function::Drop) },
     }
 }
@@ -70,7 +72,7 @@ fn mixed_call(rng: &mut Rng, given: &Return, phase: Phase, server: usize, last: 
     let call = call(given, phase, server, last);
     match phase {
         Phase::One | Phase::Two => Call { message: shuffled(rng, &call.message), ..call },
-        Phase::Share | Phase::Drop => call,
+        Phase::Share | Phase::Enter | Phase::Drop => call,
     }
 }
 
@@ -83,14 +85,19 @@ fn step(suite: &mut Suite, pool: &mut Pool, server: usize, given: &Return, call:
 /// Plays a return alone on fresh tables.
 fn alone(suite: &mut Suite, rng: &mut Rng, pool: &Pool, given: Return) -> Result<Course, String> {
     let mut fresh = Pool::open_from(suite, pool.servers, &pool.bytes, pool.returns, pool.least)?;
-    let plan: &[Phase] = match rng.below(8) {
+    let plan: &[Phase] = match rng.below(10) {
         0 => &[Phase::Share, Phase::Drop],
         1 => &[Phase::Share, Phase::One, Phase::Drop],
-        _ => &[Phase::Share, Phase::One, Phase::Two],
+        2 => &[Phase::Share, Phase::One, Phase::Two, Phase::Drop],
+        _ => &[Phase::Share, Phase::One, Phase::Two, Phase::Enter],
     };
     let mut phases: Vec<(Phase, Vec<Given>)> = Vec::new();
     for &phase in plan {
         let last = phases.last().map_or(Vec::new(), |(_, given)| given.clone());
+        // A rejected return is decided: nothing is held of it.
+        if last.iter().any(|(_, _, held)| held.is_none()) {
+            break;
+        }
         let mut gives = Vec::new();
         for server in 0..fresh.tables.len() {
             let call = call(&given, phase, server, &last);
@@ -102,18 +109,18 @@ fn alone(suite: &mut Suite, rng: &mut Rng, pool: &Pool, given: Return) -> Result
     Ok(Course { given, phases, totals, now: 0, left: Vec::new() })
 }
 
-/// What the tables of a return that was played alone add up to, where it was accepted.
+/// What the tables of a return that was played alone add up to, where it was entered.
 fn totals(pool: &Pool) -> Result<Option<Vec<u64>>, String> {
     let mut sums = vec![0; pool.sheet.published()];
-    let mut accepted = 0;
+    let mut entered = 0;
     for parts in &pool.tables {
         let table = read(parts)?;
-        accepted += table.accepted;
+        entered += table.entered;
         for (sum, share) in sums.iter_mut().zip(words(&parts.bytes, table.at.totals, pool.sheet.published())) {
             *sum = field::add(*sum, share);
         }
     }
-    Ok((accepted == pool.tables.len()).then_some(sums))
+    Ok((entered == pool.tables.len()).then_some(sums))
 }
 
 /// A return of any origin under an id that may be near another.
@@ -130,10 +137,10 @@ fn any_return(rng: &mut Rng, sheet: &Sheet, servers: u32, number: u32) -> Return
     Return::random(rng, sheet, servers, id, origin)
 }
 
-/// A call that is refused, on a table as the mix left it: a share, a round or a drop that is not its turn.
+/// A call that is refused, on a table as the mix left it: a share, a round, an entry or a drop that is not its turn.
 fn noise(suite: &mut Suite, rng: &mut Rng, pool: &Pool, server: usize, courses: &[Course]) -> Verdict {
     let (one, two) = (&courses[rng.index(courses.len())], &courses[rng.index(courses.len())]);
-    let phase = rng.pick([Phase::Share, Phase::One, Phase::Two, Phase::Drop]);
+    let phase = rng.pick([Phase::Share, Phase::One, Phase::Two, Phase::Enter, Phase::Drop]);
     let from = rng.index(two.phases.len());
     let mut call = mixed_call(rng, &two.given, phase, server, &two.phases[from].1);
     if rng.chance(50) {
@@ -167,12 +174,15 @@ fn advance(suite: &mut Suite, rng: &mut Rng, pool: &mut Pool, course: &mut Cours
         let text = format!("{mixed:?} among others\nmust be {:?} as alone", gives[server]);
         return Err(suite.failure(&call, &text));
     }
+    let table = &pool.tables[server];
+    let crowded = table.waiting() == SLOTS && table.slots.iter().any(|slot| slot.stage == AWAITS_ENTRY);
+    suite.crowded += u64::from(crowded);
     course.now += usize::from(course.left.is_empty());
     Ok(course.now < course.phases.len())
 }
 
 /// Plays returns mixed, at most so many of them under way at once. The closing messages join to the sums of what each
-/// accepted return adds up to alone.
+/// entered return adds up to alone.
 fn play(suite: &mut Suite, rng: &mut Rng, pool: &mut Pool, count: u32, most: usize) -> Verdict {
     let mut courses = Vec::new();
     for number in 0..count {
@@ -212,6 +222,14 @@ pub fn mix(suite: &mut Suite, seed: u64) -> Verdict {
     play(suite, &mut rng, &mut pool, count, most)
 }
 
+/// Eight returns waited often, some of them for entry.
+pub fn often(suite: &Suite) -> Verdict {
+    match suite.crowded {
+        0..400 => Err(format!("after {} calls eight waited, some for entry", suite.crowded)),
+        _ => Ok(()),
+    }
+}
+
 /// Eight and more returns of the largest sheets.
 pub fn large(suite: &mut Suite) -> Verdict {
     let sheets = [(2, vec![17; 256]), (3, [18, 64].repeat(4)), (2, longest_sheet()), (2, largest_sheet())];
@@ -223,17 +241,17 @@ pub fn large(suite: &mut Suite) -> Verdict {
     Ok(())
 }
 
-/// All tables close and join to the accepted returns, or refuse to close where these are fewer than Q.
+/// All tables close and join to the entered returns, or refuse to close where these are fewer than Q.
 fn ended(suite: &mut Suite, pool: &mut Pool, courses: &[Course]) -> Verdict {
     let mut totals = vec![0; pool.sheet.published()];
-    let accepted: Vec<&Vec<u64>> = courses.iter().filter_map(|course| course.totals.as_ref()).collect();
+    let entered: Vec<&Vec<u64>> = courses.iter().filter_map(|course| course.totals.as_ref()).collect();
     for (total, k) in totals.iter_mut().zip(0..) {
-        *total = field::sum(accepted.iter().map(|totals| totals[k]));
+        *total = field::sum(entered.iter().map(|totals| totals[k]));
     }
-    if accepted.len() < pool.least as usize {
+    if entered.len() < pool.least as usize {
         return pool.close_refused(suite, 15);
     }
     let join = pool.close(suite)?;
     let bytes = totals.iter().flat_map(|&total| (total as u32).to_le_bytes()).collect();
-    suite.gives(&join, plain(vec![accepted.len() as u64], bytes))
+    suite.gives(&join, plain(vec![entered.len() as u64], bytes))
 }

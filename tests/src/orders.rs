@@ -7,8 +7,8 @@ use crate::damage::{damaged, damaged_joined};
 use crate::fixture::{Fixture, UNKNOWN};
 use crate::reference::{message_length, TWO_BYTES};
 use crate::suite::{Suite, Verdict};
-use messages::{altered, exchanged, picked};
-pub use messages::{altered_challenges, every_order, ordered, put, reversed, shuffled, start};
+pub use messages::{altered, altered_challenges, every_order, ordered, put, reversed, shuffled, start};
+use messages::{exchanged, picked};
 
 const SHEET: [u8; 3] = [17, 18, 3];
 

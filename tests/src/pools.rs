@@ -1,16 +1,16 @@
 //! Pools that the library plays alone: it makes the returns, judges them and joins the totals. What must come out is
 //! told from the values.
 
-use second::gen::{self, Rng};
-use second::{Column, Sheet};
+mod honest;
 
-use crate::calls::{plain, Call, Done, Function};
-use crate::challenges;
-use crate::layout::{id_of, put_word, word, Parts};
-use crate::orders::shuffled;
+use second::gen::{self, Rng};
+use second::Sheet;
+
+use crate::calls::{Call, Done, Function};
+use crate::layout::{id_of, Parts};
 use crate::reference::{ONE_BYTES, TWO_BYTES};
 use crate::suite::{Suite, Verdict};
-use crate::tops::{largest_sheet, longest_sheet};
+pub use honest::{highest, large, many, pool};
 
 /// S tables opened alike, with what the tests need to know of them.
 pub struct Pool {
@@ -121,12 +121,31 @@ impl Pool {
         self.round_two(suite, &joined)
     }
 
+    /// The same, and enters the return where it is accepted.
+    pub fn admit(&mut self, suite: &mut Suite, shares: &[Vec<u8>], r: u64, s: u64) -> Result<Vec<u64>, String> {
+        let verdicts = self.judge(suite, shares, r, s)?;
+        if verdicts.iter().all(|&verdict| verdict == 1) {
+            self.enter(suite, id_of(&shares[0]))?;
+        }
+        Ok(verdicts)
+    }
+
+    /// Enters the accepted return that waits under an id at every server.
+    pub fn enter(&mut self, suite: &mut Suite, id: u32) -> Verdict {
+        (0..self.tables.len()).try_for_each(|server| self.enter_at(suite, server, id))
+    }
+
+    pub fn enter_at(&mut self, suite: &mut Suite, server: usize, id: u32) -> Verdict {
+        self.at(suite, server, Call { id, ..Call::of(Function::Enter) }).map(|_| ())
+    }
+
     /// Drops the return that waits under an id at every server.
     pub fn drop(&mut self, suite: &mut Suite, id: u32) -> Verdict {
-        for server in 0..self.tables.len() {
-            self.at(suite, server, Call { id, ..Call::of(Function::Drop) })?;
-        }
-        Ok(())
+        (0..self.tables.len()).try_for_each(|server| self.drop_at(suite, server, id))
+    }
+
+    pub fn drop_at(&mut self, suite: &mut Suite, server: usize, id: u32) -> Verdict {
+        self.at(suite, server, Call { id, ..Call::of(Function::Drop) }).map(|_| ())
     }
 
     /// Every table refuses to close with this number.
@@ -141,156 +160,22 @@ impl Pool {
     /// Closes every table; gives the joining of what they wrote.
     pub fn close(&mut self, suite: &mut Suite) -> Result<Call, String> {
         let mut message = Vec::new();
-        let room = self.sheet.closing_length();
         for server in 0..self.tables.len() {
-            let call = Call { room, ..Call::of(Function::Close) };
-            message.extend(self.at(suite, server, call)?.bytes);
+            message.extend(self.close_at(suite, server)?);
         }
+        Ok(self.joining(message))
+    }
+
+    /// Closes one table; gives its totals message.
+    pub fn close_at(&mut self, suite: &mut Suite, server: usize) -> Result<Vec<u8>, String> {
+        let room = self.sheet.closing_length();
+        Ok(self.at(suite, server, Call { room, ..Call::of(Function::Close) })?.bytes)
+    }
+
+    /// The joining of totals messages.
+    pub fn joining(&self, message: Vec<u8>) -> Call {
         let (servers, returns, sheet) = (self.servers, self.returns, self.bytes.clone());
         let room = 4 * self.sheet.published();
-        Ok(Call { servers, returns, sheet, message, room, ..Call::of(Function::Join) })
+        Call { servers, returns, sheet, message, room, ..Call::of(Function::Join) }
     }
-}
-
-/// Adds the published entries of values to totals.
-fn add_values(sheet: &Sheet, values: &[u8], totals: &mut [u64]) {
-    let mut at = 0;
-    for (k, column) in sheet.columns().iter().enumerate() {
-        let value = word(values, 4 * k);
-        match column {
-            Column::Choice(_) => totals[at + value as usize] += 1,
-            _ => totals[at] += value,
-        }
-        at += column.published();
-    }
-}
-
-/// Honest returns of random values, their messages in random orders. Now and then one is dropped, or has challenges that
-/// differ among the servers; all others are accepted. Until they are Q every close is refused 15; then the joined totals
-/// are their sums.
-fn honest(suite: &mut Suite, rng: &mut Rng, pool: &mut Pool, count: u32) -> Verdict {
-    let mut totals = vec![0; pool.sheet.published()];
-    let mut accepted = 0;
-    for id in 0..count {
-        if accepted < u64::from(pool.least) && rng.chance(50) {
-            pool.close_refused(suite, 15)?;
-        }
-        let values = gen::values(rng, &pool.sheet);
-        let shares = pool.make(suite, rng, id, &values)?;
-        let (r, s) = gen::pair(rng, pool.sheet.multiplications());
-        if rng.chance(10) {
-            pool.share(suite, &shares, r, s)?;
-            pool.drop(suite, id)?;
-            continue;
-        }
-        if rng.chance(10) {
-            challenges::random_slip(suite, rng, pool, &shares, (r, s))?;
-            continue;
-        }
-        let joined = pool.share(suite, &shares, r, s)?;
-        let joined = pool.round_one(suite, &shuffled(rng, &joined))?;
-        let verdicts = pool.round_two(suite, &shuffled(rng, &joined))?;
-        if verdicts.iter().any(|&verdict| verdict != 1) {
-            return Err(format!("an honest return has the verdicts {verdicts:?}, r = {r}, s = {s}, id {id}"));
-        }
-        add_values(&pool.sheet, &values, &mut totals);
-        accepted += 1;
-    }
-    if accepted < u64::from(pool.least) {
-        return pool.close_refused(suite, 15);
-    }
-    let join = pool.close(suite)?;
-    let bytes = totals.iter().flat_map(|&total| (total as u32).to_le_bytes()).collect();
-    suite.gives(&join, plain(vec![accepted], bytes))
-}
-
-/// A pool by its seed: sheets of all sizes, 2 to 8 servers, Q often as many as come.
-pub fn pool(suite: &mut Suite, seed: u64) -> Verdict {
-    let mut rng = suite.seed(seed);
-    let entries = rng.pick([1, 6, 20, 60, 256]);
-    let bytes = gen::sheet(&mut rng, entries);
-    let servers = rng.between(2, 8) as u32;
-    let largest = Sheet::read(&bytes).map_or(1, |sheet| gen::largest_limit(&sheet));
-    let count = rng.between(1, 6).min(u64::from(largest)) as u32;
-    let returns = rng.pick([count, largest]);
-    let any = rng.between(1, count.into()) as u32;
-    let least = rng.pick([1, any, count, (count + 1).min(returns)]);
-    let mut pool = Pool::open_from(suite, servers, &bytes, returns, least)?;
-    honest(suite, &mut rng, &mut pool, count)
-}
-
-/// The largest sheets of each kind, at 2 and at 8 servers.
-pub fn large(suite: &mut Suite) -> Verdict {
-    let mut number = [19, 24].repeat(10);
-    number.extend([19, 5]);
-    let others = [vec![17; 256], [18, 64].repeat(4), [18, 2].repeat(128), [19, 1].repeat(128), number];
-    for bytes in others.into_iter().chain([longest_sheet(), largest_sheet()]) {
-        for servers in [2, 8] {
-            let mut rng = suite.seed(u64::from(servers));
-            let mut pool = Pool::open(suite, servers, &bytes, 3)?;
-            honest(suite, &mut rng, &mut pool, 2)?;
-        }
-    }
-    Ok(())
-}
-
-/// N = 1,024 returns are decided, the last eight of them mixed, none twice, and not one more.
-pub fn many(suite: &mut Suite) -> Verdict {
-    let mut rng = suite.seed(1024);
-    let mut pool = Pool::open(suite, 2, &[17], 1024)?;
-    let last = pool.make(suite, &mut rng, 1024, &[1, 0, 0, 0])?[0].clone();
-    let mut waiting = Vec::new();
-    for id in 0..1024 {
-        let shares = pool.make(suite, &mut rng, id, &[1, 0, 0, 0])?;
-        if id == 1023 {
-            used(suite, &pool, &shares[0])?;
-        }
-        if id >= 1016 {
-            waiting.push(pool.share(suite, &shares, 5, 6)?);
-        } else if pool.judge(suite, &shares, 5, 6)? != [1, 1] {
-            return Err(format!("the honest return {id} is not accepted"));
-        }
-    }
-    // A ninth: 11 while eight wait, 13 from then on.
-    let one_more = |pool: &Pool| {
-        let (table, message) = (pool.tables[0].clone(), last.clone());
-        Call { table, message, r: 5, s: 6, room: ONE_BYTES, ..Call::of(Function::Share) }
-    };
-    suite.number(&one_more(&pool), 11)?;
-    for joined in waiting.iter().rev() {
-        let joined = pool.round_one(suite, joined)?;
-        if pool.round_two(suite, &joined)? != [1, 1] {
-            return Err("an honest return that waited with others is not accepted".to_string());
-        }
-        suite.number(&one_more(&pool), 13)?;
-    }
-    let join = pool.close(suite)?;
-    suite.gives(&join, plain(vec![1024], vec![0, 4, 0, 0]))
-}
-
-/// With 1,023 returns decided or waiting, the first, the last and those between are used.
-fn used(suite: &mut Suite, pool: &Pool, share: &[u8]) -> Verdict {
-    let ids =
-        [(0, 10), (1, 10), (254, 10), (255, 10), (256, 10), (257, 10), (511, 10), (512, 10), (1022, 10), (1023, 0)];
-    for (id, number) in ids.into_iter().chain([(1 << 16, 0), (1 << 24, 0), ((1 << 32) - 1, 0)]) {
-        let (table, mut message) = (pool.tables[0].clone(), share.to_vec());
-        put_word(&mut message, 1, id);
-        suite.number(&Call { table, message, r: 5, s: 6, room: ONE_BYTES, ..Call::of(Function::Share) }, number)?;
-    }
-    Ok(())
-}
-
-/// The largest totals that open: 128 times 2^24 - 1 does not wrap, for a number and for a top.
-pub fn highest(suite: &mut Suite) -> Verdict {
-    for sheet in [&[19, 24][..], &[20, 255, 255, 255, 0]] {
-        let mut rng = suite.seed(128);
-        let mut pool = Pool::open(suite, 2, sheet, 128)?;
-        for id in 0..128 {
-            let shares = pool.make(suite, &mut rng, id, &[255, 255, 255, 0])?;
-            pool.judge(suite, &shares, 1_000_000 + u64::from(id), 77)?;
-        }
-        let join = pool.close(suite)?;
-        suite.gives(&join, plain(vec![128], 2_147_483_520u32.to_le_bytes().to_vec()))?;
-    }
-    Ok(())
 }

@@ -3,8 +3,8 @@
 use second::gen::Rng;
 
 use crate::calls::{Call, Function};
-use crate::fixture::{other, Fixture, NEXT};
-use crate::layout::{read, Parts, Slot, AWAITS_ONE, AWAITS_TWO, FREE, SLOTS};
+use crate::fixture::{other, other_stage, Fixture, NEXT};
+use crate::layout::{read, Parts, Slot, AWAITS_ENTRY, AWAITS_ONE, FREE, SLOTS};
 use crate::reference::{own_message, ONE_BYTES};
 use crate::suite::{Suite, Verdict};
 use crate::tables::{all_calls, changed, fixtures, refused, taken};
@@ -80,7 +80,7 @@ pub fn fields(suite: &mut Suite) -> Verdict {
         element.extend(wide);
         let mut range = vec![(0, false), (m, false), (m + 1, true), (2 * m + 1, true), (P - 1, true), (P, false)];
         range.extend(wide);
-        for (record, stage) in (0..SLOTS).flat_map(|record| [FREE, AWAITS_ONE, AWAITS_TWO].map(|s| (record, s))) {
+        for (record, stage) in (0..SLOTS).flat_map(|record| (FREE..=AWAITS_ENTRY).map(move |s| (record, s))) {
             let base = fixture.idle.with(|t| t.slots[record] = waits(&fixture, stage));
             changed(suite, &calls, &base, true, |_| ())?;
             for field in 0..4 {
@@ -98,14 +98,14 @@ pub fn fields(suite: &mut Suite) -> Verdict {
     Ok(())
 }
 
-/// Every record's stage: 0, 1 and 2, and nothing else, whatever else it holds.
+/// Every record's stage: 0 to 3 and nothing else, whatever else it holds.
 pub fn stages(suite: &mut Suite) -> Verdict {
-    let stages = [3, 4, 127, 255, 256, 257, 258, 1 << 16, 1 << 24, 1 << 31, (1 << 31) + 1, u32::MAX];
+    let stages = [4, 5, 127, 255, 256, 257, 259, 1 << 16, (1 << 24) + 3, 1 << 31, (1 << 31) + 1, u32::MAX];
     for fixture in roomy(suite)? {
         let calls = fixture.calls();
         for record in 0..SLOTS {
             let base = fixture.idle.with(|t| t.slots[record] = waits(&fixture, AWAITS_ONE));
-            for stage in [FREE, AWAITS_ONE, AWAITS_TWO] {
+            for stage in FREE..=AWAITS_ENTRY {
                 changed(suite, &calls, &base, true, |t| t.slots[record].stage = stage)?;
             }
             for stage in stages {
@@ -113,7 +113,7 @@ pub fn stages(suite: &mut Suite) -> Verdict {
                 changed(suite, &calls, &base, false, |t| t.slots[record] = Slot { stage, ..Slot::default() })?;
             }
             // A record of zeros that waits has no r above M.
-            for stage in [AWAITS_ONE, AWAITS_TWO] {
+            for stage in AWAITS_ONE..=AWAITS_ENTRY {
                 changed(suite, &calls, &base, false, |t| t.slots[record] = Slot { stage, ..Slot::default() })?;
             }
         }
@@ -126,7 +126,7 @@ pub fn elements(suite: &mut Suite) -> Verdict {
     let numbers = [0, 1, P - 1, P, P + 1, (1 << 32) - 1];
     for fixture in roomy(suite)? {
         let calls = fixture.calls();
-        for table in [&fixture.idle, &fixture.first, &fixture.second] {
+        for table in [&fixture.idle, &fixture.first, &fixture.second, &fixture.third] {
             let place = read(table)?.at.place;
             for at in 0..table.elements.len() {
                 let free = table.slots[at / place].stage == FREE;
@@ -150,7 +150,7 @@ pub fn taken_room(suite: &mut Suite) -> Verdict {
             t.bytes[6] = decided as u8;
             t.bytes[8] = 0;
             for record in (0..SLOTS).filter(|record| mask >> record & 1 == 1) {
-                let stage = 1 + record as u32 % 2;
+                let stage = other_stage(record);
                 t.slots[record] = Slot { id: 600 + record as u32, ..waits(&fixture, stage) };
             }
         })?;
@@ -171,11 +171,11 @@ fn fill(rng: &mut Rng, table: &Parts, byte: Option<u8>) -> Parts {
     filled
 }
 
-/// What is free is not read: a share is taken over it, rounds and drop and close leave it.
+/// What is free is not read: a share is taken over it, rounds, enter, drop and close leave it.
 pub fn free(suite: &mut Suite) -> Verdict {
     for fixture in fixtures(suite)? {
         let mut rng = suite.seed(800 + fixture.record as u64);
-        let mut calls = vec![fixture.share(), fixture.round_one(), fixture.round_two(), fixture.drop()];
+        let mut calls = fixture.on_next();
         if fixture.idle.waiting() == 0 {
             calls.push(fixture.close());
         }
@@ -189,7 +189,7 @@ pub fn free(suite: &mut Suite) -> Verdict {
         for record in (0..SLOTS).filter(|&record| fixture.idle.slots[record].stage == FREE) {
             let named = |t: &mut Parts| t.slots[record].id = NEXT;
             suite.number(&Call { table: fixture.idle.with(named), ..fixture.share() }, 0)?;
-            for call in [fixture.round_one(), fixture.round_two(), fixture.drop()] {
+            for call in fixture.on_next().into_iter().skip(1) {
                 suite.number(&Call { table: fixture.idle.with(named), ..call }, 11)?;
             }
         }
@@ -228,33 +228,38 @@ pub fn own(suite: &mut Suite) -> Verdict {
     Ok(())
 }
 
-/// An id that waits in two records: the first of them counts, in whatever stage it is.
+/// An id that waits in two records, in any two stages: the first of them counts.
 pub fn twice(suite: &mut Suite) -> Verdict {
+    let stages = (AWAITS_ONE..=AWAITS_ENTRY).flat_map(|one| (AWAITS_ONE..=AWAITS_ENTRY).map(move |two| (one, two)));
     for fixture in roomy(suite)?.into_iter().filter(|fixture| fixture.idle.waiting() == 0) {
-        let place = fixture.idle.elements.len() / SLOTS;
         for (early, late) in (0..SLOTS).flat_map(|late| (0..late).map(move |early| (early, late))) {
-            for (one, two) in [(AWAITS_ONE, AWAITS_TWO), (AWAITS_TWO, AWAITS_ONE), (AWAITS_ONE, AWAITS_ONE)] {
-                let table = fixture.idle.with(|t| {
-                    for (record, stage) in [(early, one), (late, two)] {
-                        let from = if stage == AWAITS_ONE { &fixture.first } else { &fixture.second };
-                        t.slots[record] = from.slots[0];
-                        t.elements[record * place..(record + 1) * place].copy_from_slice(&from.elements[..place]);
-                    }
-                });
-                let (round, wrong) = match one {
-                    AWAITS_ONE => (fixture.round_one(), fixture.round_two()),
-                    _ => (fixture.round_two(), fixture.round_one()),
-                };
-                suite.number(&Call { table: table.clone(), ..round }, 0)?;
-                suite.number(&Call { table: table.clone(), ..wrong }, 11)?;
-                let call = Call { table: table.clone(), id: NEXT, ..Call::of(Function::Drop) };
-                let after = suite.check(&call)?.map_err(|number| format!("refused {number}"))?.table;
-                if after.record(NEXT) != Some(late) {
-                    return Err(suite.failure(&call, "not the first record of the id that was dropped"));
-                }
-                suite.number(&Call { table, ..fixture.share() }, 10)?;
-            }
+            stages.clone().try_for_each(|stages| in_two(suite, &fixture, [early, late], stages))?;
         }
     }
     Ok(())
+}
+
+/// NEXT waits in two records, in these stages.
+fn in_two(suite: &mut Suite, fixture: &Fixture, records: [usize; 2], (one, two): (u32, u32)) -> Verdict {
+    let place = fixture.idle.elements.len() / SLOTS;
+    let table = fixture.idle.with(|t| {
+        for (record, stage) in records.into_iter().zip([one, two]) {
+            let from = [&fixture.first, &fixture.second, &fixture.third][stage as usize - 1];
+            t.slots[record] = from.slots[0];
+            t.elements[record * place..(record + 1) * place].copy_from_slice(&from.elements[..place]);
+        }
+    });
+    for (stage, call) in (1..).zip([fixture.round_one(), fixture.round_two(), fixture.enter()]) {
+        suite.number(&Call { table: table.clone(), ..call }, if stage == one { 0 } else { 11 })?;
+    }
+    for function in [Function::Drop, Function::Enter] {
+        let call = Call { table: table.clone(), id: NEXT, ..Call::of(function) };
+        let Ok(done) = suite.check(&call)? else {
+            continue;
+        };
+        if done.table.record(NEXT) != Some(records[1]) {
+            return Err(suite.failure(&call, "not the first record of the id that is decided"));
+        }
+    }
+    suite.number(&Call { table, ..fixture.share() }, 10)
 }

@@ -46,6 +46,7 @@ fn by_layout(call: &Call) -> Outcome {
         Function::Share => tables::share(call),
         Function::RoundOne => tables::round_one(call),
         Function::RoundTwo => tables::round_two(call),
+        Function::Enter => tables::enter(call),
         Function::Drop => tables::drop(call),
         Function::Close => tables::close(call),
         Function::Join => join(call),

@@ -24,6 +24,7 @@ fn step_call(step: &Step, table: &Parts) -> Call {
         Step::Share { message, r, s, room } => Call { message, r, s, room, ..Call::of(Function::Share) },
         Step::RoundOne { id, joined, room } => Call { id, message: joined, room, ..Call::of(Function::RoundOne) },
         Step::RoundTwo { id, joined } => Call { id, message: joined, ..Call::of(Function::RoundTwo) },
+        Step::Enter { id } => Call { id, ..Call::of(Function::Enter) },
         Step::Drop { id } => Call { id, ..Call::of(Function::Drop) },
         Step::Close { room } => Call { room, ..Call::of(Function::Close) },
     };
@@ -36,7 +37,7 @@ fn same(outcome: &Outcome, answer: &Answer) -> bool {
         (Ok(done), Answer::Message(message)) => done.bytes == *message,
         (Ok(done), Answer::Verdict(Accepted)) => done.numbers == [1],
         (Ok(done), Answer::Verdict(Rejected)) => done.numbers == [0],
-        (Ok(_), Answer::Dropped) => true,
+        (Ok(_), Answer::Entered | Answer::Dropped) => true,
         (Err(number), Answer::Refused(expected)) => number == expected,
         _ => false,
     }
@@ -89,17 +90,23 @@ pub fn script(suite: &mut Suite, seed: u64) -> Verdict {
     truth(suite, &script)
 }
 
-/// How many round ones were refused 16.
-pub fn unequal(suite: &Suite) -> u64 {
-    suite.seen.get(&(Function::RoundOne, refusal::UNEQUAL)).copied().unwrap_or(0)
+/// What whole runs must meet, and how often at least: round ones refused 16, entries, and entries refused 11.
+const OFTEN: [(Function, u32, u64); 3] =
+    [(Function::RoundOne, refusal::UNEQUAL, 1000), (Function::Enter, 0, 5000), (Function::Enter, refusal::STAGE, 1000)];
+
+/// How often each was met so far.
+pub fn met(suite: &Suite) -> [u64; 3] {
+    OFTEN.map(|(function, number, _)| suite.seen.get(&(function, number)).copied().unwrap_or(0))
 }
 
-/// At least a thousand more were than before.
-pub fn often(suite: &Suite, before: u64) -> Verdict {
-    match unequal(suite) - before {
-        0..1000 => Err(format!("{} round ones were refused 16", unequal(suite) - before)),
-        _ => Ok(()),
+/// Each was met often enough since then.
+pub fn often(suite: &Suite, before: [u64; 3]) -> Verdict {
+    for ((function, number, least), (now, before)) in OFTEN.into_iter().zip(met(suite).into_iter().zip(before)) {
+        if now - before < least {
+            return Err(format!("{function:?} gave the answer {number} {} times\nmust be {least}", now - before));
+        }
     }
+    Ok(())
 }
 
 /// Where an orderly script's pool reaches Q, the closing messages join to the sums that its returns add up to.

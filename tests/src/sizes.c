@@ -47,7 +47,7 @@ size_t sizes_constant(uint32_t number)
         POOL_MAX_SHEET_BYTES, POOL_MAX_CIRCUIT_BYTES, POOL_MAX_SHARE_BYTES, POOL_MAX_TOTALS_BYTES,
         POOL_MAX_TABLE_BYTES, POOL_MAX_SHELF_MESSAGES, POOL_MAX_SHELF_WIDTH, POOL_MAX_SHELF_BYTES,
         POOL_MAX_LISTS, POOL_MAX_EVERY_RETURN_BYTES,
-        POOL_SLOTS, POOL_MAX_ELEMENTS, POOL_FREE, POOL_AWAITS_ONE, POOL_AWAITS_TWO,
+        POOL_SLOTS, POOL_MAX_ELEMENTS, POOL_FREE, POOL_AWAITS_ONE, POOL_AWAITS_TWO, POOL_AWAITS_ENTRY,
     };
     return number < sizeof constants / sizeof constants[0] ? constants[number] : (size_t)-1;
 }
@@ -71,6 +71,7 @@ uint32_t (*const type_share)(in, size_t, slots, size_t, number, size_t, in, size
 uint32_t (*const type_round_one)(in, size_t, slots, size_t, numbers, size_t, uint32_t, in, size_t, out, size_t,
                                  size_t *) = pool_round_one;
 uint32_t (*const type_round_two)(out, size_t, slots, size_t, number, size_t, uint32_t, in, size_t, number) = pool_round_two;
+uint32_t (*const type_enter)(out, size_t, slots, size_t, number, size_t, uint32_t) = pool_enter;
 uint32_t (*const type_drop)(out, size_t, slots, size_t, number, size_t, uint32_t) = pool_drop;
 uint32_t (*const type_close)(out, size_t, slots_in, size_t, numbers, size_t, out, size_t, size_t *) = pool_close;
 uint32_t (*const type_join)(uint32_t, in, size_t, uint32_t, in, size_t, out, size_t, number, size_t *) = pool_join;

@@ -32,7 +32,7 @@ const REFUSALS: [usize; 19] = [0, 1, 2, 3, 4, 5, 6, 7, 8, 9, 10, 11, 12, 13, 14,
 /// After the refusals: p, S from and to, the most returns and entries, the column kinds, the lengths of round one and
 /// round two messages, and the largest sizes; R and W at most, and their product; lists at most, and their bytes; slots,
 /// the most numbers, and a slot's stages.
-const CONSTANTS: [usize; 26] = [
+const CONSTANTS: [usize; 27] = [
     2_147_483_647,
     2,
     8,
@@ -59,6 +59,7 @@ const CONSTANTS: [usize; 26] = [
     0,
     1,
     2,
+    3,
 ];
 
 /// A slot: its size and alignment; where id, stage, r, s, d and e stand, and their sizes.

@@ -7,7 +7,7 @@ use std::sync::atomic::{AtomicPtr, AtomicU64, Ordering};
 use second::gen::Rng;
 
 use crate::calls::{Call, Done, Function, Outcome};
-use crate::layout::{sound, SLOTS};
+use crate::layout::{sound, AWAITS_ENTRY, SLOTS};
 use crate::reference;
 use crate::tell::{compared, told};
 
@@ -25,11 +25,13 @@ pub struct Suite {
     pub calls: u64,
     /// How often each function gave each answer.
     pub seen: BTreeMap<(Function, u32), u64>,
+    /// After how many calls of a mix eight returns waited, some of them for entry.
+    pub crowded: u64,
 }
 
 impl Suite {
     pub fn new() -> Suite {
-        Suite { rng: Rng::new(0), seed: 0, calls: 0, seen: BTreeMap::new() }
+        Suite { rng: Rng::new(0), seed: 0, calls: 0, seen: BTreeMap::new(), crowded: 0 }
     }
 
     /// Starts over from a seed; gives the stream for the test's own choices.
@@ -99,6 +101,7 @@ impl Suite {
     /// Adds the counts of another suite.
     pub fn add(&mut self, other: Suite) {
         self.calls += other.calls;
+        self.crowded += other.crowded;
         for (key, count) in other.seen {
             *self.seen.entry(key).or_insert(0) += count;
         }
@@ -106,15 +109,20 @@ impl Suite {
 }
 
 /// Whether an opened table is empty, and whether a call that decides a return has left one record fewer that waits, and
-/// zeros in the record and in its place.
+/// zeros in the record and in its place. An accepted verdict decides nothing: it changes the stage of a record alone.
 fn erased(call: &Call, done: &Done) -> bool {
+    use Function::{Drop, Enter, Open, RoundTwo};
     let Some(table) = sound(&done.table) else {
-        return !matches!(call.function, Function::Open | Function::RoundTwo | Function::Drop);
+        return !matches!(call.function, Open | RoundTwo | Enter | Drop);
     };
     let freed = |record: &usize| call.table.slots[*record].stage != 0 && done.table.slots[*record].stage == 0;
     match call.function {
-        Function::Open => (0..SLOTS).all(|record| table.empty(&done.table, record)),
-        Function::RoundTwo | Function::Drop => {
+        Open => (0..SLOTS).all(|record| table.empty(&done.table, record)),
+        RoundTwo if done.numbers == [1] => call
+            .table
+            .record(call.id)
+            .is_some_and(|record| done.table == call.table.with(|table| table.slots[record].stage = AWAITS_ENTRY)),
+        RoundTwo | Enter | Drop => {
             let freed: Vec<usize> = (0..SLOTS).filter(freed).collect();
             freed.len() == 1 && table.empty(&done.table, freed[0])
         }

@@ -10,7 +10,7 @@ use crate::tops::top_column;
 
 const P: u64 = 2_147_483_647;
 
-/// All five calls on a table, each with the arguments that fit its own stage.
+/// All six calls on a table, each with the arguments that fit its own stage.
 pub fn all_calls(suite: &mut Suite, calls: &[Call], table: &Parts) -> Verdict {
     for call in calls {
         suite.agrees(&Call { table: table.clone(), ..call.clone() })?;
@@ -18,14 +18,14 @@ pub fn all_calls(suite: &mut Suite, calls: &[Call], table: &Parts) -> Verdict {
     Ok(())
 }
 
-/// All five calls refuse a table.
+/// All six calls refuse a table.
 pub fn refused(suite: &mut Suite, calls: &[Call], table: &Parts) -> Verdict {
     calls.iter().try_for_each(|call| suite.number(&Call { table: table.clone(), ..call.clone() }, 11))
 }
 
-/// The call that a stage takes is done with a change of its table: share, round one, round two, drop.
+/// The call that a stage takes is done with a change of its table: share, both rounds, enter, drop.
 pub fn taken(suite: &mut Suite, fixture: &Fixture, change: impl Fn(&mut Parts)) -> Verdict {
-    for call in [fixture.share(), fixture.round_one(), fixture.round_two(), fixture.drop()] {
+    for call in fixture.on_next() {
         suite.number(&Call { table: call.table.with(&change), ..call }, 0)?;
     }
     Ok(())
@@ -134,15 +134,15 @@ pub fn header_limits(suite: &mut Suite) -> Verdict {
     Ok(())
 }
 
-/// Decided and waiting at most N together; accepted at most decided.
+/// Decided and waiting at most N together; entered at most decided.
 fn counts(suite: &mut Suite, calls: &[Call], table: &Parts) -> Verdict {
     let returns = usize::from(table.bytes[4]);
     let most = returns - table.waiting();
     for decided in [0, 1, most, most + 1, returns + 1, 256, 65_535] {
-        for (accepted, good) in [(0, true), (decided, true), ((decided + 1).max(256), false)] {
+        for (entered, good) in [(0, true), (decided, true), ((decided + 1).max(256), false)] {
             changed(suite, calls, table, good && decided <= most, |t| {
                 put_short(&mut t.bytes, 6, decided);
-                put_short(&mut t.bytes, 8, accepted);
+                put_short(&mut t.bytes, 8, entered);
             })?;
         }
     }
@@ -224,7 +224,7 @@ pub fn ids(suite: &mut Suite) -> Verdict {
         suite.number(&call, 0)?;
         put_word(&mut call.table.bytes, at, id);
         suite.number(&call, 10)?;
-        for call in [fixture.round_one(), fixture.round_two(), fixture.drop()] {
+        for call in fixture.on_next().into_iter().skip(1) {
             let table = call.table.with(|t| put_word(&mut t.bytes, at, id));
             suite.number(&Call { table, ..call }, 0)?;
         }
@@ -244,7 +244,7 @@ pub fn random(suite: &mut Suite) -> Verdict {
                 // The records' own ids are named too.
                 let id = rng.pick([0, 3, 7]);
                 let id = table.slots.get(id).map_or(0, |slot| slot.id);
-                for function in [Function::RoundOne, Function::RoundTwo, Function::Drop] {
+                for function in [Function::RoundOne, Function::RoundTwo, Function::Enter, Function::Drop] {
                     let (table, message) = (table.clone(), fixture.joined_one.clone());
                     suite.agrees(&Call { table, id, message, room: TWO_BYTES, ..Call::of(function) })?;
                 }

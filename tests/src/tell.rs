@@ -55,6 +55,7 @@ impl fmt::Display for Call {
             }
             Function::RoundOne => write!(f, "pool_round_one {table} id={id} joined={message} out_len={room}"),
             Function::RoundTwo => write!(f, "pool_round_two {table} id={id} joined={message}"),
+            Function::Enter => write!(f, "pool_enter {table} id={id}"),
             Function::Drop => write!(f, "pool_drop {table} id={id}"),
             Function::Close => write!(f, "pool_close {table} out_len={room}"),
             Function::Join => {

@@ -75,8 +75,8 @@ fn entries(v: u64, left: u64, bits: u32) -> Vec<u64> {
 }
 
 /// A return of a yes/no and a column with a top: made by a workshop that says what it likes, and judged. It is accepted
-/// exactly when v and what is left add up to the top; then the total is v. One of zeros is accepted before, so that the
-/// pool closes.
+/// exactly when v and what is left add up to the top; then it is entered and the total is v. One of zeros is entered
+/// before, so that the pool closes.
 fn judged(suite: &mut Suite, rng: &mut Rng, servers: u32, top: u32, v: u64, left: u64) -> Verdict {
     let bytes = [vec![17], top_column(top)].concat();
     let sheet = Sheet::read(&bytes).map_err(|number| format!("refused {number}"))?;
@@ -84,9 +84,9 @@ fn judged(suite: &mut Suite, rng: &mut Rng, servers: u32, top: u32, v: u64, left
     let given = Return::of_entries(rng, &sheet, servers, 5, &list);
     let mut pool = Pool::open(suite, servers, &bytes, 3)?;
     let zeros = pool.make_zeros(suite, rng, 4)?;
-    pool.judge(suite, &zeros, 1_000_003, 19)?;
+    pool.admit(suite, &zeros, 1_000_003, 19)?;
     // s is not 0: the tests before the last are 0, and s = 0 would leave the last out.
-    let verdicts = pool.judge(suite, &given.shares, given.r, given.s.max(1))?;
+    let verdicts = pool.admit(suite, &given.shares, given.r, given.s.max(1))?;
     let good = v + left == u64::from(top);
     if verdicts != vec![u64::from(good); servers as usize] {
         return Err(format!("a top of {top}, {v} with {left} left: the verdicts are {verdicts:?}"));

@@ -1,91 +1,12 @@
-//! Eight returns waiting, told by hand: what is refused, which record a share gets, what drop and round two leave.
-
-use second::gen::Rng;
+//! Eight returns waiting, told by hand: what is refused, which record a share gets, what decides a return and what it
+//! leaves.
 
 use crate::calls::{Call, Function};
-use crate::layout::{put_word, read, word, Parts, Slot, AWAITS_ONE, AWAITS_TWO, SLOTS};
-use crate::pools::Pool;
-use crate::reference::{ONE_BYTES, TWO_BYTES};
+use crate::fixture::other_stage;
+use crate::hall::{after, id, Hall, NOBODY, OWN, R};
+use crate::layout::{put_word, read, word, Slot, AWAITS_ENTRY, AWAITS_ONE, AWAITS_TWO, SLOTS};
+use crate::reference::ONE_BYTES;
 use crate::suite::{Suite, Verdict};
-
-/// The table that is looked at.
-const OWN: usize = 1;
-const R: u64 = 1_000_003;
-
-/// The id of the return in a record, and one that nobody has.
-fn id(record: usize) -> u32 {
-    0x0100_0000 * record as u32 + 900
-}
-const NOBODY: u32 = 901;
-
-/// A pool in which returns wait in the first records; those of odd records await round two.
-struct Hall {
-    rng: Rng,
-    pool: Pool,
-    shares: Vec<Vec<Vec<u8>>>,
-    joined_one: Vec<Vec<u8>>,
-    joined_two: Vec<Vec<u8>>,
-}
-
-impl Hall {
-    fn of(suite: &mut Suite, servers: u32, sheet: &[u8], returns: u32, count: usize) -> Result<Hall, String> {
-        let rng = suite.seed(u64::from(servers) + 16 * count as u64);
-        let pool = Pool::open(suite, servers, sheet, returns)?;
-        let mut hall = Hall { rng, pool, shares: Vec::new(), joined_one: Vec::new(), joined_two: Vec::new() };
-        for record in 0..count {
-            let shares = hall.pool.make_zeros(suite, &mut hall.rng, id(record))?;
-            hall.joined_one.push(hall.pool.share(suite, &shares, R + record as u64, 19)?);
-            hall.shares.push(shares);
-        }
-        for record in 0..count {
-            let before = hall.pool.tables.clone();
-            hall.joined_two.push(hall.pool.round_one(suite, &hall.joined_one[record])?);
-            if record % 2 == 0 {
-                hall.pool.tables = before;
-            }
-        }
-        Ok(hall)
-    }
-
-    fn table(&self) -> Parts {
-        self.pool.tables[OWN].clone()
-    }
-
-    /// A share of a new return.
-    fn share(&mut self, suite: &mut Suite, id: u32) -> Result<Call, String> {
-        let shares = self.pool.make_zeros(suite, &mut self.rng, id)?;
-        let (table, message) = (self.table(), shares[OWN].clone());
-        Ok(Call { table, message, r: R, s: 3, room: ONE_BYTES, ..Call::of(Function::Share) })
-    }
-
-    /// A round under an id with the messages of a record.
-    fn round(&self, function: Function, id: u32, record: usize) -> Call {
-        let joined = if function == Function::RoundOne { &self.joined_one } else { &self.joined_two };
-        Call { table: self.table(), id, message: joined[record].clone(), room: TWO_BYTES, ..Call::of(function) }
-    }
-
-    fn drop(&self, id: u32) -> Call {
-        Call { table: self.table(), id, ..Call::of(Function::Drop) }
-    }
-
-    fn close(&self, table: Parts) -> Call {
-        Call { table, room: self.pool.sheet.closing_length(), ..Call::of(Function::Close) }
-    }
-
-    /// The call that decides the return in a record: round two where it awaits it, else a drop.
-    fn decide(&self, record: usize) -> Call {
-        match record % 2 {
-            0 => self.drop(id(record)),
-            _ => self.round(Function::RoundTwo, id(record), record),
-        }
-    }
-}
-
-/// The table after a call that must be done.
-fn after(suite: &mut Suite, call: &Call) -> Result<Parts, String> {
-    suite.number(call, 0)?;
-    suite.check(call)?.map(|done| done.table).map_err(|number| format!("refused {number}"))
-}
 
 /// A ninth share is refused 11 and not 13, whatever else is wrong with it, and taken when a record is free again.
 pub fn ninth(suite: &mut Suite) -> Verdict {
@@ -158,27 +79,28 @@ pub fn used(suite: &mut Suite) -> Verdict {
     Ok(())
 }
 
-/// Each round is taken under the ids that await it: 11 under those that await the other, are decided or unknown.
+/// A round or an entry is taken under the ids that await it: 11 under those that await another, are decided or unknown.
 pub fn stages(suite: &mut Suite) -> Verdict {
     for servers in [2, 5, 8] {
         let hall = Hall::of(suite, servers, &[18, 2], 20, 8)?;
         for record in 0..SLOTS {
-            let (right, wrong) = match record % 2 {
-                0 => (Function::RoundOne, Function::RoundTwo),
-                _ => (Function::RoundTwo, Function::RoundOne),
+            let named = |id: u32| {
+                let rounds = [Function::RoundOne, Function::RoundTwo].map(|function| hall.round(function, id, record));
+                rounds.into_iter().chain([hall.enter(id)])
             };
-            suite.number(&hall.round(right, id(record), record), 0)?;
-            suite.number(&hall.round(wrong, id(record), record), 11)?;
+            for (stage, call) in (1..).zip(named(id(record))) {
+                suite.number(&call, if stage == other_stage(record) { 0 } else { 11 })?;
+            }
             for bit in [0, 15, 31] {
-                let named = id(record) ^ 1 << bit;
-                suite.number(&hall.round(right, named, record), 11)?;
-                suite.number(&hall.drop(named), 11)?;
+                let other = id(record) ^ 1 << bit;
+                for call in named(other).chain([hall.drop(other)]) {
+                    suite.number(&call, 11)?;
+                }
             }
             let table = after(suite, &hall.decide(record))?;
-            for call in [hall.round(right, id(record), record), hall.round(wrong, id(record), record)] {
+            for call in named(id(record)).chain([hall.drop(id(record))]) {
                 suite.number(&Call { table: table.clone(), ..call }, 11)?;
             }
-            suite.number(&Call { table, ..hall.drop(id(record)) }, 11)?;
         }
     }
     Ok(())
@@ -188,8 +110,8 @@ pub fn stages(suite: &mut Suite) -> Verdict {
 pub fn others(suite: &mut Suite) -> Verdict {
     let hall = Hall::of(suite, 3, &[17], 20, 8)?;
     for (named, of) in (0..SLOTS).flat_map(|named| (0..SLOTS).map(move |of| (named, of))) {
-        for (function, parity) in [(Function::RoundOne, 0), (Function::RoundTwo, 1)] {
-            let number = match (named % 2 == parity, named == of) {
+        for (function, stage) in [(Function::RoundOne, AWAITS_ONE), (Function::RoundTwo, AWAITS_TWO)] {
+            let number = match (other_stage(named) == stage, named == of) {
                 (false, _) => 11,
                 (true, false) => 12,
                 (true, true) => 0,
@@ -199,7 +121,7 @@ pub fn others(suite: &mut Suite) -> Verdict {
         // One server's message of another id.
         let mut call = hall.round(Function::RoundOne, id(named), named);
         call.message[2 * ONE_BYTES..].copy_from_slice(&hall.joined_one[of][2 * ONE_BYTES..]);
-        let number = if named % 2 == 1 { 11 } else { 12 * u32::from(named != of) };
+        let number = if other_stage(named) == AWAITS_ONE { 12 * u32::from(named != of) } else { 11 };
         suite.number(&call, number)?;
     }
     Ok(())
@@ -272,8 +194,8 @@ pub fn first_free(suite: &mut Suite) -> Verdict {
     Ok(())
 }
 
-/// What the records tell: d and e are the own ones after a share, the sums after round one. Round one changes one record
-/// and nothing else.
+/// What the records tell: d and e are the own ones after a share, the sums after round one and after an accepted verdict.
+/// Both change one record and nothing else.
 pub fn told(suite: &mut Suite) -> Verdict {
     let hall = Hall::of(suite, 3, &[17, 18, 3], 9, 8)?;
     let table = hall.table();
@@ -284,16 +206,20 @@ pub fn told(suite: &mut Suite) -> Verdict {
         let first =
             Slot { id: id(record), stage: AWAITS_ONE, r: R + record as u64, s: 19, d: pair(OWN)[0], e: pair(OWN)[1] };
         let second = Slot { stage: AWAITS_TWO, d: sums[0], e: sums[1], ..first };
-        let must = if record % 2 == 0 { first } else { second };
+        let third = Slot { stage: AWAITS_ENTRY, ..second };
+        let must = [first, second, third][other_stage(record) as usize - 1];
         if table.slots[record] != must {
             return Err(format!("record {record} is {:?}\nmust be {must:?}", table.slots[record]));
         }
-        if record % 2 == 0 {
-            let call = hall.round(Function::RoundOne, id(record), record);
-            let next = after(suite, &call)?;
-            if next != table.with(|t| t.slots[record] = second) {
-                return Err(suite.failure(&call, &format!("{next}\nmust change record {record} only")));
-            }
+        let changed = match other_stage(record) {
+            AWAITS_ONE => second,
+            AWAITS_TWO => third,
+            _ => continue,
+        };
+        let call = hall.next(record);
+        let next = after(suite, &call)?;
+        if next != table.with(|t| t.slots[record] = changed) {
+            return Err(suite.failure(&call, &format!("{next}\nmust change record {record} only")));
         }
     }
     read(&table).map(|_| ())

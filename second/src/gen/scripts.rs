@@ -38,7 +38,7 @@ pub struct Script {
     /// closing messages, unaltered and with enough room.
     pub joins: Vec<Exchange>,
     /// For an orderly script that is closed, the count and the totals that must come out, summed
-    /// up from the added-up entries of the returns that every server accepted.
+    /// up from the added-up entries of the returns that every server entered.
     pub truth: Option<Joined>,
 }
 
@@ -53,8 +53,8 @@ impl Script {
     }
 
     /// A whole pool under demand 3's conditions: fresh servers opened alike, round
-    /// messages unaltered, drops in the same order, all closed at the end when Q are
-    /// accepted. Between the good calls stand refused ones.
+    /// messages unaltered, entries and drops in the same order, all closed at the end when Q
+    /// are entered. Between the good calls stand refused ones.
     pub fn orderly(seed: u64) -> Script {
         let mut builder = Builder::new(seed);
         builder.orderly();
@@ -62,7 +62,7 @@ impl Script {
     }
 
     /// Calls in any order with any arguments: each server goes its own way, meets messages
-    /// that nobody wrote, and may accept what the others dropped.
+    /// that nobody wrote, and may enter what the others dropped.
     pub fn wild(seed: u64) -> Script {
         let mut builder = Builder::new(seed);
         builder.wild();

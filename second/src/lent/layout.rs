@@ -1,7 +1,7 @@
 //! The three parts of a table: where everything stands in them, and the look over them.
 
 use super::shape::Shape;
-use super::{totals, Slot, AWAITS_TWO};
+use super::{totals, Slot, AWAITS_ENTRY};
 use crate::field::{self, P, WIDTH};
 use crate::judging::Findings;
 use crate::refusal;
@@ -29,7 +29,7 @@ const SERVERS: usize = 2;
 const OWN: usize = 3;
 const LIMIT: usize = 4;
 const DECIDED: usize = 6;
-const ACCEPTED: usize = 8;
+const ENTERED: usize = 8;
 const LEAST: usize = 10;
 const SHEET: usize = 12;
 const HEADER: usize = 14;
@@ -64,7 +64,7 @@ pub(super) struct Table<'a> {
     numbers: &'a mut [u32],
     pub shape: Shape,
     pub decided: usize,
-    pub accepted: usize,
+    pub entered: usize,
     /// Q.
     pub least: usize,
     /// How many records wait.
@@ -100,7 +100,7 @@ impl<'a> Table<'a> {
         let slots: &mut [Slot; PLACES] = slots.try_into().ok()?;
         Some(Table {
             decided: usize::from(pair(header, DECIDED)),
-            accepted: usize::from(pair(header, ACCEPTED)),
+            entered: usize::from(pair(header, ENTERED)),
             least,
             waiting: slots.iter().filter(|slot| slot.waits()).count(),
             header,
@@ -121,7 +121,7 @@ impl<'a> Table<'a> {
             && self.header[STAGE] <= CLOSED
             && (2..=8).contains(&self.header[SERVERS])
             && self.header[OWN] < self.header[SERVERS]
-            && self.accepted <= self.decided
+            && self.entered <= self.decided
             && self.decided + self.waiting <= self.ids.len()
             && field::all_elements(self.totals.as_flattened())
             && self.sound_places()
@@ -139,7 +139,7 @@ impl<'a> Table<'a> {
             .zip(places)
             .filter(|(slot, _)| slot.waits());
         waiting.all(|(slot, place)| {
-            slot.stage <= AWAITS_TWO
+            slot.stage <= AWAITS_ENTRY
                 && (gates + 1..P).contains(&slot.r)
                 && slot.s.max(slot.d).max(slot.e) < P
                 && field::all_below(place.iter().copied())
@@ -189,13 +189,13 @@ impl<'a> Table<'a> {
         })
     }
 
-    /// The return of a place is accepted: its published entries are added to the totals.
-    pub fn accept(&mut self, at: usize) {
+    /// The return of a place is entered: its published entries are added to the totals.
+    pub fn enter(&mut self, at: usize) {
         let start = self.shape.place() * at;
         let entries = &self.numbers[start..][..self.shape.entries];
         totals::add_published(self.sheet, &self.shape, self.totals, entries);
-        self.accepted += 1;
-        self.header[ACCEPTED..][..2].copy_from_slice(&(self.accepted as u16).to_le_bytes());
+        self.entered += 1;
+        self.header[ENTERED..][..2].copy_from_slice(&(self.entered as u16).to_le_bytes());
     }
 
     /// What was found on the share of a place, but for d and e, which are those of its record.

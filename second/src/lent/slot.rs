@@ -8,7 +8,7 @@ use crate::table::PLACES;
 pub struct Slot {
     /// The id that waits.
     pub id: u32,
-    /// [`FREE`], [`AWAITS_ONE`] or [`AWAITS_TWO`].
+    /// [`FREE`], [`AWAITS_ONE`], [`AWAITS_TWO`] or [`AWAITS_ENTRY`].
     pub stage: u32,
     /// The challenge r.
     pub r: u64,
@@ -36,3 +36,5 @@ pub const FREE: u32 = 0;
 pub const AWAITS_ONE: u32 = 1;
 /// The stage of a record whose return awaits round two.
 pub const AWAITS_TWO: u32 = 2;
+/// The stage of a record whose return is accepted and awaits entry.
+pub const AWAITS_ENTRY: u32 = 3;

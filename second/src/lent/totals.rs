@@ -1,4 +1,4 @@
-//! The totals of the lent form, to which an accepted return's published entries are added.
+//! The totals of the lent form, to which an entered return's published entries are added.
 
 use super::layout::Word;
 use super::shape::Shape;

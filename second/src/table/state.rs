@@ -20,8 +20,8 @@ pub(super) struct State {
     /// Q.
     least: u32,
     pub decided: Vec<u32>,
-    pub accepted: u32,
-    /// Sums of the published entries over the accepted returns. At most 1,024 elements
+    pub entered: u32,
+    /// Sums of the published entries over the entered returns. At most 1,024 elements
     /// meet in a sum, so it is reduced only when it is written.
     totals: Vec<u64>,
     /// The returns that wait, each at its place. A share goes to the first free one.
@@ -35,28 +35,31 @@ pub(super) struct Waiting {
     pub id: u32,
     findings: Findings,
     published: Vec<u64>,
-    written: Written,
+    progress: Progress,
 }
 
-/// The message that this server wrote for the round that a return waits for.
+/// What a return waits for: a round, with the message that this server wrote for it, or entry.
 #[derive(Clone, Debug, PartialEq, Eq)]
-enum Written {
+enum Progress {
     One([u8; ROUND_ONE_LENGTH]),
     Two([u8; ROUND_TWO_LENGTH]),
+    Accepted,
 }
 
 impl Waiting {
     pub fn stage(&self) -> Stage {
-        match self.written {
-            Written::One(_) => Stage::AwaitsRoundOne,
-            Written::Two(_) => Stage::AwaitsRoundTwo,
+        match self.progress {
+            Progress::One(_) => Stage::AwaitsRoundOne,
+            Progress::Two(_) => Stage::AwaitsRoundTwo,
+            Progress::Accepted => Stage::AwaitsEntry,
         }
     }
 
-    pub fn message(&self) -> &[u8] {
-        match &self.written {
-            Written::One(message) => message,
-            Written::Two(message) => message,
+    pub fn message(&self) -> Option<&[u8]> {
+        match &self.progress {
+            Progress::One(message) => Some(message),
+            Progress::Two(message) => Some(message),
+            Progress::Accepted => None,
         }
     }
 }
@@ -81,7 +84,7 @@ impl State {
             limit,
             least,
             decided: Vec::new(),
-            accepted: 0,
+            entered: 0,
             totals: vec![0; sheet.published()],
             places: Default::default(),
             closed: false,
@@ -161,17 +164,21 @@ impl State {
             id,
             findings,
             published,
-            written: Written::One(message),
+            progress: Progress::One(message),
         });
         Ok(message)
     }
 
-    /// The place of the return that waits under an id, and the message that this server wrote
-    /// for the round it waits for. Refusal 11.
-    fn written(&self, id: u32) -> Result<(usize, &Written), u32> {
+    /// The place of the return that waits under an id, and what it waits for. Refusal 11.
+    fn progress(&self, id: u32) -> Result<(usize, &Progress), u32> {
         let place = self.place(id).ok_or(refusal::STAGE)?;
         let waiting = self.places[place].as_ref().ok_or(refusal::STAGE)?;
-        Ok((place, &waiting.written))
+        Ok((place, &waiting.progress))
+    }
+
+    /// The return at a place where one waits.
+    fn waiting_at(&mut self, place: usize) -> Result<&mut Waiting, u32> {
+        self.places[place].as_mut().ok_or(refusal::STAGE)
     }
 
     pub fn round_one(
@@ -180,7 +187,7 @@ impl State {
         joined: &[u8],
         room: usize,
     ) -> Result<[u8; ROUND_TWO_LENGTH], u32> {
-        let (place, Written::One(written)) = self.written(id)? else {
+        let (place, Progress::One(written)) = self.progress(id)? else {
             return Err(refusal::STAGE);
         };
         let (d, e) = round_one_sums(self.servers, written, joined)?;
@@ -188,34 +195,46 @@ impl State {
             return Err(refusal::ROOM);
         }
         // "Round one [leads] to the second [wait]."
-        let first = self.first();
-        let waiting = self.places[place].as_mut().ok_or(refusal::STAGE)?;
+        let (own, first) = (self.own, self.first());
+        let waiting = self.waiting_at(place)?;
         let sigma = sigma(&waiting.findings, first, d, e);
-        let message = round_two_message(id, self.own, sigma, waiting.findings.tau);
-        waiting.written = Written::Two(message);
+        let message = round_two_message(id, own, sigma, waiting.findings.tau);
+        waiting.progress = Progress::Two(message);
         Ok(message)
     }
 
     pub fn round_two(&mut self, id: u32, joined: &[u8]) -> Result<Verdict, u32> {
-        let (place, Written::Two(written)) = self.written(id)? else {
+        let (place, Progress::Two(written)) = self.progress(id)? else {
             return Err(refusal::STAGE);
         };
         let sums = round_two_sums(self.servers, written, joined)?;
-        let waiting = self.decide(place)?;
-        // "Accepted when both sums are 0 modulo p. Then the published entries are added
-        // to the totals."
+        // "Accepted when both sums are 0 modulo p." "A rejected one is decided straight away."
         if sums != (0, 0) {
+            self.decide(place)?;
             return Ok(Verdict::Rejected);
         }
-        for (total, &entry) in self.totals.iter_mut().zip(&waiting.published) {
-            *total += entry;
-        }
-        self.accepted += 1;
+        // "An accepted return then waits until it is entered or dropped."
+        self.waiting_at(place)?.progress = Progress::Accepted;
         Ok(Verdict::Accepted)
     }
 
+    pub fn enter(&mut self, id: u32) -> Result<(), u32> {
+        // "Entering a return that has no accepted verdict ... is refused 11."
+        let (place, Progress::Accepted) = self.progress(id)? else {
+            return Err(refusal::STAGE);
+        };
+        // "Entering adds it exactly once": its published entries, to the totals.
+        let waiting = self.decide(place)?;
+        for (total, &entry) in self.totals.iter_mut().zip(&waiting.published) {
+            *total += entry;
+        }
+        self.entered += 1;
+        Ok(())
+    }
+
     pub fn drop(&mut self, id: u32) -> Result<(), u32> {
-        // "Dropping is allowed while a return waits, and its id stays used."
+        // "Dropping is allowed while a return waits, and its id stays used." "A return accepted
+        // but dropped is in none" of the totals.
         let place = self.place(id).ok_or(refusal::STAGE)?;
         self.decide(place).map(|_| ())
     }
@@ -228,24 +247,26 @@ impl State {
     }
 
     pub fn close(&mut self, room: usize) -> Result<Vec<u8>, u32> {
-        // No close while any waits.
+        // No close while any waits, for a round or for entry.
         if self.closed || self.waiting().next().is_some() {
             return Err(refusal::STAGE);
         }
         // "Closing with fewer than Q accepted gives no totals, and the pool stays open for
-        // more, up to N decided." "Too few accepted is refused 15, between 11 and 14."
-        if self.accepted < self.least {
+        // more, up to N decided." "Too few accepted is refused 15, between 11 and 14." There
+        // "accepted now reads entered".
+        if self.entered < self.least {
             return Err(refusal::FEW);
         }
         let length = self.sheet.closing_length();
         if room < length {
             return Err(refusal::ROOM);
         }
-        // "Closing writes byte 36, server, accepted count (4 bytes), published totals."
+        // "Closing writes byte 36, server, accepted count (4 bytes), published totals." "The
+        // accepted count is of entered returns."
         let mut message = Vec::with_capacity(length);
         message.push(CLOSING);
         message.push(self.own as u8);
-        message.extend_from_slice(&self.accepted.to_le_bytes());
+        message.extend_from_slice(&self.entered.to_le_bytes());
         for &total in &self.totals {
             field::put(&mut message, total % P);
         }

@@ -7,9 +7,9 @@ use second::gen::{Answer, Call, Origin, Return, Rng, Server};
 use second::lent::{self, Slot};
 use second::{table, Sheet, Verdict};
 
-/// Tables with a return accepted and one rejected: nothing waits, 3 awaits round one, 5 awaits
-/// round two, both with a free record between, and closed. Then calls of which each of them
-/// takes one, but for the closed one.
+/// Tables with a return entered and one rejected: nothing waits, 3 awaits round one, 5 awaits
+/// round two, 6 awaits entry, all three with a free record between, and closed. Then calls of
+/// which each of them takes one, but for the closed one: share, both rounds, enter, drops, close.
 pub struct Stages {
     pub tables: Vec<Lent>,
     pub calls: Vec<Call>,
@@ -22,31 +22,42 @@ pub fn stages(sheet: &[u8], limit: u32) -> Stages {
     let lents = (0..2).map(|own| Lent::open(2, own, sheet, limit, 1).unwrap());
     let mut lents: Vec<Lent> = lents.collect();
     judged(&mut lents, &make(1, Origin::Honest), Verdict::Accepted);
-    judged(&mut lents, &make(2, Origin::FalseTriple), Verdict::Rejected);
-    let [third, fourth, fifth, ninth] = [3, 4, 5, 9].map(|id| make(id, Origin::Honest));
-
-    let mut of_third = lents.clone();
-    let one = shared(&mut of_third, &third);
-    let mut of_fifth = lents.clone();
-    let before = shared(&mut of_fifth, &fifth);
-    let two = first_round(&mut of_fifth, &before);
-    let mut both = lents.clone();
-    for given in [&third, &fourth, &fifth] {
-        shared(&mut both, given);
+    for lent in &mut lents {
+        assert_eq!(lent.call(&Call::Enter { id: 1 }), Answer::Entered);
     }
-    assert_eq!(both[0].call(&Call::Drop { id: 4 }), Answer::Dropped);
-    first_round(&mut both, &before);
+    judged(&mut lents, &make(2, Origin::FalseTriple), Verdict::Rejected);
+    let returns = [3, 4, 5, 6, 9].map(|id| make(id, Origin::Honest));
+    of_tables(&lents, &returns)
+}
+
+/// The stages that come of tables, with the returns 3, 4, 5, 6 and 9.
+fn of_tables(lents: &[Lent], [third, fourth, fifth, sixth, ninth]: &[Return; 5]) -> Stages {
+    let mut of_third = lents.to_vec();
+    let one = shared(&mut of_third, third);
+    let mut of_fifth = lents.to_vec();
+    let before = shared(&mut of_fifth, fifth);
+    let two = first_round(&mut of_fifth, &before);
+    let mut of_sixth = lents.to_vec();
+    judged(&mut of_sixth, sixth, Verdict::Accepted);
+    let mut all = lents.to_vec();
+    for given in [third, fourth, fifth] {
+        shared(&mut all, given);
+    }
+    judged(&mut all, sixth, Verdict::Accepted);
+    assert_eq!(all[0].call(&Call::Drop { id: 4 }), Answer::Dropped);
+    first_round(&mut all, &before);
     let close = Call::Close { room: LONGEST };
     let mut closed = lents[0].clone();
     message(closed.call(&close));
 
-    let [idle, of_third, of_fifth, both] =
-        [lents, of_third, of_fifth, both].map(|mut tables| tables.swap_remove(0));
-    let drops = [Call::Drop { id: 3 }, Call::Drop { id: 5 }];
-    let [third, fifth] = drops;
+    let [of_third, of_fifth, of_sixth, all] =
+        [of_third, of_fifth, of_sixth, all].map(|mut tables| tables.swap_remove(0));
+    let mut calls = vec![share(ninth, 0), one, two, Call::Enter { id: 6 }];
+    calls.extend([3, 5, 6].map(|id| Call::Drop { id }));
+    calls.push(close);
     Stages {
-        tables: vec![idle, of_third, of_fifth, both, closed],
-        calls: vec![share(&ninth, 0), one, two, third, fifth, close],
+        tables: vec![lents[0].clone(), of_third, of_fifth, of_sixth, all, closed],
+        calls,
     }
 }
 
@@ -100,7 +111,7 @@ fn message(answer: Answer) -> Vec<u8> {
 pub fn sound(table: &Lent) -> Option<Vec<Slot>> {
     let bytes = &table.bytes[..];
     let pair = |at: usize| Some(u32::from(*bytes.get(at)?) + 256 * u32::from(*bytes.get(at + 1)?));
-    let (limit, decided, accepted, least) = (pair(4)?, pair(6)?, pair(8)?, pair(10)?);
+    let (limit, decided, entered, least) = (pair(4)?, pair(6)?, pair(8)?, pair(10)?);
     let end = 14 + pair(12)? as usize;
     let sheet = bytes.get(14..end)?;
     table::open(bytes[2].into(), bytes[3].into(), sheet, limit, least).ok()?;
@@ -118,10 +129,10 @@ pub fn sound(table: &Lent) -> Option<Vec<Slot>> {
         let in_range = slot.r > sheet.multiplications() as u64
             && [slot.r, slot.s, slot.d, slot.e].iter().all(|&n| n < P)
             && place.iter().all(|&n| u64::from(n) < P);
-        (slot.stage <= 2 && in_range).then_some(())?;
+        (slot.stage <= 3 && in_range).then_some(())?;
         waiting.push(*slot);
     }
-    let counts = accepted <= decided && decided + waiting.len() as u32 <= limit;
+    let counts = entered <= decided && decided + waiting.len() as u32 <= limit;
     let head = bytes[0] == 3 && bytes[1] == 0;
     (table.slots.len() == 8 && counts && head).then_some(waiting)
 }
@@ -133,6 +144,7 @@ fn allowed(waiting: &[Slot], call: &Call) -> bool {
         Call::Share { .. } => waiting.len() < 8,
         Call::RoundOne { id, .. } => stage(*id) == Some(1),
         Call::RoundTwo { id, .. } => stage(*id) == Some(2),
+        Call::Enter { id } => stage(*id) == Some(3),
         Call::Drop { id } => stage(*id).is_some(),
         Call::Close { .. } => waiting.is_empty(),
     }

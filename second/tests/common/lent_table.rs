@@ -2,6 +2,7 @@
 
 use second::gen::{Answer, Call, Server};
 use second::lent::{self, Slot, SLOTS};
+use second::Verdict;
 
 /// A byte that stands in every buffer before a call, four of them, and a record of them.
 pub const FILL: u8 = 0xA5;
@@ -60,6 +61,12 @@ impl Lent {
         })
     }
 
+    /// The record of the return that waits under an id.
+    pub fn record(&self, id: u32) -> Option<usize> {
+        let waits = |slot: &Slot| slot.stage != 0 && slot.id == id;
+        self.slots.iter().position(waits)
+    }
+
     /// The numbers of the place of a record.
     pub fn place(&self, record: usize) -> &[u32] {
         let width = self.run / SLOTS;
@@ -93,8 +100,8 @@ impl Lent {
         }
     }
 
-    /// Carries out a call; a message stands for a verdict and a drop too.
-    fn carry_out(&mut self, call: &Call) -> (Answer, Option<second::Verdict>) {
+    /// Carries out a call; a message stands for a verdict, an entry and a drop too.
+    fn carry_out(&mut self, call: &Call) -> (Answer, Option<Verdict>) {
         let mut verdict = None;
         let answer = match call {
             Call::Share {
@@ -112,6 +119,9 @@ impl Lent {
                 verdict = Some(lent::round_two(b, slots, n, *id, joined)?);
                 Ok(0)
             }),
+            Call::Enter { id } => self.writes(0, |b, slots, n, _| {
+                lent::enter(b, slots, n, *id).map(|()| 0)
+            }),
             Call::Drop { id } => {
                 self.writes(0, |b, slots, n, _| lent::drop(b, slots, n, *id).map(|()| 0))
             }
@@ -121,16 +131,23 @@ impl Lent {
     }
 
     /// What a call that was taken must leave as it was.
-    fn check_kept(&self, before: &Lent, call: &Call) {
+    fn check_kept(&self, before: &Lent, call: &Call, verdict: Option<Verdict>) {
         match call {
             Call::Share { .. } => assert_eq!(self.bytes, before.bytes),
             Call::RoundOne { .. } => {
                 assert_eq!(self.bytes, before.bytes);
                 assert_eq!(self.numbers, before.numbers);
             }
-            Call::RoundTwo { id, .. } | Call::Drop { id } => {
-                let waits = |slot: &Slot| slot.stage != 0 && slot.id == *id;
-                let record = before.slots.iter().position(waits).unwrap();
+            // An accepted verdict changes the stage of the record alone.
+            Call::RoundTwo { id, .. } if verdict == Some(Verdict::Accepted) => {
+                let mut slots = before.slots.clone();
+                slots[before.record(*id).unwrap()].stage = 3;
+                assert_eq!(self.slots, slots);
+                assert_eq!(self.bytes, before.bytes);
+                assert_eq!(self.numbers, before.numbers);
+            }
+            Call::RoundTwo { id, .. } | Call::Enter { id } | Call::Drop { id } => {
+                let record = before.record(*id).unwrap();
                 assert_eq!(self.slots[record], Slot::default());
                 assert!(self.place(record).iter().all(|&number| number == 0));
             }
@@ -148,10 +165,8 @@ impl Lent {
         let free = |slot: &Slot| slot.stage == 0;
         let own = match call {
             Call::Share { .. } => before.slots.iter().position(free),
-            Call::RoundOne { id, .. } | Call::RoundTwo { id, .. } | Call::Drop { id } => {
-                let waits = |slot: &Slot| slot.stage != 0 && slot.id == *id;
-                before.slots.iter().position(waits)
-            }
+            Call::RoundOne { id, .. } | Call::RoundTwo { id, .. } => before.record(*id),
+            Call::Enter { id } | Call::Drop { id } => before.record(*id),
             Call::Close { .. } => None,
         };
         for record in (0..SLOTS).filter(|&record| Some(record) != own) {
@@ -168,9 +183,10 @@ impl Server for Lent {
         if let Answer::Refused(_) = answer {
             return answer;
         }
-        self.check_kept(&before, call);
+        self.check_kept(&before, call, verdict);
         match (call, verdict) {
             (Call::RoundTwo { .. }, Some(verdict)) => Answer::Verdict(verdict),
+            (Call::Enter { .. }, _) => Answer::Entered,
             (Call::Drop { .. }, _) => Answer::Dropped,
             _ => answer,
         }

@@ -1,6 +1,8 @@
 //! Helpers of the tests.
 #![allow(dead_code)]
 
+pub mod hall;
+pub mod ledger;
 pub mod lent_model;
 pub mod lent_table;
 pub mod pool;
@@ -9,7 +11,7 @@ pub mod twins;
 
 use second::field::{self, P};
 use second::gen::{self, Rng};
-use second::{make, open, round_one, round_two, share, Sheet, Table, Verdict};
+use second::{enter, make, open, round_one, round_two, share, Sheet, Table, Verdict};
 
 /// p as a 4-byte number.
 pub const P32: u32 = P as u32;
@@ -155,6 +157,22 @@ pub fn judge(
     (first, second, verdicts[0])
 }
 
+/// The same, and enters the return at every table where it is accepted; gives the verdict.
+pub fn take(tables: &mut [Table], shares: &[Vec<u8>], r: u64, s: u64) -> Verdict {
+    let (_, _, verdict) = judge(tables, shares, r, s);
+    if verdict == Verdict::Accepted {
+        enter_all(tables, id_of(&shares[0]));
+    }
+    verdict
+}
+
+/// Enters a return at every table.
+pub fn enter_all(tables: &mut [Table], id: u32) {
+    for table in tables {
+        assert_eq!(enter(table, id), Ok(()));
+    }
+}
+
 /// The share messages of a return that was made, one for each server.
 pub fn split(sheet: &Sheet, messages: &[u8]) -> Vec<Vec<u8>> {
     let shares = messages.chunks(sheet.share_length());
@@ -170,4 +188,15 @@ pub fn honest(sheet: &[u8], servers: u32, id: u32) -> Vec<Vec<u8>> {
     let random = gen::elements(&mut rng, count);
     let messages = make(sheet, servers, id, &values, &random, ROOM).unwrap();
     split(&shape, &messages)
+}
+
+/// A call that is refused with this number and changes nothing.
+pub fn refused<T: std::fmt::Debug + PartialEq>(
+    table: &mut Table,
+    number: u32,
+    call: impl FnOnce(&mut Table) -> Result<T, u32>,
+) {
+    let before = table.clone();
+    assert_eq!(call(table), Err(number));
+    assert_eq!(*table, before);
 }

@@ -12,22 +12,23 @@ pub const SHEET: [u8; 3] = [17, 18, 2];
 /// A close with room enough.
 pub const CLOSE: Call = Call::Close { room: 1000 };
 
-/// How a return ends: dropped before round one, or after it.
+/// How a return ends: dropped before round one, after it, or after an accepted verdict.
 #[derive(Clone, Copy, Debug, PartialEq)]
 pub enum End {
-    Accepted,
+    Entered,
     Rejected,
     Dropped,
     DroppedLate,
+    DroppedAccepted,
 }
 
-/// S tables opened alike, and the returns that were accepted.
+/// S tables opened alike, and the returns that were entered.
 #[derive(Clone, Debug, PartialEq)]
 pub struct Pool {
     pub tables: Vec<Twins>,
     limit: u32,
     next: u32,
-    accepted: Vec<Vec<Vec<u8>>>,
+    entered: Vec<Vec<Vec<u8>>>,
     joined: Vec<u8>,
 }
 
@@ -37,7 +38,7 @@ impl Pool {
             tables: Twins::open_all(servers, &SHEET, limit, least),
             limit,
             next: 100,
-            accepted: Vec::new(),
+            entered: Vec::new(),
             joined: Vec::new(),
         }
     }
@@ -72,15 +73,30 @@ impl Pool {
         self.joined = messages(&mut self.tables, |_| call.clone());
     }
 
-    /// Every server takes round two of the last return, which is honest.
-    fn accept(&mut self, id: u32) {
+    /// Every server takes round two of the last return, which is honest and awaits entry then.
+    pub fn accept(&mut self, id: u32) {
         let joined = self.joined.clone();
         let call = Call::RoundTwo { id, joined };
         for table in &mut self.tables {
             let answer = table.call(&call);
             assert_eq!(answer, Answer::Verdict(Verdict::Accepted));
         }
-        self.accepted.push(self.shares(id));
+    }
+
+    /// Every server enters an accepted return.
+    pub fn enter(&mut self, id: u32) {
+        for table in &mut self.tables {
+            assert_eq!(table.call(&Call::Enter { id }), Answer::Entered);
+        }
+        self.entered.push(self.shares(id));
+    }
+
+    /// Takes a new return to its accepted verdict; gives the id.
+    pub fn accepted(&mut self) -> u32 {
+        let id = self.share();
+        self.one(id);
+        self.accept(id);
+        id
     }
 
     pub fn drop(&mut self, id: u32) {
@@ -96,15 +112,18 @@ impl Pool {
             return self.drop(id);
         }
         self.one(id);
+        if matches!(end, End::Entered | End::DroppedAccepted) {
+            self.accept(id);
+        }
         match end {
-            End::Accepted => self.accept(id),
+            End::Entered => self.enter(id),
             End::Rejected => self.reject(id),
-            End::Dropped | End::DroppedLate => self.drop(id),
+            _ => self.drop(id),
         }
     }
 
     /// Every server is told of another's sigma with 1 added: no sum is 0 then.
-    fn reject(&mut self, id: u32) {
+    pub fn reject(&mut self, id: u32) {
         let servers = self.tables.len();
         for own in 0..servers {
             let mut joined = self.joined.clone();
@@ -126,18 +145,18 @@ impl Pool {
         }
     }
 
-    /// The closing message of a server: the accepted returns and the sums of its shares.
+    /// The closing message of a server: the entered returns and the sums of its shares.
     pub fn closing_of(&self, own: usize) -> Vec<u8> {
         let entry = |shares: &Vec<Vec<u8>>, k: usize| {
             let at = 6 + 4 * k;
             field::elements(&shares[own][at..at + 4]).unwrap()[0]
         };
-        let total = |k: usize| field::sum(self.accepted.iter().map(|shares| entry(shares, k)));
+        let total = |k: usize| field::sum(self.entered.iter().map(|shares| entry(shares, k)));
         let totals = [0, 1, 2].map(|k| total(k) as u32);
-        closing(own as u8, self.accepted.len() as u32, &totals)
+        closing(own as u8, self.entered.len() as u32, &totals)
     }
 
-    /// Closes every table; gives the closing messages, which are those of the accepted returns.
+    /// Closes every table; gives the closing messages, which are those of the entered returns.
     pub fn closings(&mut self) -> Vec<u8> {
         let joined = messages(&mut self.tables, |_| CLOSE);
         let must = (0..self.tables.len()).flat_map(|own| self.closing_of(own));
@@ -145,17 +164,17 @@ impl Pool {
         joined
     }
 
-    /// Closes every table and joins; the totals are those of the accepted returns.
+    /// Closes every table and joins; the totals are those of the entered returns.
     pub fn closed(&mut self) -> Joined {
         let (servers, joined) = (self.tables.len() as u32, self.closings());
         let answer = join(servers, &SHEET, self.limit, &joined, ROOM).unwrap();
         let mut totals = [0; 3];
         for (total, k) in totals.iter_mut().zip(0..) {
-            let shares = self.accepted.iter().flatten();
+            let shares = self.entered.iter().flatten();
             let entries = shares.map(|share| field::elements(&share[6..18]).unwrap()[k]);
             *total = field::sum(entries) as u32;
         }
-        let count = self.accepted.len() as u32;
+        let count = self.entered.len() as u32;
         let totals = words(&totals);
         assert_eq!(answer, Joined { count, totals });
         answer

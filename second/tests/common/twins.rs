@@ -48,6 +48,7 @@ impl Server for Twins {
             .map(|(id, stage)| match stage {
                 Stage::AwaitsRoundOne => (id, 1),
                 Stage::AwaitsRoundTwo => (id, 2),
+                Stage::AwaitsEntry => (id, 3),
             })
             .collect();
         assert_eq!(records, waiting);

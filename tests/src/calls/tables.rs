@@ -30,6 +30,9 @@ impl<T: Item> Part<T> {
     }
 }
 
+/// A function that takes a table and an id.
+type ById = unsafe extern "C" fn(*mut u8, usize, *mut Slot, usize, *mut u32, usize, u32) -> u32;
+
 /// Adds the table after the call.
 fn on_table(
     mut outcome: Outcome,
@@ -164,12 +167,13 @@ impl Call {
         on_table(numbers(answer, &[accepted])?, &table, &slots, &elements)
     }
 
-    pub(super) fn drop(&self, rng: &mut Rng) -> Result<Outcome, String> {
+    /// Entering or dropping: a call on a table that names an id and no more.
+    pub(super) fn by_id(&self, rng: &mut Rng, function: ById) -> Result<Outcome, String> {
         let mut table = Part::held("table", &self.table.bytes, rng);
         let mut slots = Part::held("slots", &self.table.slots, rng);
         let mut elements = Part::held("elements", &self.table.elements, rng);
         let answer = unsafe {
-            c::pool_drop(
+            function(
                 table.lent.pointer_mut(),
                 table.lent.length(),
                 slots.lent.pointer_mut(),

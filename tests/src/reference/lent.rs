@@ -17,10 +17,10 @@ fn ours(slots: &[TheirSlot]) -> Vec<Slot> {
 
 /// The answer of the lent form; `None` for a call that is not on a table.
 pub fn answer(call: &Call) -> Option<Outcome> {
-    use Function::{Close, Drop, Open, RoundOne, RoundTwo, Share};
+    use Function::{Close, Drop, Enter, Open, RoundOne, RoundTwo, Share};
     match call.function {
         Open => Some(open(call)),
-        Share | RoundOne | RoundTwo | Drop | Close => Some(on_table(call)),
+        Share | RoundOne | RoundTwo | Enter | Drop | Close => Some(on_table(call)),
         _ => None,
     }
 }
@@ -48,10 +48,8 @@ fn on_table(call: &Call) -> Outcome {
             let verdict = lent::round_two(t, s, e, id, message)?;
             (vec![u64::from(verdict == Verdict::Accepted)], 0)
         }
-        Function::Drop => {
-            lent::drop(t, s, e, id)?;
-            (Vec::new(), 0)
-        }
+        Function::Enter => lent::enter(t, s, e, id).map(|()| (Vec::new(), 0))?,
+        Function::Drop => lent::drop(t, s, e, id).map(|()| (Vec::new(), 0))?,
         _ => (Vec::new(), lent::close(t, s, e, &mut out)?),
     };
     out.truncate(written);

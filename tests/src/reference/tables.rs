@@ -142,24 +142,33 @@ pub fn round_two(call: &Call) -> Outcome {
     let record = awaits(call, layout::AWAITS_TWO)?;
     let accepted = sums(&table, &call.table, record, &call.message)? == (0, 0);
     let mut after = call.table.clone();
-    if accepted {
-        for (k, entry) in table.sheet.published_entries().enumerate() {
-            let at = table.at.totals + 4 * k;
-            let share = u64::from(table.place(&call.table, record)[entry]);
-            let total = field::add(word(&after.bytes, at), share);
-            put_word(&mut after.bytes, at, total);
-        }
+    match accepted {
+        true => after.slots[record].stage = layout::AWAITS_ENTRY,
+        false => decide(&table, &mut after, record, 0),
     }
-    decide(&table, &mut after, record, usize::from(accepted));
     done(vec![u64::from(accepted)], Vec::new(), after)
 }
 
+pub fn enter(call: &Call) -> Outcome {
+    let table = open_table(call)?;
+    let record = awaits(call, layout::AWAITS_ENTRY)?;
+    let mut after = call.table.clone();
+    for (k, entry) in table.sheet.published_entries().enumerate() {
+        let at = table.at.totals + 4 * k;
+        let share = u64::from(table.place(&call.table, record)[entry]);
+        let total = field::add(word(&after.bytes, at), share);
+        put_word(&mut after.bytes, at, total);
+    }
+    decide(&table, &mut after, record, 1);
+    done(Vec::new(), Vec::new(), after)
+}
+
 /// The return of a record is decided: its id is noted, all else of it is erased, and the record is free.
-fn decide(table: &Table, after: &mut Parts, record: usize, accepted: usize) {
+fn decide(table: &Table, after: &mut Parts, record: usize, entered: usize) {
     let id = after.slots[record].id;
     put_word(&mut after.bytes, table.at.ids + 4 * table.decided, id.into());
     put_short(&mut after.bytes, 6, table.decided + 1);
-    put_short(&mut after.bytes, 8, table.accepted + accepted);
+    put_short(&mut after.bytes, 8, table.entered + entered);
     after.slots[record] = Slot::default();
     table.place_mut(after, record).fill(0);
 }
@@ -177,14 +186,14 @@ pub fn close(call: &Call) -> Outcome {
     if call.table.waiting() > 0 {
         return Err(refusal::STAGE);
     }
-    if table.accepted < table.least {
+    if table.entered < table.least {
         return Err(refusal::FEW);
     }
     if call.room < table.sheet.closing_length() {
         return Err(refusal::ROOM);
     }
     let mut bytes = vec![36, table.own as u8];
-    bytes.extend((table.accepted as u32).to_le_bytes());
+    bytes.extend((table.entered as u32).to_le_bytes());
     bytes.extend(&call.table.bytes[table.at.totals..table.at.ids]);
     let mut after = call.table.clone();
     after.bytes[1] = layout::CLOSED;

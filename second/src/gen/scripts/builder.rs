@@ -25,6 +25,8 @@ pub(super) struct Builder {
     /// The round messages that were written, by id, kind byte and server.
     pub written: BTreeMap<(u32, u8, u32), Vec<u8>>,
     pub closings: BTreeMap<u32, Vec<u8>>,
+    /// Servers that stopped before they entered an id.
+    pub late: Vec<(u32, u32)>,
 }
 
 impl Builder {
@@ -38,12 +40,7 @@ impl Builder {
             4..=8 => (6, rng.between(9, 16)),
             _ => (12, rng.between(2, 12)),
         };
-        let (bytes, sheet) = loop {
-            let bytes = sheets::sheet(&mut rng, max);
-            if let Ok(sheet) = Sheet::read(&bytes) {
-                break (bytes, sheet);
-            }
-        };
+        let (bytes, sheet) = any_sheet(&mut rng, max);
         // N a little above or below the number of returns, or large.
         let most = sheets::largest_limit(&sheet);
         let low = rng.pick([1, planned.div_ceil(2), planned]);
@@ -67,10 +64,11 @@ impl Builder {
             steps: Vec::new(),
             written: BTreeMap::new(),
             closings: BTreeMap::new(),
+            late: Vec::new(),
         }
     }
 
-    /// Whether a pool with too few accepted goes on: mostly, where N are decided now and then.
+    /// Whether a pool with too few entered goes on: mostly, where N are decided now and then.
     pub fn goes_on(&mut self) -> bool {
         let full = |table: &Table| table.decided().len() == self.limit as usize;
         let full = self.tables.iter().any(full);
@@ -128,6 +126,16 @@ impl Builder {
         let made = Return::random(&mut self.rng, &self.sheet, self.servers, id, origin);
         self.returns.push(made);
         self.returns.len() - 1
+    }
+}
+
+/// A sheet that is read, with at most so many entries.
+fn any_sheet(rng: &mut Rng, max: usize) -> (Vec<u8>, Sheet) {
+    loop {
+        let bytes = sheets::sheet(rng, max);
+        if let Ok(sheet) = Sheet::read(&bytes) {
+            return (bytes, sheet);
+        }
     }
 }
 

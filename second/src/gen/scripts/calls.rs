@@ -21,6 +21,8 @@ pub enum Call {
     },
     /// Round two's joined messages for an id.
     RoundTwo { id: u32, joined: Vec<u8> },
+    /// An entry of an id.
+    Enter { id: u32 },
     /// A drop of an id.
     Drop { id: u32 },
     /// A close.
@@ -34,6 +36,8 @@ pub enum Answer {
     Message(Vec<u8>),
     /// Round two's verdict.
     Verdict(Verdict),
+    /// An entry was taken.
+    Entered,
     /// A drop was taken.
     Dropped,
     /// The refusal's number.
@@ -80,6 +84,7 @@ impl<F: Form> Server for Table<F> {
             Call::RoundTwo { id, joined } => {
                 table::round_two(self, *id, joined).map(Answer::Verdict)
             }
+            Call::Enter { id } => table::enter(self, *id).map(|()| Answer::Entered),
             Call::Drop { id } => table::drop(self, *id).map(|()| Answer::Dropped),
             Call::Close { room } => table::close(self, *room).map(Answer::Message),
         };

@@ -7,7 +7,7 @@ use crate::gen::any::wrong_least;
 use crate::gen::closings::{closing, damage_closings, recount_input};
 use crate::gen::{added_up, Case, Exchange};
 use crate::joining::Joined;
-use crate::table::{Table, Verdict};
+use crate::table::Table;
 
 impl Builder {
     /// Openings of the same pool with a Q outside 1 to N, in half of the scripts.
@@ -34,8 +34,8 @@ impl Builder {
             match self.closings.get(&server) {
                 Some(message) => joined.extend_from_slice(message),
                 None => {
-                    let accepted = self.tables[server as usize].accepted();
-                    joined.extend(closing(&mut self.rng, server, accepted, published));
+                    let entered = self.tables[server as usize].entered();
+                    joined.extend(closing(&mut self.rng, server, entered, published));
                 }
             }
         }
@@ -52,7 +52,7 @@ impl Builder {
         let mut joins = vec![
             join(self.limit, joined.clone(), needed),
             join(self.limit, joined.clone(), needed - 1),
-            join(self.tables[0].accepted(), joined.clone(), needed),
+            join(self.tables[0].entered(), joined.clone(), needed),
         ];
         for _ in 0..2 {
             let mut damaged = joined.clone();
@@ -64,14 +64,13 @@ impl Builder {
         joins
     }
 
-    /// The count and the totals of the returns that round two accepted.
+    /// The count and the totals of the returns that were entered.
     fn truth(&self) -> Joined {
         let mut count = 0;
         let mut totals = vec![0; self.sheet.published()];
-        // All servers give the same verdict: server 0 is asked.
+        // All servers enter the same ones: server 0 is asked.
         for step in self.steps.iter().filter(|step| step.server == 0) {
-            let accepted = Answer::Verdict(Verdict::Accepted);
-            let (Call::RoundTwo { id, .. }, true) = (&step.call, step.answer == accepted) else {
+            let (Call::Enter { id }, Answer::Entered) = (&step.call, &step.answer) else {
                 continue;
             };
             count += 1;

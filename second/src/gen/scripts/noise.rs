@@ -16,10 +16,13 @@ impl Builder {
             return;
         }
         for _ in 0..self.rng.between(1, 3) {
-            let call = match self.rng.below(8) {
+            let call = match self.rng.below(9) {
                 0..=2 => self.noise_share(server),
                 3 | 4 => self.noise_round(server, ROUND_ONE),
                 5 | 6 => self.noise_round(server, ROUND_TWO),
+                7 => Call::Enter {
+                    id: self.some_id(server),
+                },
                 _ if self.rng.chance(50) => Call::Drop {
                     id: self.some_id(server),
                 },

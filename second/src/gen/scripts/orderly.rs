@@ -5,7 +5,7 @@ use super::{Answer, Call};
 use crate::gen::any::any_room;
 use crate::gen::pair;
 use crate::judging::{ROUND_ONE, ROUND_ONE_LENGTH, ROUND_TWO, ROUND_TWO_LENGTH};
-use crate::table::Table;
+use crate::table::{Table, Verdict};
 
 /// A return on its way through the pool.
 struct Course {
@@ -19,6 +19,8 @@ struct Course {
     pairs: Vec<(u64, u64)>,
     /// Whether a server refused round one, for challenges that differ.
     refused: bool,
+    /// Whether a server rejected it, as all do then.
+    rejected: bool,
 }
 
 /// The calls that a return meets at the servers, one phase after the other.
@@ -27,11 +29,26 @@ enum Phase {
     Share,
     One,
     Two,
+    Enter,
     Drop,
 }
 
+impl Course {
+    /// Notes what a server answered. A share may be refused: 13 past N, 11 where eight wait.
+    /// Round one may be refused 16.
+    fn note(&mut self, server: u32, answer: &Answer) {
+        let taken = matches!(answer, Answer::Message(_));
+        match self.phase {
+            Phase::Share if taken => self.reached.push(server),
+            Phase::One => self.refused |= !taken,
+            Phase::Two => self.rejected |= *answer == Answer::Verdict(Verdict::Rejected),
+            _ => {}
+        }
+    }
+}
+
 impl Builder {
-    /// Takes the planned returns through the pool, then closes. While too few are accepted, more
+    /// Takes the planned returns through the pool, then closes. While too few are entered, more
     /// returns come, and another close.
     pub fn orderly(&mut self) {
         // So many are under way at once. With nine, a server may meet one too many.
@@ -57,6 +74,17 @@ impl Builder {
             if !self.advance(&mut courses[at]) {
                 courses.swap_remove(at);
             }
+        }
+        self.catch_up();
+    }
+
+    /// The servers that stopped between verdict and entry go on.
+    fn catch_up(&mut self) {
+        let mut late = std::mem::take(&mut self.late);
+        self.rng.shuffle(&mut late);
+        for (server, id) in late {
+            self.noise(server);
+            self.call(server, Call::Enter { id });
         }
     }
 
@@ -85,6 +113,7 @@ impl Builder {
             reached: Vec::new(),
             pairs: self.pairs(number),
             refused: false,
+            rejected: false,
         }
     }
 
@@ -109,18 +138,21 @@ impl Builder {
 
     /// Makes a return's next call; tells whether more are to come.
     fn advance(&mut self, course: &mut Course) -> bool {
+        if course.phase == Phase::Enter && self.rng.chance(5) {
+            // The servers that have still to enter it stop, and go on before the close.
+            let id = self.returns[course.number].id;
+            self.late
+                .extend(course.left.drain(..).map(|server| (server, id)));
+        }
         if let Some(server) = course.left.pop() {
             self.noise(server);
             let call = self.next_call(course, server);
-            let taken = matches!(self.call(server, call), Answer::Message(_));
-            // A share may be refused: 13 past N, 11 where eight wait. Round one may be refused 16.
-            match course.phase {
-                Phase::Share if taken => course.reached.push(server),
-                Phase::One => course.refused |= !taken,
-                _ => {}
-            }
+            let answer = self.call(server, call);
+            course.note(server, &answer);
         }
-        if !course.left.is_empty() {
+        let round = matches!(course.phase, Phase::One | Phase::Two);
+        let broken_off = round && self.rng.chance(1);
+        if !course.left.is_empty() && !broken_off {
             return true;
         }
         let Some(phase) = self.next_phase(course) else {
@@ -132,18 +164,21 @@ impl Builder {
         !course.left.is_empty()
     }
 
-    /// The phase after one that every server was called in. "With unaltered messages the return
-    /// keeps waiting, and only dropping ends it", where the challenges differ: some servers
-    /// try once more.
+    /// The phase after one that every server was called in, or that was broken off, after which
+    /// all drop the return: "no id dropped at one server is entered at another, whatever its
+    /// verdict there". "With unaltered messages the return keeps waiting, and only dropping ends
+    /// it", where the challenges differ: some servers try once more.
     fn next_phase(&mut self, course: &Course) -> Option<Phase> {
-        let whole = course.reached.len() == self.servers as usize;
-        let drop = !whole || self.rng.chance(6);
+        let whole = course.reached.len() == self.servers as usize && course.left.is_empty();
+        let drop = !whole || self.rng.chance(4);
         match course.phase {
-            Phase::Two | Phase::Drop => None,
-            Phase::One if course.refused && self.rng.chance(20) => Some(Phase::One),
+            Phase::Enter | Phase::Drop => None,
+            Phase::Two if whole && course.rejected => None,
+            Phase::One if whole && course.refused && self.rng.chance(20) => Some(Phase::One),
             _ if drop || course.refused => Some(Phase::Drop),
             Phase::Share => Some(Phase::One),
             Phase::One => Some(Phase::Two),
+            Phase::Two => Some(Phase::Enter),
         }
     }
 
@@ -169,6 +204,7 @@ impl Builder {
                 id,
                 joined: self.joined(id, ROUND_TWO),
             },
+            Phase::Enter => Call::Enter { id },
             Phase::Drop => Call::Drop { id },
         }
     }

@@ -18,6 +18,7 @@ impl fmt::Display for Call {
             } => write!(f, "share {r} {s} {room} {}", Hex(message)),
             Call::RoundOne { id, joined, room } => write!(f, "one {id} {room} {}", Hex(joined)),
             Call::RoundTwo { id, joined } => write!(f, "two {id} {}", Hex(joined)),
+            Call::Enter { id } => write!(f, "enter {id}"),
             Call::Drop { id } => write!(f, "drop {id}"),
             Call::Close { room } => write!(f, "close {room}"),
         }
@@ -30,6 +31,7 @@ impl fmt::Display for Answer {
             Answer::Message(message) => write!(f, "message {}", Hex(message)),
             Answer::Verdict(Verdict::Accepted) => f.write_str("accepted"),
             Answer::Verdict(Verdict::Rejected) => f.write_str("rejected"),
+            Answer::Entered => f.write_str("entered"),
             Answer::Dropped => f.write_str("dropped"),
             Answer::Refused(number) => write!(f, "refused {number}"),
         }
@@ -43,8 +45,8 @@ impl fmt::Display for Answer {
 /// try <S> <own> <N> <Q> <sheet>
 /// = refused <number>
 /// at <server> share <r> <s> <room> <message> | one <id> <room> <joined> | two <id> <joined>
-///     | drop <id> | close <room>
-/// = message <bytes> | accepted | rejected | dropped | refused <number>
+///     | enter <id> | drop <id> | close <room>
+/// = message <bytes> | accepted | rejected | entered | dropped | refused <number>
 /// join <S> <N> <room> <sheet> <joined>
 /// = joined <count> <totals> | refused <number>
 /// ```

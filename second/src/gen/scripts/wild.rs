@@ -29,16 +29,16 @@ impl Builder {
         }
         for server in self.order() {
             if self.rng.chance(90) {
-                self.drop_and_close(server);
+                self.end_and_close(server);
             }
         }
     }
 
-    /// Drops what waits at a server and closes its table. While too few are accepted, more calls
+    /// Ends what waits at a server and closes its table. While too few are entered, more calls
     /// come, and another close.
-    fn drop_and_close(&mut self, server: u32) {
+    fn end_and_close(&mut self, server: u32) {
         let few = Answer::Refused(refusal::FEW);
-        while self.drop_and_try(server) == few && self.goes_on() {
+        while self.end_and_try(server) == few && self.goes_on() {
             for _ in 0..10 {
                 let call = self.wild_call(server, 15);
                 self.call(server, call);
@@ -46,13 +46,20 @@ impl Builder {
         }
     }
 
-    /// Drops what waits at a server and tries to close its table. Now and then one is left, and
-    /// the close is refused.
-    fn drop_and_try(&mut self, server: u32) -> Answer {
-        for (id, _) in self.tables[server as usize].waiting() {
-            if !self.rng.chance(3) {
-                self.call(server, Call::Drop { id });
+    /// Drops what waits at a server, or enters it where it can, and tries to close its table.
+    /// Now and then one is left, and the close is refused.
+    fn end_and_try(&mut self, server: u32) -> Answer {
+        for (id, stage) in self.tables[server as usize].waiting() {
+            if self.rng.chance(3) {
+                continue;
             }
+            let enter = stage == Stage::AwaitsEntry && self.rng.chance(60);
+            let call = if enter {
+                Call::Enter { id }
+            } else {
+                Call::Drop { id }
+            };
+            self.call(server, call);
         }
         let room = any_room(&mut self.rng, self.sheet.closing_length(), 10);
         self.call(server, Call::Close { room })
@@ -76,6 +83,7 @@ impl Builder {
         let (id, stage) = waiting[self.rng.index(waiting.len())];
         match stage {
             _ if self.rng.chance(10) => Call::Drop { id },
+            Stage::AwaitsEntry => Call::Enter { id },
             Stage::AwaitsRoundOne => Call::RoundOne {
                 id,
                 joined: self.wild_joined(server, id, ROUND_ONE),

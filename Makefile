@@ -17,7 +17,7 @@ help:
 demo: target/hosts/demo
 	@target/hosts/demo
 
-target/hosts/demo: hosts/c/demo.c hosts/c/host.h include/pool.h $(ARCHIVE)
+target/hosts/demo: hosts/c/demo.c hosts/c/host.h hosts/c/servers.h include/pool.h $(ARCHIVE)
 	@mkdir -p target/hosts
 	@$(CC) -std=c11 -O2 -Wall -Wextra -Iinclude hosts/c/demo.c $(ARCHIVE) -o $@
 

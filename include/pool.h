@@ -3,7 +3,7 @@
  *
  * A return is one value for each column of a sheet. A workshop (client) splits it into shares for S servers; each server
  * sees one share, which alone says nothing. The servers check the form of a return together, in two rounds of short
- * messages, add up what they accept, and publish totals.
+ * messages, enter what they accept into their totals, and publish these.
  *
  *     every party       pool_sizes -----> what the sheet comes to, and so the length of every buffer
  *     an author         pool_every_return -> every legal return of a small sheet
@@ -12,9 +12,10 @@
  *                       pool_share ------> its round-one message    } for each return: up to eight
  *                       pool_round_one --> its round-two message    } are under way at a time,
  *                       pool_round_two --> accepted or rejected     } each in its own stage
- *                       pool_drop          in place of a round, for a return that cannot be finished
- *                       pool_close ------> its totals message, at the end, when enough returns are accepted
- *     anyone            pool_join -------> the count of accepted returns and the totals
+ *                       pool_enter         adds an accepted return to the totals, when all servers have accepted it
+ *                       pool_drop          in place of a round or of entering, for a return that cannot be finished
+ *                       pool_close ------> its totals message, at the end, when enough returns are entered
+ *     anyone            pool_join -------> the count of entered returns and the totals
  *     a keeper          pool_shelve -----> share messages stored by place, and pool_unshelve brings them back
  *
  * The host sends the messages: what a server writes in a round goes to every server. It also draws the random numbers, and
@@ -50,35 +51,37 @@
  * pool_slot and uint32_t arrays: a cast pointer into a byte buffer need not be aligned. There are exactly eight slots. The
  * bytes and the elements may stand at the start of longer buffers: what lies past them is never read nor written. Slots and
  * elements hold numbers as the machine does. A host may read the slots; it writes to none of the parts. A pool is finished by
- * the version of the library that opened it. A table of an earlier layout is refused 11; where the layout is the same, round-one
- * messages of an earlier length are refused 12, and the returns that await round one with them are dropped at every server.
+ * the version of the library that opened it. A table of an earlier layout is refused 11. Where the layout is the same, the returns
+ * that wait go on, with one version at all servers: what an earlier one accepted is entered already; round-one messages of an
+ * earlier length are refused 12, and the returns that await round one with them are dropped at every server.
  *
  * THE THREE PARTS ARE STORED TOGETHER, with the message that a call wrote, before the message is sent: so a table survives a
  * restart. A message cannot be written a second time. Parts that were stored at different times are no table: calls cannot
  * always tell, and the totals can become wrong. Never go back to older copies of a table, nor of a part: a share judged
  * twice with two pairs shows more of the return than it may.
  *
- * What each part holds. The bytes: of a decided return its id and, if it was accepted, what its share added to the totals;
- * of a return that waits nothing. A slot: stage POOL_FREE and zeros, or the return that waits in it (see pool_slot). The
- * elements: with E = (share_bytes - 6) / 4 elements to a share, the place of slot i, from 0, is the E + 2 numbers from
- * i x (E + 2) on. It holds the share of the return that waits there and two numbers worked out from it, r x h(r) and tau;
- * zeros where the slot is free. pool_share fills the first free slot and its place. When the return is decided, by
- * pool_round_two or pool_drop, both are erased: set to 0. pool_open sets all slots and places to 0.
+ * What each part holds. The bytes: of a decided return its id and, if it was entered, what its share added to the totals; of a
+ * return that waits nothing. A slot: stage POOL_FREE and zeros, or the return that waits in it (see pool_slot). The elements:
+ * with E = (share_bytes - 6) / 4 elements to a share, the place of slot i, from 0, is the E + 2 numbers from i x (E + 2) on. It
+ * holds the share of the return that waits there, for entry too, and two numbers worked out from it, r x h(r) and tau; zeros where
+ * the slot is free. pool_share fills the first free slot and its place. When the return is decided (rejected by pool_round_two,
+ * entered or dropped) both are erased: set to 0. pool_open sets all slots and places to 0.
  *
  * Secrecy. Secret are the elements and, in the bytes, the totals. While a return waits, its place in the elements is as secret
  * as the share: keep copies, swap and logs of it as you keep a share. The totals are the server's shares of them: two copies,
- * from before and after one accepted return, show the published entries of its share. They stay in the bytes until the host
+ * from before and after one return is entered, show the published entries of its share. They stay in the bytes until the host
  * erases the table; those of all S tables, closed or not, added up modulo p, are the totals. The slots and the rest of the bytes
  * hold what the servers agree on or tell one another: ids, counts, r, s, d and e. The library erases in the parts that it is
  * lent; older copies and the share message are the host's to erase. Share messages that a host stores stay as secret as they
  * were, in any order of their bytes: those of all S servers, added up, are the returns.
  *
- * Several returns under way. Each call names its return: a share by the id in its message, the rounds and pool_drop by an
- * id. What becomes of a return that was taken does not depend on the calls on others between its own, and returns may be
- * finished in any order. A keeper takes what comes, in the order in which it comes (T stands for the three parts with their
- * lengths; out has POOL_ROUND_ONE_BYTES, which is enough for both rounds):
+ * Several returns under way. Each call names its return: a share by the id in its message, the other calls by an id. What
+ * becomes of a return that was taken does not depend on the calls on others between its own, and returns may be finished in
+ * any order. A keeper takes what comes, in the order in which it comes (T stands for the three parts with their lengths; out has
+ * POOL_ROUND_ONE_BYTES, which is enough for both rounds):
  *
- *     while (next(&m)) {                        // what is ready: a share with its r and s, all S messages of a round, or a drop
+ *     while (next(&m)) {                        // what is ready: a share with its r and s, all S messages of a round, an entry
+ *         out_len = 0;                          // or a drop
  *         switch (m.what) {
  *         case A_SHARE:
  *             answer = pool_share(T, m.bytes, m.len, m.r, m.s, out, sizeof out, &out_len);
@@ -92,45 +95,65 @@
  *             break;
  *         case ALL_ROUND_TWO:                   // likewise
  *             answer = pool_round_two(T, m.id, m.bytes, m.len, &accepted);
- *             out_len = 0;                      // no message: the return is decided and its slot is free again
+ *             if (answer == POOL_DONE)
+ *                 out_len = put_verdict(out, accepted); // a message of the host's own (see Verdict and entry)
+ *             break;
+ *         case AN_ENTRY:                        // every server has said that it has accepted the return
+ *             answer = pool_enter(T, m.id);
  *             break;
  *         case A_DROP:
  *             answer = pool_drop(T, m.id);
- *             out_len = 0;
  *             break;
  *         }
  *         if (answer != POOL_DONE && m.what == A_SHARE && used(m.id))
  *             continue;                         // another return has or had this id: it goes on, this share is left
+ *         if (answer != POOL_DONE && m.what == AN_ENTRY)
+ *             break;                            // the table is damaged: stop; the others enter the return
  *         if (answer != POOL_DONE)
- *             tell_others(m.id, answer);        // all drop the return where it waits; in round two only as said under Dropping;
+ *             tell_others(m.id, answer);        // all drop the return where it waits (see Dropping);
  *                                               // at a 16 the keepers look for the slip (see A slip in r or s)
  *         else if (store(T, out, out_len) && out_len > 0) // all together; a store that fails: stop, nothing more is sent
  *             send_others(m.id, out, out_len);  // only now
  *     }
  *
  * used: the id waits in a slot, or this table took it before. Such a share is refused 10, or 7, 8 or 13, which come before 10.
- * A drop is ready where its return waits, after round one only as said under Dropping. One that comes before the share is kept
- * until the share is taken; one of a return that was refused or is decided here is left, and nothing is told.
+ * An entry is ready where its return awaits entry. A drop is ready where its return waits, after an accepted verdict only as said
+ * under Dropping. A drop that comes before the share is kept until the share is taken. An entry or a drop of a return that was
+ * refused or is decided here is left, and nothing is told.
  *
  * The servers take the shares of returns in the same order. Otherwise each could have its eight slots full of returns that
  * another has no slot for, and none could be finished.
  *
+ * Verdict and entry. pool_round_two only gives the verdict, the same at every server where no message was altered. A rejected
+ * return is decided by it. An accepted one waits in its slot, in no total, until pool_enter adds it, exactly once, or it is dropped.
+ * Entries, like drops, must reach every server: a return that is entered at one server and dropped at another, whatever its
+ * verdict there, makes the totals wrong, and joining notices only counts that differ. So:
+ *     1. Each server stores its table with the verdict, and only then tells it to the others.
+ *     2. It enters the return once all S servers have told an accepted verdict, its own included. Then none drops it any more.
+ *     3. Where one has told a rejected verdict (a message was altered) or that it dropped the return, those that accepted it
+ *        drop it.
+ * A server that stops between verdict and entry loses nothing. It goes on from its stored table: a slot in POOL_AWAITS_ENTRY is an
+ * accepted verdict. It tells it again, asks the others, and enters or drops the return as they do or did; its totals join with
+ * theirs. If it does not know whether it has entered a return, it calls pool_enter: that is done, or refused 11 with the id in no
+ * slot, for it was decided before. The table holds which ids were decided, not how: note beside it those that were entered, for a
+ * server that asks.
+ *
  * Dropping. A return that cannot be finished is dropped at every server, by its id; the others that wait go on. One that is
- * neither finished nor dropped keeps its slot, and counts towards N. Once its round-two message has been sent, a server
- * drops a return only when it knows that no other server has decided it by round two, or can: a return that is accepted at
- * one server and dropped at another makes the totals wrong, and joining notices only counts that differ.
+ * neither finished nor dropped keeps its slot, and counts towards N. Until a server has told an accepted verdict no other can have
+ * entered the return, and it may drop it. After that it drops it only where another server says that it dropped or rejected it, or
+ * where all agree to drop it and none has entered it. A return that was accepted and is dropped is in no total.
  *
  * A slip in r or s. Each round-one message says with which r and s its server took the share. Where they differ, each server
  * refuses round one 16 and nothing has changed: the return goes on awaiting round one, is accepted and rejected nowhere, and only
  * dropping ends it. The keepers compare the r and s that each server was given for the id: they stand in its slot and in its
- * message. Where the slots have one pair, a message was altered on its way. They drop the id at every server: none can have decided
- * it, for round two needs a message of each. The id stays used, and the shares are never judged again: the workshop makes its return
- * anew, with new random elements and under a new id, and a new pair is given, the same at every server.
+ * message. Where the slots have one pair, a message was altered on its way. They drop the id at every server: none can have a
+ * verdict, for round two needs a message of each. The id stays used, and the shares are never judged again: the workshop makes its
+ * return anew, with new random elements and under a new id, and a new pair is given, the same at every server.
  *
  * Small pools. The totals of few returns show much of each. So a table opens with a least count Q, from 1 to N, the same at every
- * server: with fewer than Q returns accepted pool_close is refused 15 and gives no totals. Nothing has changed then: the table
+ * server: with fewer than Q returns entered pool_close is refused 15 and gives no totals. Nothing has changed then: the table
  * takes more returns, up to N decided, and is closed later. Returns that are rejected or dropped count towards N and not towards
- * Q. A table with N decided and fewer than Q accepted never closes: its shares are refused 13 and its close 15. That is certain
+ * Q. A table with N decided and fewer than Q entered never closes: its shares are refused 13 and its close 15. That is certain
  * once more than N - Q returns are rejected or dropped. Then open a new pool, for which the workshops make their returns anew
  * (a share of the old one is never judged again), and erase the old tables. Q counts returns, not workshops: who sends them,
  * and how many each, is the host's to know.
@@ -164,7 +187,7 @@ extern "C" {
 #define POOL_JOINED 12  /* joined messages: length, kind, id, server, element, own message or counts wrong; totals out of order */
 #define POOL_FULL 13    /* N returns are decided or wait */
 #define POOL_ROOM 14    /* an output buffer is too short; in opening also a part of the table, or slots_len is not POOL_SLOTS */
-#define POOL_FEW 15     /* close: fewer than Q returns are accepted; take more, or, where N are decided, open a new pool */
+#define POOL_FEW 15     /* close: fewer than Q returns are entered; take more, or, where N are decided, open a new pool */
 #define POOL_UNEQUAL 16 /* round one: r or s is not the same in all messages; drop the return everywhere (see A slip in r or s) */
 #define POOL_MANY 17    /* the sheet has more than 4,096 legal lists of values */
 #define POOL_RUN 19     /* shelf: the run is not R messages of W bytes */
@@ -198,9 +221,9 @@ extern "C" {
 /*
  * A slot of a table. One that is free is all 0. For a return that waits it holds:
  *     id        of the return
- *     stage     POOL_AWAITS_ONE after its share, POOL_AWAITS_TWO after round one
+ *     stage     POOL_AWAITS_ONE after its share, POOL_AWAITS_TWO after round one, POOL_AWAITS_ENTRY after an accepted verdict
  *     r, s      the challenges that its share was taken with
- *     d, e      awaiting round one those that this server sent, awaiting round two the sums of all servers'
+ *     d, e      awaiting round one those that this server sent, later the sums of all servers'
  * A slot has 40 bytes and no gaps.
  */
 typedef struct {
@@ -212,6 +235,7 @@ typedef struct {
 #define POOL_FREE 0
 #define POOL_AWAITS_ONE 1
 #define POOL_AWAITS_TWO 2
+#define POOL_AWAITS_ENTRY 3
 
 /*
  * Sizes of buffers, in bytes, from S (2 to 8), N and what pool_sizes tells of the sheet: its columns, published entries and
@@ -310,7 +334,7 @@ uint32_t pool_make(const uint8_t *sheet, size_t sheet_len, uint32_t servers, uin
  * Opens a table of server `own` (0 to S - 1): writes its three parts. S, sheet, N and Q are the same at every server.
  *     returns   N, 1 to 1,024: how many returns it takes, decided and waiting together. One above the sheet's greatest_returns
  *               is refused
- *     least     Q, 1 to N: how many returns must be accepted before it closes
+ *     least     Q, 1 to N: how many returns must be entered before it closes
  *     table     POOL_TABLE_BYTES; *written is this length
  *     slots     slots_len is POOL_SLOTS
  *     elements  POOL_ELEMENTS numbers
@@ -348,8 +372,9 @@ uint32_t pool_round_one(const uint8_t *table, size_t table_len, pool_slot *slots
                         const uint8_t *joined, size_t joined_len, uint8_t *out, size_t out_len, size_t *written);
 
 /*
- * Takes the round-two messages of all servers for the return `id` and decides it: *accepted is 1 or 0. Its slot and its place
- * in the elements are erased; the slot is free again.
+ * Takes the round-two messages of all servers for the return `id` and gives the verdict: *accepted is 1 or 0. A rejected return
+ * is decided; its slot and its place in the elements are erased, and the slot is free again. An accepted one awaits entry, and
+ * nothing but the stage in its slot changes.
  *     joined    S x POOL_ROUND_TWO_BYTES, as in pool_round_one, the own message as pool_round_one wrote it
  * Refusals: 11 for a table that is unsound or closed, or where no return of this id awaits round two; 12 as in pool_round_one.
  */
@@ -358,26 +383,37 @@ uint32_t pool_round_two(uint8_t *table, size_t table_len, pool_slot *slots, size
                         const uint8_t *joined, size_t joined_len, uint32_t *accepted);
 
 /*
- * Drops the return `id`, whichever round it awaits. It is decided and its id stays used; its slot and its place in the elements
- * are erased, and the slot is free again.
+ * Enters the return `id`, which was accepted: adds the published entries of its share to the totals and counts it. It is decided;
+ * its slot and its place in the elements are erased, and the slot is free again. When to enter: see Verdict and entry.
+ * Refusals: 11 for a table that is unsound or closed, or where no return of this id awaits entry: it awaits a round, was rejected,
+ * dropped or entered, or is unknown.
+ */
+uint32_t pool_enter(uint8_t *table, size_t table_len, pool_slot *slots, size_t slots_len,
+                    uint32_t *elements, size_t elements_len, uint32_t id);
+
+/*
+ * Drops the return `id`, whether it awaits a round or entry. It is decided, its id stays used, and it is in no total; its slot and
+ * its place in the elements are erased, and the slot is free again. When not to drop: see Dropping.
  * Refusals: 11 for a table that is unsound or closed, or where no return of this id waits.
  */
 uint32_t pool_drop(uint8_t *table, size_t table_len, pool_slot *slots, size_t slots_len,
                    uint32_t *elements, size_t elements_len, uint32_t id);
 
 /*
- * Closes a table in which no return waits and at least Q are accepted, and writes the server's totals message,
+ * Closes a table in which no return waits, not even for entry, and at least Q are entered; writes the server's totals message,
  * POOL_TOTALS_BYTES. Slots and elements stay as they are. A closed table takes no call.
+ * Store the closed table together with this message before the message is sent: an older copy, still open, could take a few more
+ * returns, and the difference of two totals messages of every server shows the sums of those few.
  * Refused 15, it gives no totals and nothing has changed: the table takes more returns, up to N decided, and is closed later. With
  * N decided it never closes: open a new pool (see Small pools).
- * Refusals: 11 for a table that is unsound or closed, or in which a return waits; 15 for fewer than Q accepted; 14.
+ * Refusals: 11 for a table that is unsound or closed, or in which a return waits; 15 for fewer than Q entered; 14.
  */
 uint32_t pool_close(uint8_t *table, size_t table_len, const pool_slot *slots, size_t slots_len,
                     const uint32_t *elements, size_t elements_len, uint8_t *out, size_t out_len, size_t *written);
 
 /*
  * Joins the S totals messages, in server order, of tables opened with this S, sheet and N; Q is not asked for. *accepted is the
- * count of accepted returns, and the totals of the published entries are written as elements in entry order, POOL_JOIN_BYTES.
+ * count of entered returns, and the totals of the published entries are written as elements in entry order, POOL_JOIN_BYTES.
  * Refusals: 2 for S, the sheet's, 2 for N, 4, 12, for messages in another order too, 14.
  */
 uint32_t pool_join(uint32_t servers, const uint8_t *sheet, size_t sheet_len, uint32_t returns,

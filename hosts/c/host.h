@@ -1,7 +1,7 @@
 /*
  * host.h: what a C host of the pool brings along: refusals in words, what a sheet comes to, a table with how many returns wait in
- * it, numbers in buffers, the r and s of a message, random numbers from the system. Functions are static, so that a program has
- * only to include it.
+ * it and what for, numbers in buffers, the r and s of a message, random numbers from the system. Functions are static, so that a
+ * program has only to include it.
  */
 #ifndef POOL_HOST_H
 #define POOL_HOST_H
@@ -32,7 +32,7 @@ static inline const char *host_words(uint32_t refusal)
         "joined messages: length, kind, id, element, own message or counts wrong, a server twice or missing, or totals out of order",
         "N returns are decided or wait",
         "an output buffer is too short; in opening also a part of the table, or slots_len is not POOL_SLOTS",
-        "fewer returns are accepted than the least count: take more and close again; where N are decided, open a new pool",
+        "fewer returns are entered than the least count: take more and close again; where N are decided, open a new pool",
         "r or s differs among the servers: see whose is wrong, drop the return at each, have it made anew under a new id, with one pair",
         "the sheet has more than 4,096 legal lists of values",
         [POOL_RUN] = "the run is not so many messages of this length",
@@ -40,14 +40,17 @@ static inline const char *host_words(uint32_t refusal)
     return refusal < sizeof words / sizeof words[0] && words[refusal] ? words[refusal] : "unknown refusal";
 }
 
-/* Ends the program, with the refusal's number and words, unless the call was done. */
-static inline void host_must(const char *call, uint32_t answer)
+/* Ends the program, with the answer's number and words, unless it is this one: POOL_DONE or a refusal. */
+static inline void host_expect(const char *call, uint32_t answer, uint32_t want)
 {
-    if (answer == POOL_DONE)
+    if (answer == want)
         return;
-    fprintf(stderr, "%s: refused %u: %s\n", call, (unsigned)answer, host_words(answer));
+    fprintf(stderr, "%s: %u, %s; expected %u\n", call, (unsigned)answer, host_words(answer), (unsigned)want);
     exit(1);
 }
+
+/* Ends the program unless the call was done. */
+static inline void host_must(const char *call, uint32_t answer) { host_expect(call, answer, POOL_DONE); }
 
 /* What a sheet comes to: every party asks once. */
 struct host_sizes {
@@ -71,6 +74,13 @@ struct host_table {
 /* The table t, as every call takes it. */
 #define HOST_TABLE(t) (t)->bytes, (t)->bytes_len, (t)->slots, POOL_SLOTS, (t)->elements, POOL_MAX_ELEMENTS
 
+static inline uint32_t host_open(uint32_t servers, uint32_t own, const uint8_t *sheet, size_t sheet_len, uint32_t returns,
+                                 uint32_t least, struct host_table *t)
+{
+    return pool_open(servers, own, sheet, sheet_len, returns, least, t->bytes, sizeof t->bytes, t->slots, POOL_SLOTS,
+                     t->elements, POOL_MAX_ELEMENTS, &t->bytes_len);
+}
+
 /* How many returns wait in a table. With eight of them a share is refused 11, and handed in again later. */
 static inline int host_waiting(const pool_slot slots[POOL_SLOTS])
 {
@@ -78,6 +88,15 @@ static inline int host_waiting(const pool_slot slots[POOL_SLOTS])
     for (int k = 0; k < POOL_SLOTS; k++)
         waiting += slots[k].stage != POOL_FREE;
     return waiting;
+}
+
+/* The stage of a return, POOL_FREE where none of this id waits. One in POOL_AWAITS_ENTRY has an accepted verdict, in no total yet. */
+static inline uint32_t host_stage(const pool_slot slots[POOL_SLOTS], uint32_t id)
+{
+    for (int k = 0; k < POOL_SLOTS; k++)
+        if (slots[k].stage != POOL_FREE && slots[k].id == id)
+            return slots[k].stage;
+    return POOL_FREE;
 }
 
 static inline void host_put_u32(uint8_t *at, uint32_t x)

@@ -19,6 +19,9 @@ const (
 	maxTable    = C.POOL_MAX_TABLE_BYTES
 	maxElements = C.POOL_MAX_ELEMENTS
 	slotFree    = C.POOL_FREE
+	slotOne     = C.POOL_AWAITS_ONE
+	slotTwo     = C.POOL_AWAITS_TWO
+	slotEntry   = C.POOL_AWAITS_ENTRY
 )
 
 // slot is what a table notes of a return that waits, beside its share.
@@ -94,6 +97,13 @@ func coreRoundTwo(t *Table, id uint32, joined []byte) (accepted, answer uint32) 
 	at, n := lend(joined)
 	answer = uint32(C.pool_round_two(b, nb, s, ns, e, ne, C.uint32_t(id), at, n, &a))
 	return uint32(a), answer
+}
+
+func coreEnter(t *Table, id uint32) (answer uint32) {
+	b, nb := lend(t.bytes)
+	s, ns := t.lendSlots()
+	e, ne := t.lendElements()
+	return uint32(C.pool_enter(b, nb, s, ns, e, ne, C.uint32_t(id)))
 }
 
 func coreDrop(t *Table, id uint32) (answer uint32) {

@@ -2,12 +2,14 @@
 //
 // A return is one value for each column of a sheet. A workshop splits it into shares (Client.Make), one for each
 // server; a share alone says nothing. The servers check the form of a return together, in two rounds of short messages,
-// add up what they accept (Table), and publish totals (Join), never those of fewer returns than a least count.
+// enter what all of them accept into their totals (Table), and publish these (Join), never those of fewer returns than a least count.
 //
 // Up to eight returns are under way in a table at a time, so that servers far apart need not wait for one another's messages.
 //
 // The program that uses the package carries the messages. It hands those of a round in as they arrive, in any order, one of
 // each server. It encrypts what it sends, knows who is at the other end, and gives each return an id of its own. It has every
 // server take a return with the same pair (Pair); where one slips, none judges the return, and it is dropped and made anew
-// (Unequal). It keeps a table as it keeps a share while a return waits, copies of it included.
+// (Unequal). It has the servers tell one another their verdicts, each once its table is stored, and has all enter what all accepted
+// (Table.Enter), or all drop it: so a server that stops between the two goes on later and comes to the same totals. It keeps a table
+// as it keeps a share while a return waits, copies of it included.
 package pool

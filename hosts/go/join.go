@@ -14,7 +14,7 @@ type Line struct {
 
 // Totals is what a pool publishes.
 type Totals struct {
-	Accepted uint32 // how many returns were accepted
+	Accepted uint32 // how many returns were accepted and entered
 	Lines    []Line // in the order of the sheet
 }
 

@@ -62,7 +62,7 @@ func (all servers) mustRefuseClose(t *testing.T, when string, want Refusal) {
 	}
 }
 
-// With one fewer than the least count accepted no server closes, whatever was rejected and dropped; with one more all do.
+// With one fewer than the least count entered no server closes, whatever was rejected and dropped; with one more all do.
 func TestTooFew(t *testing.T) {
 	sheet := sheetOf(t, YesNo(), Number(8))
 	all := openLeast(t, 3, sheet, 6, 3)
@@ -79,15 +79,18 @@ func TestTooFew(t *testing.T) {
 			all.mustRefuseClose(t, "one awaits round two", Stage)
 			if accepted := c.step(t, all, sheet); accepted != (k != 1) {
 				t.Errorf("return %d: accepted %v", k, accepted)
+			} else if accepted {
+				all.mustRefuseClose(t, "one awaits entry", Stage)
+				c.step(t, all, sheet)
 			}
 		}
 		if k < 4 {
-			all.mustRefuseClose(t, "too few accepted", Few)
+			all.mustRefuseClose(t, "too few entered", Few)
 		}
 	}
 	for _, table := range all {
 		if _, number := coreClose(table, make([]byte, 3)); Refusal(number) != Room {
-			t.Errorf("enough accepted, in little room: %d", number)
+			t.Errorf("enough entered, in little room: %d", number)
 		}
 	}
 	want := Totals{3, []Line{{1, 0, 0}, {2, 0, 0 + 20 + 40}}}
@@ -97,13 +100,13 @@ func TestTooFew(t *testing.T) {
 	all.mustRefuseClose(t, "closed", Stage)
 }
 
-// A pool whose least count is N closes when all of them are accepted.
+// A pool whose least count is N closes when all of them are entered.
 func TestLeastIsAll(t *testing.T) {
 	sheet := sheetOf(t, YesNo(), Number(8))
 	all := openLeast(t, 2, sheet, 2, 2)
 	courses := newCourses(t, sheet, 2, 2)
 	for _, c := range courses {
-		all.mustRefuseClose(t, "too few accepted", Few)
+		all.mustRefuseClose(t, "too few entered", Few)
 		if !all.judge(t, sheet, c.shares) {
 			t.Errorf("return %d is rejected", c.id)
 		}
@@ -113,7 +116,7 @@ func TestLeastIsAll(t *testing.T) {
 	}
 }
 
-// With N decided and fewer than the least count accepted a pool takes no share and never closes.
+// With N decided and fewer than the least count entered a pool takes no share and never closes.
 func TestNeverCloses(t *testing.T) {
 	sheet := sheetOf(t, YesNo(), Number(8))
 	all := openLeast(t, 2, sheet, 3, 2)
@@ -141,7 +144,7 @@ func TestLeastRestored(t *testing.T) {
 	all := openLeast(t, 2, sheet, 5, 2)
 	courses := newCourses(t, sheet, 2, 2)
 	for _, c := range courses {
-		all.mustRefuseClose(t, "too few accepted", Few)
+		all.mustRefuseClose(t, "too few entered", Few)
 		for own, table := range all {
 			all[own] = new(Table)
 			if err := all[own].UnmarshalBinary(stored(t, table)); err != nil {
@@ -186,6 +189,7 @@ func TestLeastDamaged(t *testing.T) {
 		refused(t, err, Stage)
 		_, err = table.RoundTwo(0, one.messages)
 		refused(t, err, Stage)
+		refused(t, table.Enter(0), Stage)
 		refused(t, table.Drop(0), Stage)
 		_, err = table.Close()
 		refused(t, err, Stage)
@@ -195,11 +199,9 @@ func TestLeastDamaged(t *testing.T) {
 	}
 	for _, least := range []uint16{1000, 2, 1} {
 		binary.LittleEndian.PutUint16(table.bytes[at:], least)
-		for one.round < 3 {
-			one.step(t, all, sheet)
-		}
+		one.finish(t, all, sheet)
 		if _, err := table.Close(); errors.Is(err, Few) != (least > 1) || (err == nil) != (least == 1) {
-			t.Errorf("least count %d, one accepted: %v", least, err)
+			t.Errorf("least count %d, one entered: %v", least, err)
 		}
 	}
 }

@@ -40,8 +40,8 @@ func stored(t *testing.T, table *Table) []byte {
 	return b
 }
 
-// judged takes a return through both rounds, each server getting the messages as arrive orders them. It gives the round-two
-// messages, the verdicts and the tables after each round.
+// judged takes a return through both rounds, each server getting the messages as arrive orders them, and enters it where it is
+// accepted. It gives the round-two messages, the verdicts and the tables after each round and after entry.
 func (all servers) judged(t *testing.T, shares [][]byte, pair Pair, arrive func(own int, messages [][]byte) [][]byte) (
 	twos [][]byte, verdicts []bool, tables [][]byte) {
 	t.Helper()
@@ -57,6 +57,12 @@ func (all servers) judged(t *testing.T, shares [][]byte, pair Pair, arrive func(
 			t.Fatal(err)
 		}
 		verdicts, tables = append(verdicts, accepted), append(tables, stored(t, table))
+		if accepted {
+			if err := table.Enter(id); err != nil {
+				t.Fatal(err)
+			}
+			tables = append(tables, stored(t, table))
+		}
 	}
 	return twos, verdicts, tables
 }

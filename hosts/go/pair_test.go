@@ -3,6 +3,8 @@ package pool
 import (
 	"bytes"
 	"encoding/binary"
+	"errors"
+	"io"
 	"testing"
 )
 
@@ -155,5 +157,35 @@ func TestRoundRooms(t *testing.T) {
 	}
 	if !all.roundTwo(t, 1, twos) {
 		t.Error("an honest return is rejected")
+	}
+}
+
+func TestDrawing(t *testing.T) {
+	// p itself is drawn again; the top bit does not count.
+	x, err := drawBelow(bytes.NewReader([]byte{255, 255, 255, 127, 254, 255, 255, 255}), prime)
+	if err != nil || x != prime-1 {
+		t.Errorf("drew %d, %v", x, err)
+	}
+	client := Client{Sheet: sheetOf(t, YesNo()), Servers: 2, Random: bytes.NewReader(nil)}
+	if _, err := client.Make(1, []uint32{0}); !errors.Is(err, io.EOF) {
+		t.Errorf("no random bytes: %v", err)
+	}
+}
+
+func TestPairs(t *testing.T) {
+	sheet := sheetOf(t, YesNo())
+	low, top := Pair{2, 0}, Pair{uint64(prime) - 1, uint64(prime) - 1}
+	for _, test := range []struct{ a, b, want Pair }{
+		{low, low, low}, {low, top, top}, {top, Pair{3, 1}, low}, {Pair{5, 6}, Pair{7, 8}, Pair{10, 14}},
+	} {
+		if got := sheet.AddPairs(test.a, test.b); got != test.want {
+			t.Errorf("%v + %v = %v, want %v", test.a, test.b, got, test.want)
+		}
+	}
+	for k := 0; k < 100; k++ {
+		pair, err := sheet.DrawPair(nil)
+		if err != nil || pair.R < 2 || pair.R >= uint64(prime) || pair.S >= uint64(prime) {
+			t.Errorf("drew %v, %v", pair, err)
+		}
 	}
 }

@@ -6,7 +6,6 @@ import (
 	"encoding/hex"
 	"errors"
 	"fmt"
-	"io"
 	"math/rand"
 	"reflect"
 	"strings"
@@ -26,7 +25,7 @@ func sheetOf(t *testing.T, columns ...Column) *Sheet {
 // servers are the tables of one pool.
 type servers []*Table
 
-// openAll opens tables that can be closed with one accepted return.
+// openAll opens tables that can be closed with one entered return.
 func openAll(t *testing.T, n uint32, sheet *Sheet, returns uint32) servers {
 	t.Helper()
 	return openLeast(t, n, sheet, returns, 1)
@@ -87,7 +86,7 @@ func (all servers) roundOne(t *testing.T, id uint32, ones [][]byte) [][]byte {
 	return all.each(t, func(_ int, table *Table) ([]byte, error) { return table.RoundOne(id, arrived(ones)) })
 }
 
-// roundTwo decides a return at every server and gives the verdict, the same at each.
+// roundTwo gives the verdict on a return, the same at every server.
 func (all servers) roundTwo(t *testing.T, id uint32, twos [][]byte) bool {
 	t.Helper()
 	verdicts := 0
@@ -106,11 +105,21 @@ func (all servers) roundTwo(t *testing.T, id uint32, twos [][]byte) bool {
 	return verdicts > 0
 }
 
-// judge takes a return through both rounds and gives the verdict.
+// enter enters a return at every server.
+func (all servers) enter(t *testing.T, id uint32) {
+	t.Helper()
+	all.each(t, func(_ int, table *Table) ([]byte, error) { return nil, table.Enter(id) })
+}
+
+// judge takes a return through both rounds, enters it where it is accepted, and gives the verdict.
 func (all servers) judge(t *testing.T, sheet *Sheet, shares [][]byte) bool {
 	t.Helper()
 	id := binary.LittleEndian.Uint32(shares[0][1:])
-	return all.roundTwo(t, id, all.roundOne(t, id, all.start(t, sheet, shares)))
+	accepted := all.roundTwo(t, id, all.roundOne(t, id, all.start(t, sheet, shares)))
+	if accepted {
+		all.enter(t, id)
+	}
+	return accepted
 }
 
 // drop drops a return at every server.
@@ -197,7 +206,7 @@ func TestRefusalInWords(t *testing.T) {
 	if got := Many.Error(); !strings.HasPrefix(got, "refused 17: more than 4,096") {
 		t.Errorf("got %s", got)
 	}
-	if got := Few.Error(); !strings.HasPrefix(got, "refused 15: fewer returns are accepted") || !strings.HasSuffix(got, "open a new pool") {
+	if got := Few.Error(); !strings.HasPrefix(got, "refused 15: fewer returns are entered") || !strings.HasSuffix(got, "open a new pool") {
 		t.Errorf("got %s", got)
 	}
 	for _, says := range []string{"refused 16: the pairs r, s differ", "drop the return at every server", "made anew under a new id"} {
@@ -211,10 +220,22 @@ func TestRefusalInWords(t *testing.T) {
 	if got := Decided.Error(); !strings.HasPrefix(got, "refused 10: the id was decided or waits") {
 		t.Errorf("got %s", got)
 	}
-	// What to do about 11 depends on the call.
+}
+
+// What to do about 11 depends on the call.
+func TestStageInWords(t *testing.T) {
 	for call, advice := range stageAdvice {
 		if got := answer(call, uint32(Stage)).Error(); !strings.HasSuffix(got, "a close while one waits; "+advice) {
 			t.Errorf("got %s", got)
+		}
+	}
+	var table Table
+	for err, says := range map[error]string{
+		table.Enter(1): "pool: enter: refused 11: %s; a return is entered once, after an accepted verdict: ",
+		table.Drop(1):  "pool: drop: refused 11: %s; a return can be dropped while it waits for a round or for entry",
+	} {
+		if want := fmt.Sprintf(says, words[Stage]); !strings.HasPrefix(err.Error(), want) {
+			t.Errorf("got %v, want %s", err, want)
 		}
 	}
 }
@@ -263,36 +284,6 @@ func TestPools(t *testing.T) {
 		}
 		if last := totals.Lines[8]; last.Column != 4 || last.Option != 1 {
 			t.Errorf("place of a total: %+v", last)
-		}
-	}
-}
-
-func TestDrawing(t *testing.T) {
-	// p itself is drawn again; the top bit does not count.
-	x, err := drawBelow(bytes.NewReader([]byte{255, 255, 255, 127, 254, 255, 255, 255}), prime)
-	if err != nil || x != prime-1 {
-		t.Errorf("drew %d, %v", x, err)
-	}
-	client := Client{Sheet: sheetOf(t, YesNo()), Servers: 2, Random: bytes.NewReader(nil)}
-	if _, err := client.Make(1, []uint32{0}); !errors.Is(err, io.EOF) {
-		t.Errorf("no random bytes: %v", err)
-	}
-}
-
-func TestPairs(t *testing.T) {
-	sheet := sheetOf(t, YesNo())
-	low, top := Pair{2, 0}, Pair{uint64(prime) - 1, uint64(prime) - 1}
-	for _, test := range []struct{ a, b, want Pair }{
-		{low, low, low}, {low, top, top}, {top, Pair{3, 1}, low}, {Pair{5, 6}, Pair{7, 8}, Pair{10, 14}},
-	} {
-		if got := sheet.AddPairs(test.a, test.b); got != test.want {
-			t.Errorf("%v + %v = %v, want %v", test.a, test.b, got, test.want)
-		}
-	}
-	for k := 0; k < 100; k++ {
-		pair, err := sheet.DrawPair(nil)
-		if err != nil || pair.R < 2 || pair.R >= uint64(prime) || pair.S >= uint64(prime) {
-			t.Errorf("drew %v, %v", pair, err)
 		}
 	}
 }

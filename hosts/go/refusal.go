@@ -28,7 +28,7 @@ const (
 	Joined  Refusal = 12 // joined messages: length, kind, id, server, element, own message or counts wrong; totals out of order
 	Full    Refusal = 13 // N returns are decided or wait
 	Room    Refusal = 14 // an output buffer is too short; in opening also a part of the table, or slots_len is not POOL_SLOTS
-	Few     Refusal = 15 // close: fewer returns are accepted than the least count Q
+	Few     Refusal = 15 // close: fewer returns are entered than the least count Q
 	Unequal Refusal = 16 // round one: the servers took their shares of the return with different pairs r, s
 	Many    Refusal = 17 // the sheet has more than 4,096 legal returns
 	Run     Refusal = 19 // messages that are not of one length, or a stored run of another length
@@ -49,7 +49,7 @@ var words = [...]string{
 	Joined:  "joined messages: length, kind, id, element, own message or counts wrong, a server twice or missing, or totals out of order",
 	Full:    "N returns are decided or wait: this table takes no more",
 	Room:    "an output buffer is too short; in opening also a part of the table, or slots_len is not POOL_SLOTS",
-	Few:     "fewer returns are accepted than the least count: take more and close again; where N are decided, open a new pool",
+	Few:     "fewer returns are entered than the least count: take more and close again; where N are decided, open a new pool",
 	Unequal: "the pairs r, s differ: see whose is wrong, drop the return at every server, have it made anew under a new id, with one pair",
 	Many:    "more than 4,096 legal returns: take fewer columns, options or bits, or lower tops",
 	Run:     "not so many messages of one length: give whole messages, and the number and length that were stored",
@@ -68,8 +68,9 @@ var stageAdvice = map[string]string{
 	"share":     "where eight wait, hand the share in again once one is decided",
 	"round one": "a return takes round one once, after its share",
 	"round two": "a return takes round two once, after round one",
-	"drop":      "a return can be dropped while it waits",
-	"close":     "where returns wait, finish or drop them first",
+	"enter":     "a return is entered once, after an accepted verdict: where it no longer waits it was entered or dropped before",
+	"drop":      "a return can be dropped while it waits for a round or for entry",
+	"close":     "where returns wait, finish, enter or drop them first",
 }
 
 // answer makes an error of a call's answer, nil where the call was done.

@@ -1,23 +1,27 @@
 package pool
 
-import "bytes"
+import (
+	"bytes"
+	"fmt"
+)
 
 // Table is the table of one server. Up to eight returns (Slots) are under way in it at a time, each in its own stage. The
 // calls of one return are, in this order:
 //
-//	Share, RoundOne, RoundTwo    or Drop after Share or RoundOne
+//	Share, RoundOne, RoundTwo, Enter    Drop in place of any but Share; a rejected return ends with RoundTwo
 //
-// Calls on other returns may come between them, and returns may be finished in any order; the rounds and Drop name an id.
-// Close comes at the end, when none waits. With fewer returns accepted than the least count it is refused (Few), and the table
-// takes more. The messages of a round are handed in as they arrived, in any order: one of each server, the own one among them as
-// the table gave it. A server twice or missing is refused (Joined).
+// Calls on other returns may come between them, and returns may be finished in any order; all calls after Share name an id.
+// Close comes at the end, when none waits, not even for entry. With fewer returns entered than the least count it is refused (Few),
+// and the table takes more. The messages of a round are handed in as they arrived, in any order: one of each server, the own one
+// among them as the table gave it. A server twice or missing is refused (Joined).
 //
 // MarshalBinary and UnmarshalBinary carry a table over a restart, all of it in one slice. Store it after each call, together
-// with the message that the call gave and before that message is sent. Use a table from one goroutine at a time. Do not copy a
-// Table: pass the pointer.
+// with the message that the call gave, and before that message, or the verdict, is told to another server. Use a table from one
+// goroutine at a time. Do not copy a Table: pass the pointer.
 //
-// A table holds the whole share of each return that waits, and is as secret. When a return is decided it is erased, all but
-// its id and, if it was accepted, what it added to the server's shares of the totals. These stay, after Close too.
+// A table holds the whole share of each return that waits, for entry too, and is as secret. When a return is decided (rejected,
+// entered or dropped) it is erased, all but its id and, if it was entered, what it added to the server's shares of the totals.
+// These stay, after Close too.
 type Table struct {
 	_        noCopy
 	bytes    []byte
@@ -32,7 +36,7 @@ func (*noCopy) Lock()   {}
 func (*noCopy) Unlock() {}
 
 // Open opens the table of server own (from 0) of so many servers, for at most so many returns, decided and waiting together:
-// N, from 1 to the sheet's Sizes.GreatestReturns. Close gives no totals before least of them are accepted: Q, from 1 to N. All
+// N, from 1 to the sheet's Sizes.GreatestReturns. Close gives no totals before least of them are entered: Q, from 1 to N. All
 // servers of a pool open with the same number of servers, sheet, N and Q.
 func Open(servers, own uint32, sheet *Sheet, returns, least uint32) (*Table, error) {
 	t := &Table{elements: make([]uint32, sheet.tableElements())}
@@ -74,8 +78,9 @@ func (t *Table) RoundOne(id uint32, messages [][]byte) ([]byte, error) {
 	return out[:n], nil
 }
 
-// RoundTwo takes the round-two messages of all servers for a return, in any order, and decides it. Its share is erased from the
-// table.
+// RoundTwo takes the round-two messages of all servers for a return, in any order, and gives the verdict, the same at every server
+// where no message was altered. It adds nothing to the totals. A rejected return is decided, and its share is erased from the
+// table; an accepted one awaits Enter. Store the table, then tell the other servers the verdict.
 func (t *Table) RoundTwo(id uint32, messages [][]byte) (accepted bool, err error) {
 	verdict, number := coreRoundTwo(t, id, bytes.Join(messages, nil))
 	if number != 0 {
@@ -84,12 +89,26 @@ func (t *Table) RoundTwo(id uint32, messages [][]byte) (accepted bool, err error
 	return verdict == 1, nil
 }
 
-// Drop drops a return that waits and erases its share from the table. Its id stays used.
+// Enter adds an accepted return to the totals, exactly once, and erases its share from the table. Call it when every server has told
+// that its accepted verdict is stored: from then on no server drops the return.
+//
+// A server that stops between verdict and entry loses nothing: in its stored table the return awaits entry (Waiting), and it enters
+// or drops it as the others do or did. Where it does not know whether it has entered a return, it calls Enter again: that is done, or
+// refused (Stage) where the return no longer waits. The table knows which ids were decided, not how: note which were entered, for a
+// server that asks.
+func (t *Table) Enter(id uint32) error { return answer("enter", coreEnter(t, id)) }
+
+// Drop drops a return that waits, for entry too, and erases its share from the table. It is in no total, and its id stays used.
+//
+// A return that is dropped at one server must not be entered at another. A server that has told an accepted verdict drops the return
+// only where another one dropped or rejected it, or where all agree and none has entered it.
 func (t *Table) Drop(id uint32) error { return answer("drop", coreDrop(t, id)) }
 
-// Close closes a table in which no return waits and gives the server's totals message.
+// Close closes a table in which no return waits, not even for entry, and gives the server's totals message. Store the closed table
+// together with this message before the message is told: a server that went on from an older table, still open, could tell totals
+// twice, and their difference shows the few returns between.
 //
-// With fewer returns accepted than the least count of Open it is refused (Few) and gives nothing; the table is as it was and
+// With fewer returns entered than the least count of Open it is refused (Few) and gives nothing; the table is as it was and
 // takes more returns, up to N decided. With N decided it never closes: open a new pool, for which the workshops make their
 // returns anew.
 func (t *Table) Close() ([]byte, error) {
@@ -103,8 +122,32 @@ func (t *Table) Close() ([]byte, error) {
 
 // Waiting is a return that is under way.
 type Waiting struct {
-	ID    uint32
-	Round int // the round that it awaits, 1 or 2
+	ID     uint32
+	Awaits Awaits
+}
+
+// Awaits is what a return that is under way waits for.
+type Awaits uint32
+
+// What a return can wait for.
+const (
+	AwaitsOne   Awaits = slotOne   // the messages of round one
+	AwaitsTwo   Awaits = slotTwo   // the messages of round two
+	AwaitsEntry Awaits = slotEntry // Enter, after an accepted verdict: it is in no total yet
+)
+
+// String says it in words.
+func (a Awaits) String() string {
+	switch a {
+	case AwaitsOne:
+		return "awaits round one"
+	case AwaitsTwo:
+		return "awaits round two"
+	case AwaitsEntry:
+		return "awaits entry"
+	default:
+		return fmt.Sprintf("unknown stage %d", uint32(a))
+	}
 }
 
 // Waiting gives the returns that wait, at most Slots of them: after a restart the server goes on with these.
@@ -112,7 +155,7 @@ func (t *Table) Waiting() []Waiting {
 	var list []Waiting
 	for _, x := range t.slots {
 		if id, stage, _, _, _, _ := slotNumbers(x); stage != slotFree {
-			list = append(list, Waiting{id, int(stage)})
+			list = append(list, Waiting{id, Awaits(stage)})
 		}
 	}
 	return list

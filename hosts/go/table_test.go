@@ -77,7 +77,7 @@ func TestErased(t *testing.T) {
 	falsify(shares[1][0])
 
 	holds("opened")
-	for id, stage := range []string{"accepted", "rejected"} {
+	for id, stage := range []string{"entered", "rejected"} {
 		if accepted := all.judge(t, sheet, shares[id]); accepted != (id == 0) {
 			t.Errorf("%s: the verdict is %v", stage, accepted)
 		}
@@ -96,7 +96,10 @@ func TestErased(t *testing.T) {
 	all.drop(t, 3)
 	holds("the second is dropped before round two", 0, 2)
 	all.roundTwo(t, 4, all.roundOne(t, 4, last))
+	holds("the third is accepted", 0, 2)
 	all.drop(t, 5)
+	holds("the first is dropped before round one", 2)
+	all.enter(t, 4)
 	holds("all are decided")
 	all.closeAndJoin(t, sheet, 8)
 	holds("closed")
@@ -132,11 +135,14 @@ func TestRestart(t *testing.T) {
 		t.Error("an honest return is rejected")
 	}
 	restart()
+	all.enter(t, 9)
+	restart()
 	if totals := all.closeAndJoin(t, sheet, 2); totals.Accepted != 1 || totals.Lines[2].Total != 1 {
 		t.Errorf("totals %v", totals)
 	}
 	var empty Table
 	refused(t, empty.Drop(0), Stage)
+	refused(t, empty.Enter(0), Stage)
 }
 
 func TestRefusals(t *testing.T) {

@@ -74,7 +74,7 @@ func (all servers) mustRefuseUnequal(t *testing.T, when string, id uint32, ones 
 				}
 			}
 		}
-		if !bytes.Equal(before, stored(t, table)) || waiting(table)[id] != 1 {
+		if !bytes.Equal(before, stored(t, table)) || waiting(table)[id] != AwaitsOne {
 			t.Errorf("%s, server %d: the table is changed", when, own)
 		}
 	}
@@ -127,7 +127,7 @@ func TestSlip(t *testing.T) {
 	}
 }
 
-// endSlip drops a return everywhere. Its id is used then, and too few are accepted.
+// endSlip drops a return everywhere. Its id is used then, and too few are entered.
 func (all servers) endSlip(t *testing.T, when string, shares [][]byte, pair Pair) {
 	t.Helper()
 	id := binary.LittleEndian.Uint32(shares[0][1:])
@@ -172,15 +172,15 @@ func TestSlipAmongEight(t *testing.T) {
 	slipped := courses[3]
 	for _, c := range courses {
 		if c == slipped {
-			c.messages, c.round = all.startWith(t, c.shares, []Pair{{1000, 5}, {1000, 5}, {1000, 50}}), 1
+			c.messages, c.awaits = all.startWith(t, c.shares, []Pair{{1000, 5}, {1000, 5}, {1000, 50}}), AwaitsOne
 		} else {
 			c.step(t, all, sheet)
 		}
 	}
-	for round := 1; round <= 2; round++ {
+	for awaited := AwaitsOne; awaited <= AwaitsEntry; awaited++ {
 		for _, c := range courses {
 			all.mustRefuseUnequal(t, "eight wait", slipped.id, slipped.messages)
-			if accepted := c != slipped && c.step(t, all, sheet); accepted != (c != slipped && round == 2) {
+			if accepted := c != slipped && c.step(t, all, sheet); accepted != (c != slipped && awaited == AwaitsTwo) {
 				t.Errorf("return %d: accepted %v", c.id, accepted)
 			}
 		}

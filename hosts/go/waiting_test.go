@@ -14,9 +14,11 @@ type course struct {
 	id       uint32
 	values   []uint32
 	shares   [][]byte
-	round    int // that it awaits; 0 where its shares are not yet taken, 3 where it is decided
+	awaits   Awaits // 0 where its shares are not yet taken, ended where it is decided
 	messages [][]byte
 }
+
+const ended = AwaitsEntry + 1
 
 // newCourses makes so many returns, with ids from 0, on a sheet of a yes/no and a number of 8 bits.
 func newCourses(t *testing.T, sheet *Sheet, servers uint32, n int) []*course {
@@ -34,26 +36,40 @@ func newCourses(t *testing.T, sheet *Sheet, servers uint32, n int) []*course {
 	return list
 }
 
-// step takes a return one step on at every server; the last one gives the verdict.
+// step takes a return one step on at every server; that of round two gives the verdict.
 func (c *course) step(t *testing.T, all servers, sheet *Sheet) (accepted bool) {
 	t.Helper()
-	switch c.round {
+	switch c.awaits {
 	case 0:
 		c.messages = all.start(t, sheet, c.shares)
-	case 1:
+	case AwaitsOne:
 		c.messages = all.roundOne(t, c.id, c.messages)
-	case 2:
-		accepted = all.roundTwo(t, c.id, c.messages)
+	case AwaitsTwo:
+		if accepted = all.roundTwo(t, c.id, c.messages); !accepted {
+			c.awaits = ended
+			return false
+		}
+	case AwaitsEntry:
+		all.enter(t, c.id)
 	}
-	c.round++
+	c.awaits++
 	return accepted
 }
 
-// waiting gives the ids that wait at a server, each with the round that it awaits.
-func waiting(table *Table) map[uint32]int {
-	got := map[uint32]int{}
+// finish takes a return to its end, entered or rejected, and gives the verdict where it has none yet.
+func (c *course) finish(t *testing.T, all servers, sheet *Sheet) (accepted bool) {
+	t.Helper()
+	for c.awaits < ended {
+		accepted = c.step(t, all, sheet) || accepted
+	}
+	return accepted
+}
+
+// waiting gives the ids that wait at a server, each with what it awaits.
+func waiting(table *Table) map[uint32]Awaits {
+	got := map[uint32]Awaits{}
 	for _, w := range table.Waiting() {
-		got[w.ID] = w.Round
+		got[w.ID] = w.Awaits
 	}
 	return got
 }
@@ -62,8 +78,8 @@ func waiting(table *Table) map[uint32]int {
 func (c *course) isFalse() bool   { return c.id%7 == 3 }
 func (c *course) isDropped() bool { return c.id%5 == 2 }
 
-// Many returns, up to eight of them under way, each step of a random one: false ones are rejected, honest ones accepted,
-// dropped ones in no total.
+// Many returns, up to eight of them under way, each step of a random one: false ones are rejected, honest ones accepted and
+// entered, dropped ones in no total, at whichever stage they are dropped.
 func TestSeveralUnderWay(t *testing.T) {
 	sheet := sheetOf(t, YesNo(), Number(8))
 	for seed := int64(0); seed < 20; seed++ {
@@ -99,18 +115,19 @@ func mix(t *testing.T, random *rand.Rand, all servers, sheet *Sheet, courses []*
 			k, under, courses = len(under), append(under, courses[0]), courses[1:]
 		}
 		c := under[k]
-		if c.isDropped() && c.round > int(c.id%2) {
+		judged := c.awaits == AwaitsTwo
+		if c.isDropped() && c.awaits > Awaits(c.id%3) {
 			all.drop(t, c.id)
-			c.round = 3
-		} else if c.step(t, all, sheet) == c.isFalse() && c.round == 3 {
+			c.awaits = ended
+		} else if accepted := c.step(t, all, sheet); judged && accepted == c.isFalse() {
 			t.Errorf("the verdict on return %d", c.id)
 		}
-		if c.round == 3 {
+		if c.awaits == ended {
 			under = append(under[:k:k], under[k+1:]...)
 		}
-		still := map[uint32]int{}
+		still := map[uint32]Awaits{}
 		for _, c := range under {
-			still[c.id] = c.round
+			still[c.id] = c.awaits
 		}
 		for own, table := range all {
 			if got := waiting(table); !reflect.DeepEqual(got, still) {
@@ -146,7 +163,7 @@ func TestNinthShare(t *testing.T) {
 		courses[k].step(t, all, sheet)
 	}
 	for _, k := range []int{5, 8, 1, 0, 7, 3, 6, 2} {
-		if !courses[k].step(t, all, sheet) {
+		if !courses[k].finish(t, all, sheet) {
 			t.Errorf("return %d is rejected", k)
 		}
 	}
@@ -173,6 +190,7 @@ func refusedWithEight(t *testing.T, table *Table, ninth []byte, ones [][]byte) {
 	refused(t, err, Joined)
 	_, err = table.RoundTwo(1, ones)
 	refused(t, err, Stage)
+	refused(t, table.Enter(1), Stage)
 	refused(t, table.Drop(8), Stage)
 	if after, _ := table.MarshalBinary(); !bytes.Equal(before, after) {
 		t.Error("a refused call changes the table")
@@ -201,13 +219,13 @@ func TestDecidedAndWaiting(t *testing.T) {
 	refused(t, err, Few)
 }
 
-// Tables are stored and restored with eight returns waiting, some in each round, and finish as if nothing had been.
+// Tables are stored and restored with eight returns waiting, some in each stage, and finish as if nothing had been.
 func TestRestartWithEightWaiting(t *testing.T) {
 	sheet := sheetOf(t, YesNo(), Number(8))
 	all := openAll(t, 2, sheet, 20)
 	courses := newCourses(t, sheet, 2, 10)
 	fill(t, all, sheet, courses[:Slots])
-	for k := 0; k < Slots; k += 3 {
+	for _, k := range []int{0, 3, 6, 3, 6} {
 		courses[k].step(t, all, sheet)
 	}
 	for own, table := range all {
@@ -222,18 +240,15 @@ func TestRestartWithEightWaiting(t *testing.T) {
 		if !reflect.DeepEqual(all[own], table) {
 			t.Error("another table is restored")
 		}
-		if got := waiting(all[own]); len(got) != Slots || got[0] != 2 || got[1] != 1 || got[6] != 2 {
+		if got := waiting(all[own]); len(got) != Slots || got[0] != AwaitsTwo || got[1] != AwaitsOne || got[6] != AwaitsEntry {
 			t.Errorf("after the restart %v wait", got)
 		}
 	}
 	_, err := all[0].Share(courses[8].shares[0], Pair{100, 5})
 	refused(t, err, Stage)
 	for k := Slots - 1; k >= 0; k-- {
-		for courses[k].round < 2 {
-			courses[k].step(t, all, sheet)
-		}
-		if !courses[k].step(t, all, sheet) {
-			t.Errorf("return %d is rejected", k)
+		if judged := courses[k].awaits == AwaitsEntry; courses[k].finish(t, all, sheet) == judged {
+			t.Errorf("return %d is rejected, or judged again", k)
 		}
 	}
 	if got := all.closeAndJoin(t, sheet, 20); got.Accepted != 8 || got.Lines[1].Total != 280 {

@@ -83,7 +83,7 @@ func joinBoth(t *testing.T, sheet *pool.Sheet, tables [servers]*pool.Table) pool
 }
 
 // Server 0 has the other's message first in round one and its own first in round two, and hands them in so. Server 1 has both in
-// server order.
+// server order. Server 0 enters the return once server 1 has told that it has accepted it, not before.
 func TestHandedInAsTheyCame(t *testing.T) {
 	log.SetOutput(io.Discard)
 	defer log.SetOutput(os.Stderr)
@@ -94,7 +94,7 @@ func TestHandedInAsTheyCame(t *testing.T) {
 	tables, ones := sharedByTwo(t, sheet, 7, []uint32{1, 40})
 	s := lone(0, sheet, tables[0])
 	c := s.begin(0, 7)
-	c.step, c.taken = roundOne, true
+	c.step, c.waits = roundOne, true
 	c.came[roundOne].add(1, ones[1])
 	c.came[roundOne].add(0, ones[0])
 	if err := s.advance(c); err != nil || !c.came[roundTwo].has(0) || c.came[roundTwo].stops() {
@@ -105,11 +105,17 @@ func TestHandedInAsTheyCame(t *testing.T) {
 	if err != nil {
 		t.Fatal(err)
 	}
-	if err := s.hear(message{0, roundTwo, theirs}); err != nil || s.ended != 1 {
-		t.Fatalf("round two: %v", err)
+	if err := s.hear(message{0, roundTwo, theirs}); err != nil || s.ended != 0 || len(s.entered) != 0 || !c.came[verdict].has(0) {
+		t.Fatalf("round two: %v, %+v", err, c)
 	}
-	if accepted, err := tables[1].RoundTwo(7, [][]byte{mine, theirs}); err != nil || !accepted {
-		t.Errorf("server 1: accepted %v, %v", accepted, err)
+	if good, err := tables[1].RoundTwo(7, [][]byte{mine, theirs}); err != nil || !good {
+		t.Errorf("server 1: accepted %v, %v", good, err)
+	}
+	if err := s.hear(message{0, verdict, accepted}); err != nil || s.ended != 1 || !reflect.DeepEqual(s.entered, []uint32{7}) {
+		t.Fatalf("the verdict of server 1: %v, %+v", err, c)
+	}
+	if err := tables[1].Enter(7); err != nil {
+		t.Error(err)
 	}
 	want := pool.Totals{Accepted: 1, Lines: []pool.Line{{Column: 1, Total: 1}, {Column: 2, Total: 40}}}
 	if got := joinBoth(t, sheet, tables); !reflect.DeepEqual(got, want) {

@@ -14,8 +14,8 @@ type course struct {
 	number uint32
 	id     uint32
 	share  []byte
-	step   step            // whose messages it awaits: part, roundOne or roundTwo
-	taken  bool            // the own table holds it
+	step   step            // whose messages it awaits: part, roundOne, roundTwo or verdict
+	waits  bool            // in the own table
 	came   [totals]arrival // of each step
 }
 
@@ -36,8 +36,8 @@ func (s *server) advance(c *course) error {
 		if came.stops() {
 			return s.abandon(c)
 		}
-		if c.step == roundTwo {
-			return s.decide(c, came.messages)
+		if c.step == verdict {
+			return s.enter(c)
 		}
 		c.step++
 		if err := s.take(c, came.messages); err != nil {
@@ -46,19 +46,23 @@ func (s *server) advance(c *course) error {
 	}
 }
 
-// take takes the share once both parts of the pair are there, and the messages of round one.
+// take takes the share once both parts of the pair are there, then the messages of each round. What the table gives is told once
+// the table is stored; nothing is told where a call is refused or the return rejected.
 func (s *server) take(c *course, messages [][]byte) error {
-	var message []byte
+	var told []byte
 	var refused error
-	if c.step == roundOne {
+	switch c.step {
+	case roundOne:
 		pair, err := s.addParts(messages)
 		if err != nil {
 			return err
 		}
-		message, refused = s.table.Share(c.share, s.typed(c.id, pair))
-		c.taken = refused == nil
-	} else {
-		message, refused = s.table.RoundOne(c.id, messages)
+		told, refused = s.table.Share(c.share, s.typed(c.id, pair))
+		c.waits = refused == nil
+	case roundTwo:
+		told, refused = s.table.RoundOne(c.id, messages)
+	default:
+		told, refused = s.judge(c, messages)
 	}
 	if refused != nil {
 		log.Printf("return %d: %v", c.id, refused)
@@ -66,39 +70,76 @@ func (s *server) take(c *course, messages [][]byte) error {
 	if errors.Is(refused, pool.Unequal) {
 		logPairs(c.id, messages)
 	}
-	s.say(c, c.step, message)
-	return nil
-}
-
-// decide ends a return with a verdict.
-func (s *server) decide(c *course, messages [][]byte) error {
-	accepted, err := s.table.RoundTwo(c.id, messages)
-	if err != nil {
+	if err := s.store(); err != nil {
 		return err
 	}
-	s.decided++
-	if accepted {
-		s.accepted++
+	s.say(c, c.step, told)
+	if c.step == verdict && told != nil {
+		return s.stopAfter(c.id)
 	}
-	s.end(c, fmt.Sprintf("accepted %v", accepted))
 	return nil
 }
 
-// abandon ends a return that a server can not go on with. Where the own table took it, it is dropped.
+// accepted is what a server tells of a return that it has accepted.
+var accepted = []byte{1}
+
+// judge takes the messages of round two. A rejected return is decided; an accepted one awaits entry.
+func (s *server) judge(c *course, messages [][]byte) (told []byte, refused error) {
+	good, refused := s.table.RoundTwo(c.id, messages)
+	if good {
+		return accepted, nil
+	}
+	if refused == nil {
+		c.waits = false
+		s.decided++
+	}
+	return nil, refused
+}
+
+// enter ends a return that both servers have accepted. Both have that stored, so that both enter it, now or after a restart.
+func (s *server) enter(c *course) error {
+	if err := s.enterID(c.id); err != nil {
+		return err
+	}
+	s.end(c, "entered")
+	return nil
+}
+
+// abandon ends a return that a server can not go on with, or has rejected. No server has entered it: that takes the word of both.
+// Where it waits in the own table it is dropped.
 func (s *server) abandon(c *course) error {
 	switch {
-	case c.step == part:
-		s.end(c, "left, a share did not arrive")
-	case c.taken:
-		if err := s.table.Drop(c.id); err != nil {
+	case c.waits:
+		if err := s.dropID(c.id); err != nil {
 			return err
 		}
-		s.decided++
 		s.end(c, "dropped")
+	case c.step == part:
+		s.end(c, "left, a share did not arrive")
+	case c.step == verdict:
+		s.end(c, "rejected")
 	default:
 		s.end(c, "left, its share was refused")
 	}
 	return nil
+}
+
+// enterID and dropID end a return in the own table, and store it.
+func (s *server) enterID(id uint32) error {
+	if err := s.table.Enter(id); err != nil {
+		return err
+	}
+	s.entered = append(s.entered, id)
+	s.decided++
+	return s.store()
+}
+
+func (s *server) dropID(id uint32) error {
+	if err := s.table.Drop(id); err != nil {
+		return err
+	}
+	s.decided++
+	return s.store()
 }
 
 // drawPart draws the own part of a pair, once the own share is there: so no pair is known before both servers have theirs.

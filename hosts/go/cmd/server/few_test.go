@@ -13,7 +13,7 @@ import (
 // falsify alters an entry in the share of server 0.
 func falsify(shares [][]byte) { binary.LittleEndian.PutUint32(shares[0][6:], 12345) }
 
-// With too few accepted both servers say so and take as many returns more as are missing; with enough they close.
+// With too few entered both servers say so and take as many returns more as are missing; with enough they close.
 func TestTooFewGoOn(t *testing.T) {
 	ctx, cancel := context.WithTimeout(context.Background(), 20*time.Second)
 	defer cancel()
@@ -35,7 +35,7 @@ func TestTooFewGoOn(t *testing.T) {
 				refusals = append(refusals, line[strings.LastIndex(line, "("):])
 			}
 		}
-		if got, want := strings.Join(refusals, " "), "(1 of 4 accepted) (3 of 4 accepted)"; got != want {
+		if got, want := strings.Join(refusals, " "), "(1 of 4 entered) (3 of 4 entered)"; got != want {
 			t.Errorf("server %d: closes refused %s, want %s", k, got, want)
 		}
 	}

@@ -25,11 +25,15 @@ const (
 	part                 // a part of the pair
 	roundOne             // a round-one message
 	roundTwo             // a round-two message
+	verdict              // accepted, and stored; empty where it is rejected
 	totals               // the totals message, when all returns are decided
+	meeting              // the first message: the ids of returns that were accepted before
+	closed               // the first message of a server that has closed: the ids of those that it has entered
 )
 
 // peer is the other server. Messages reach it in the order in which they were sent.
 type peer struct {
+	conn net.Conn
 	in   chan message // closed when no more can come
 	err  error        // why
 	out  chan sent
@@ -44,7 +48,7 @@ type sent struct {
 // newPeer exchanges messages over a connection. Each is sent so much later than it was ready: the distance to servers far
 // away, to try on one machine.
 func newPeer(conn net.Conn, distance time.Duration) *peer {
-	p := &peer{in: make(chan message, 64), out: make(chan sent, 256), done: make(chan struct{})}
+	p := &peer{conn: conn, in: make(chan message, 64), out: make(chan sent, 256), done: make(chan struct{})}
 	go p.receive(conn)
 	go p.deliver(conn, distance)
 	return p
@@ -58,6 +62,16 @@ func (p *peer) send(number uint32, step step, body []byte) {
 func (p *peer) flush() {
 	close(p.out)
 	<-p.done
+}
+
+// leave ends the exchange. The other server gets all that was sent, and is waited for until it leaves too.
+func (p *peer) leave() {
+	p.flush()
+	if conn, ok := p.conn.(*net.TCPConn); ok {
+		conn.CloseWrite()
+	}
+	for range p.in {
+	}
 }
 
 func (p *peer) deliver(conn net.Conn, distance time.Duration) {

@@ -25,46 +25,81 @@ type server struct {
 	least   int           // Q
 	handle  int           // returns to handle before the table is closed, whatever becomes of them
 	slips   []uint32      // ids of returns whose r is typed wrongly here
+	stops   []uint32      // ids of returns after whose verdict the server stops
+	halts   bool          // stops once the closed table is stored, before the totals are told
+	file    string        // where the table is stored; nowhere where it is empty
+	pool    string        // what the pool was opened with
 
-	begun, ended      int
-	decided, accepted int                // in the own table
-	courses           map[uint32]*course // under way, by number
-	late              chan uint32        // numbers of returns that have waited for their share
+	begun, ended int
+	decided      int                // in the own table
+	entered      []uint32           // ids, in the own table
+	totals       []byte             // the own totals message; empty until the table is closed
+	courses      map[uint32]*course // under way, by number
+	late         chan uint32        // numbers of returns that have waited for their share
 }
 
 func newServer(o options, sheet *pool.Sheet, table *pool.Table) (*server, error) {
 	slips, err := frame.Numbers(o.slip, 32)
-	return &server{own: uint(o.own), sheet: sheet, table: table, wait: o.wait, returns: int(o.returns), least: int(o.least),
-		handle: o.handle, slips: slips, courses: map[uint32]*course{}, late: make(chan uint32)}, err
+	if err != nil {
+		return nil, err
+	}
+	stops, err := frame.Numbers(o.stop, 32)
+	if err != nil {
+		return nil, err
+	}
+	s := &server{own: uint(o.own), sheet: sheet, table: table, wait: o.wait, returns: int(o.returns), least: int(o.least),
+		handle: o.handle, slips: slips, stops: stops, halts: o.halts, file: o.table, courses: map[uint32]*course{},
+		late: make(chan uint32)}
+	s.pool = fmt.Sprintf("server %d, sheet %v, N %d, Q %d", s.own, sheet.Bytes(), s.returns, s.least)
+	return s, s.restore()
 }
 
-// run handles returns, closes the table and joins both servers' totals. Where too few are accepted to close, it handles more.
-// Both accept the same returns, and server 1 hears of a further one after the messages that end those before: so both close
-// after the same one.
+// run handles returns, closes the table and joins both servers' totals. Where too few are entered to close, it handles more.
+// Both enter the same returns, and server 1 hears of a further one after the messages that end those before: so both close
+// after the same one. A server that was closed before a restart only joins.
 func (s *server) run() (pool.Totals, error) {
-	for {
+	if err := s.settle(); err != nil {
+		return pool.Totals{}, err
+	}
+	for len(s.totals) == 0 {
 		if err := s.handleAll(); err != nil {
 			return pool.Totals{}, err
 		}
-		mine, err := s.table.Close()
-		if err == nil {
-			return s.join(mine)
+		err := s.closeTable()
+		if errors.Is(err, pool.Few) {
+			err = s.more(err)
 		}
-		if !errors.Is(err, pool.Few) {
-			return pool.Totals{}, err
-		}
-		if err := s.more(err); err != nil {
+		if err != nil {
 			return pool.Totals{}, err
 		}
 	}
+	return s.join()
+}
+
+// closeTable closes the table and stores it with its totals message. The message is told only after that: a server that went on
+// from an open table could take a few returns more and tell totals again, and the difference would show those few.
+func (s *server) closeTable() error {
+	mine, err := s.table.Close()
+	if err != nil {
+		return err
+	}
+	s.totals = mine
+	if err := s.store(); err != nil {
+		return err
+	}
+	if s.halts {
+		s.peer.leave()
+		return errors.New("stops before it tells its totals")
+	}
+	return nil
 }
 
 // more has the server handle as many returns more as are missing. Where the table can not take so many, it never closes.
 func (s *server) more(few error) error {
-	log.Printf("%v (%d of %d accepted)", few, s.accepted, s.least)
-	missing, left := s.least-s.accepted, s.returns-s.decided
+	log.Printf("%v (%d of %d entered)", few, len(s.entered), s.least)
+	missing, left := s.least-len(s.entered), s.returns-s.decided
 	if missing > left {
-		s.peer.flush() // the other server may still need the last message to decide
+		s.peer.leave() // the other server may still need the last message to decide
 		return fmt.Errorf("%d are missing and %d can still be decided: this pool never closes, open a new one", missing, left)
 	}
 	s.handle = s.ended + missing
@@ -170,16 +205,16 @@ func (s *server) end(c *course, how string) {
 }
 
 // join exchanges totals messages and joins them in server order.
-func (s *server) join(mine []byte) (pool.Totals, error) {
-	s.peer.send(uint32(s.ended), totals, mine)
+func (s *server) join() (pool.Totals, error) {
+	s.peer.send(uint32(s.ended), totals, s.totals)
 	s.peer.flush()
 	theirs, more := <-s.peer.in
 	if !more || theirs.step != totals {
 		return pool.Totals{}, fmt.Errorf("no totals of the other server (%v)", s.peer.err)
 	}
-	messages := [][]byte{mine, theirs.body}
+	messages := [][]byte{s.totals, theirs.body}
 	if s.own == 1 {
-		messages = [][]byte{theirs.body, mine}
+		messages = [][]byte{theirs.body, s.totals}
 	}
 	return pool.Join(servers, s.sheet, uint32(s.returns), messages)
 }

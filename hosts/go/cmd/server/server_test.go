@@ -150,7 +150,7 @@ func TestTwoProcesses(t *testing.T) {
 		server int
 		line   string
 	}{
-		{0, "return 3: accepted false"}, {1, "return 3: accepted false"}, {0, "return 2: pool: share: refused 10"},
+		{0, "return 3: rejected"}, {1, "return 3: rejected"}, {0, "return 2: pool: share: refused 10"},
 		{1, "return 4: pool: share: refused 8"}, {0, "return 4: dropped"}, {0, "return 5: left"}, {1, "return 5: left"},
 	} {
 		if log := both[test.server].log.String(); !strings.Contains(log, test.line) {
@@ -170,17 +170,17 @@ func TestFarApart(t *testing.T) {
 	for id := uint32(1); id < 13; id++ {
 		deliver(id, []uint32{1, id}, honest)
 	}
-	time.Sleep(2 * time.Second) // the others take four times the distance, eight of them at a time
+	time.Sleep(3 * time.Second) // the others take five times the distance, seven of them at a time
 	send(t, both[1].workshops, late)
 	for k, p := range both {
 		if got, want := p.end(t), "accepted 13\n1 0 13\n2 0 178"; got != want {
 			t.Errorf("server %d printed\n%s\nits log is\n%s", k, got, p.log)
 		}
 		lines := strings.Split(strings.TrimSpace(p.log.String()), "\n")
-		if last := lines[len(lines)-1]; !strings.Contains(last, "return 0: accepted true, 0 others") {
+		if last := lines[len(lines)-1]; !strings.Contains(last, "return 0: entered, 0 others") {
 			t.Errorf("server %d: the last line is %q", k, last)
 		}
-		if !strings.Contains(p.log.String(), "accepted true, 7 others under way") {
+		if !strings.Contains(p.log.String(), "entered, 7 others under way") {
 			t.Errorf("server %d: never eight returns under way\n%s", k, p.log)
 		}
 	}

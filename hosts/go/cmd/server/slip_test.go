@@ -55,12 +55,12 @@ func checkSlipLog(t *testing.T, log string, slips int) {
 			}
 		}
 	}
-	for _, says := range []string{"return 2: accepted true", "return 11: accepted true", "return 13: accepted true", "(1 of 3 accepted)"} {
+	for _, says := range []string{"return 2: entered", "return 11: entered", "return 13: entered", "(1 of 3 entered)"} {
 		if !strings.Contains(log, says) {
 			t.Errorf("the log does not say %q:\n%s", says, log)
 		}
 	}
-	if strings.Contains(log, "accepted false") {
+	if strings.Contains(log, "rejected") {
 		t.Errorf("a return is rejected:\n%s", log)
 	}
 }

@@ -3,9 +3,10 @@
  *
  * A call fails the run where it touches a byte outside the buffers, changes what it was only lent to read, answers
  * with a refusal that its place in pool.h does not name, changes anything although it is refused, changes a byte past
- * what it says to have written, changes another return in a table than the one that it is on, leaves anything of a
- * return in the slot and the place of one that it decides, takes or refuses the messages of a round wrongly (check_round), takes
- * a table whose least count is out of its range (check_least), or closes or refuses to close wrongly (check_close).
+ * what it says to have written, changes another return in a table than the one that it is on, changes more than its stage at an
+ * accepted verdict, leaves anything of a return in the slot and the place of one that it decides, adds anything but the published
+ * entries of one that it enters to the totals, takes or refuses the messages of a round wrongly (check_round), takes a table whose
+ * least count or stages are out of their range (check_limits), or closes or refuses to close wrongly (check_close).
  *
  * Memory outside is watched in one of two ways. GUARDED: a buffer ends right before, or begins right after, a page that
  * can not be touched. HEAP: a buffer is a block of malloc, for valgrind and for the sanitizers' own malloc. The library
@@ -84,6 +85,7 @@ uint32_t call_share(struct table *table, size_t extra, const struct run *message
 uint32_t call_round_one(struct table *table, size_t extra, uint32_t id, const struct run *joined, size_t room,
                         struct run *out);
 uint32_t call_round_two(struct table *table, size_t extra, uint32_t id, const struct run *joined, uint32_t *accepted);
+uint32_t call_enter(struct table *table, size_t extra, uint32_t id);
 uint32_t call_drop(struct table *table, size_t extra, uint32_t id);
 uint32_t call_close(struct table *table, size_t extra, size_t room, struct run *out);
 uint32_t call_join(uint32_t servers, const struct run *sheet, uint32_t returns, const struct run *joined, size_t room,

@@ -1,4 +1,4 @@
-/* closing.c: closes, with enough accepted and with too few, and joining. */
+/* closing.c: closes, with enough entered and with too few, and joining. */
 #include "driver.h"
 
 static struct table t; /* for calls that are tried */
@@ -10,19 +10,19 @@ static uint32_t close_answer(uint32_t i, uint32_t least)
     struct counts n = counts_at(i);
     if (least < 1 || least > pool.returns || n.waiting > 0)
         return POOL_STAGE;
-    return n.accepted < least ? POOL_FEW : POOL_DONE;
+    return n.entered < least ? POOL_FEW : POOL_DONE;
 }
 
 void try_close(uint32_t i)
 {
     size_t room = POOL_TOTALS_BYTES(pool.sizes.published);
     uint32_t want = close_answer(i, pool.least);
-    uint32_t least = random64() % 2 ? wild_least() : counts_at(i).accepted + random_below(2);
+    uint32_t least = random64() % 2 ? wild_least() : counts_at(i).entered + random_below(2);
     copy_table(&t, &pool.tables[i]);
     if (call_close(&t, some_extra(), random_below((uint32_t)room), &out) != (want == POOL_DONE ? POOL_ROOM : want))
         fail("a close in too little room");
     if (call_close(&t, some_extra(), room, &out) != want)
-        fail("a close while returns wait, or with too few accepted");
+        fail("a close while returns wait, or with too few entered");
     copy_table(&t, &pool.tables[i]);
     put_u16(t.bytes.at + LEAST_AT, least);
     if (call_close(&t, some_extra(), room, &out) != close_answer(i, least))
@@ -34,7 +34,7 @@ void too_few(void)
     for (uint32_t i = 0; i < pool.servers; i++) {
         size_t room = POOL_TOTALS_BYTES(pool.sizes.published);
         if (call_close(&pool.tables[i], some_extra(), wild_room(room), &out) != POOL_FEW)
-            fail("a close with too few accepted");
+            fail("a close with too few entered");
         wild_call(i);
         try_close(i);
     }
@@ -69,8 +69,8 @@ void close_and_join(void)
         check_totals(&joined);
     }
     must(call_join(pool.servers, &pool.sheet, pool.returns, &joined, room, &accepted, &out), "joining");
-    if (accepted != pool.accepted || out.len != room)
-        fail("the count of accepted returns");
+    if (accepted != pool.entered || out.len != room)
+        fail("the count of entered returns");
     for (uint32_t k = 0; k < pool.sizes.published; k++)
         if (get_u32(out.at + 4 * k) != pool.plain[k])
             fail("a total is not the plain sum");

@@ -1,8 +1,8 @@
 /*
  * driver.c: random pools from a seed. Each call that a pool needs is made soundly, and must be done; beside it
  * functions are called with arguments gone wild, on copies of the tables. Up to eight returns are under way in a table,
- * each server at its own pace. While too few are accepted to close, more returns are played. The totals at the end are held to
- * the plain sums; a pool with N decided and too few accepted ends without.
+ * each server at its own pace; what all have accepted is entered, or dropped by all. While too few are entered to close, more
+ * returns are played. The totals at the end are held to the plain sums; a pool with N decided and too few entered ends without.
  *
  *     driver guard|heap SEED POOLS SECONDS
  *
@@ -28,10 +28,10 @@ static uint32_t some_least(void)
     }
 }
 
-/* While too few are accepted, more returns, so many times at most. Says whether enough are accepted. */
+/* While too few are entered, more returns, so many times at most. Says whether enough are entered. */
 static int play_more(int times)
 {
-    while (pool.accepted < pool.least) {
+    while (pool.entered < pool.least) {
         uint32_t left = pool.returns - pool.decided;
         too_few();
         if (left == 0 || times-- == 0)
@@ -45,7 +45,7 @@ static void play_pool(void)
 {
     uint32_t count = random_below(random_below(4) ? 5 : MOST_RETURNS + 1);
     memset(&pool.plain, 0, sizeof pool.plain);
-    pool.accepted = pool.decided = 0;
+    pool.entered = pool.decided = 0;
     pool.first_id = (uint32_t)random64();
     new_sheet();
     circuits();

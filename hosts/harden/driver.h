@@ -13,8 +13,8 @@ extern struct pool {
     uint32_t servers, returns, least;
     struct table tables[POOL_MAX_SERVERS];
     struct run values, random, shares; /* of the return that was made last */
-    uint32_t plain[POOL_MAX_ENTRIES], accepted; /* of the returns that were played */
-    uint32_t first_id, decided;                 /* they have the ids from the first one on, and are decided everywhere */
+    uint32_t plain[POOL_MAX_ENTRIES], entered; /* of the returns that were played */
+    uint32_t first_id, decided;                /* they have the ids from the first one on, and are decided everywhere */
 } pool;
 
 /* wild.c */
@@ -103,11 +103,13 @@ void check_totals(const struct run *totals);
 /* Plays so many returns more, several of them under way. */
 void play_returns(uint32_t count);
 
-/* How many returns server i has waiting, decided and accepted. */
+/* How many returns server i has waiting, for entry too, decided and entered. */
 struct counts {
-    uint32_t waiting, decided, accepted;
+    uint32_t waiting, decided, entered;
 };
 struct counts counts_at(uint32_t i);
+
+/* tries.c */
 
 /* A call on a copy of a table of server i, or of another, with arguments gone wild. */
 void wild_call(uint32_t i);
@@ -117,10 +119,10 @@ void wild_call(uint32_t i);
 /* What a close comes to at server i, as it stands and with another least count: on copies of its table. */
 void try_close(uint32_t i);
 
-/* Every server refuses to close, with too few accepted. */
+/* Every server refuses to close, with too few entered. */
 void too_few(void);
 
-/* Closes the tables, with enough accepted, and joins the totals. */
+/* Closes the tables, with enough entered, and joins the totals. */
 void close_and_join(void);
 
 #endif

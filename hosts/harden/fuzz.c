@@ -9,7 +9,13 @@
 
 #include "input.h"
 
-enum { SERVERS = 2, OPERATIONS = 9, ANSWERS = POOL_RUN + 1, RETURNS = 10, IDS = 16, KINDS = 12 };
+enum { SERVERS = 2, ANSWERS = POOL_RUN + 1, RETURNS = 10, IDS = 16 };
+
+/* What can be done. In a pool an operation is told by its number; a table is altered by ALTER and the number after it. */
+enum { MAKE, SHARE, ROUND_ONE, ROUND_TWO, DROP, CLOSE, JOIN, ENTER, ALTER, OPERATIONS = ALTER + 2, SHEETS = ALTER, SHELVES };
+
+/* Kinds of tables: how many returns wait, with none of them for entry or with some; then those that are closed and the like. */
+enum { SOME_ENTRY = POOL_SLOTS + 1, CLOSED_KIND = 2 * SOME_ENTRY, NOT_EIGHT, ARBITRARY, KINDS };
 
 /* The fuzzer looks at these counters after each input. */
 __attribute__((section("__libfuzzer_extra_counters"))) static uint8_t seen[OPERATIONS][OPERATIONS][KINDS][ANSWERS];
@@ -27,17 +33,18 @@ static void note(uint32_t operation, uint32_t kind, uint32_t answer)
     before = operation;
 }
 
-/* What kind of table it is: how many returns wait in it, 9 where it is closed, 10 where its slots are not eight. */
 static uint32_t kind_of(const struct table *table)
 {
-    uint32_t waiting = 0;
+    uint32_t waiting = 0, entry = 0;
     if (table->slots.len != SLOTS_BYTES)
-        return 10;
+        return NOT_EIGHT;
     if (table->bytes.len > STAGE_AT && table->bytes.at[STAGE_AT] != 0)
-        return 9;
-    for (size_t k = 0; k < POOL_SLOTS; k++)
+        return CLOSED_KIND;
+    for (size_t k = 0; k < POOL_SLOTS; k++) {
         waiting += slot_of(table, k).stage != POOL_FREE;
-    return waiting;
+        entry |= slot_of(table, k).stage == POOL_AWAITS_ENTRY;
+    }
+    return waiting + entry * SOME_ENTRY;
 }
 
 static void make_return(void)
@@ -53,7 +60,7 @@ static void make_return(void)
     for (size_t k = 0; k < random_elements.len; k += 4)
         put_u32(random_elements.at + k, (uint32_t)(k * 2654435761u) % POOL_PRIME);
     alter(&random_elements);
-    note(0, 0, call_make(&sheet, SERVERS, id, &values, &random_elements, POOL_MAKE_BYTES(SERVERS, each), &shares[id]));
+    note(MAKE, 0, call_make(&sheet, SERVERS, id, &values, &random_elements, POOL_MAKE_BYTES(SERVERS, each), &shares[id]));
 }
 
 static void take_share(uint32_t own)
@@ -66,7 +73,7 @@ static void take_share(uint32_t own)
     uint32_t answer = call_share(&tables[own], 0, &message, r, s, POOL_ROUND_ONE_BYTES, &out);
     if (answer == 0)
         memcpy(ones[id] + own * POOL_ROUND_ONE_BYTES, out.at, out.len);
-    note(1, kind, answer);
+    note(SHARE, kind, answer);
 }
 
 /* Both messages of a round as the input has them arrive: in either order, one twice, with a server byte past S, one missing, altered. */
@@ -87,7 +94,7 @@ static void arrive(const uint8_t *messages, size_t each)
 static void take_round(uint32_t own, uint32_t round)
 {
     uint32_t id = byte() % IDS, accepted, kind = kind_of(&tables[own]), answer;
-    if (round == 2) {
+    if (round == ROUND_TWO) {
         arrive(twos[id], POOL_ROUND_TWO_BYTES);
         answer = call_round_two(&tables[own], 0, id, &message, &accepted);
     } else {
@@ -96,13 +103,14 @@ static void take_round(uint32_t own, uint32_t round)
         if (answer == 0)
             memcpy(twos[id] + own * POOL_ROUND_TWO_BYTES, out.at, out.len);
     }
-    note(1 + round, kind, answer);
+    note(round, kind, answer);
 }
 
-static void drop_return(uint32_t own)
+/* The return is entered or dropped. */
+static void end_return(uint32_t own, uint32_t how)
 {
-    uint32_t kind = kind_of(&tables[own]);
-    note(4, kind, call_drop(&tables[own], 0, byte() % IDS));
+    uint32_t kind = kind_of(&tables[own]), id = byte() % IDS;
+    note(how, kind, how == ENTER ? call_enter(&tables[own], 0, id) : call_drop(&tables[own], 0, id));
 }
 
 static void close_table(uint32_t own, size_t short_by)
@@ -111,7 +119,7 @@ static void close_table(uint32_t own, size_t short_by)
     uint32_t answer = call_close(&tables[own], 0, POOL_TOTALS_BYTES(sizes.published) - short_by, &out);
     if (answer == 0 && out.len <= POOL_MAX_TOTALS_BYTES)
         memcpy(totals.at + own * POOL_TOTALS_BYTES(sizes.published), out.at, out.len);
-    note(5, kind, answer);
+    note(CLOSE, kind, answer);
 }
 
 static void join_totals(void)
@@ -120,31 +128,32 @@ static void join_totals(void)
     message.len = SERVERS * POOL_TOTALS_BYTES(sizes.published);
     memcpy(message.at, totals.at, message.len);
     alter(&message);
-    note(6, 0, call_join(SERVERS, &sheet, RETURNS, &message, POOL_JOIN_BYTES(sizes.published), &accepted, &out));
+    note(JOIN, 0, call_join(SERVERS, &sheet, RETURNS, &message, POOL_JOIN_BYTES(sizes.published), &accepted, &out));
 }
 
 static void operate(void)
 {
-    uint8_t operation = byte();
-    uint32_t own = operation >> 7;
-    switch (operation % OPERATIONS) {
-    case 0:
+    uint8_t told = byte();
+    uint32_t own = told >> 7, operation = told % OPERATIONS;
+    switch (operation) {
+    case MAKE:
         make_return();
         break;
-    case 1:
+    case SHARE:
         take_share(own);
         break;
-    case 2:
-    case 3:
-        take_round(own, operation % OPERATIONS - 1);
+    case ROUND_ONE:
+    case ROUND_TWO:
+        take_round(own, operation);
         break;
-    case 4:
-        drop_return(own);
+    case DROP:
+    case ENTER:
+        end_return(own, operation);
         break;
-    case 5:
-        close_table(own, operation >> 6 & 1);
+    case CLOSE:
+        close_table(own, told >> 6 & 1);
         break;
-    case 6:
+    case JOIN:
         join_totals();
         break;
     default:
@@ -191,11 +200,12 @@ static void arbitrary_table(void)
     t->elements.len -= t->elements.len % 4;
     id = t->slots.len >= SLOT_BYTES ? slot_of(t, 0).id : 0;
     copy_table(u, t);
-    note(1, 11, call_share(t, 0, &message, 1000, 5, POOL_ROUND_ONE_BYTES, &out));
-    note(2, 11, call_round_one(u, 0, id, &message, POOL_ROUND_TWO_BYTES, &out));
-    note(3, 11, call_round_two(u, 0, id, &message, &accepted));
-    note(4, 11, call_drop(u, 0, id));
-    note(5, 11, call_close(u, 0, POOL_MAX_TOTALS_BYTES, &out));
+    note(SHARE, ARBITRARY, call_share(t, 0, &message, 1000, 5, POOL_ROUND_ONE_BYTES, &out));
+    note(ROUND_ONE, ARBITRARY, call_round_one(u, 0, id, &message, POOL_ROUND_TWO_BYTES, &out));
+    note(ROUND_TWO, ARBITRARY, call_round_two(u, 0, id, &message, &accepted));
+    note(ENTER, ARBITRARY, call_enter(u, 0, id));
+    note(DROP, ARBITRARY, call_drop(u, 0, id));
+    note(CLOSE, ARBITRARY, call_close(u, 0, POOL_MAX_TOTALS_BYTES, &out));
 }
 
 /* Arbitrary bytes are stored by place and brought back, with a number and a length of messages that may not fit. */
@@ -205,13 +215,13 @@ static void shelve(void)
     bytes(&message, input_left());
     size_t room = messages % 4 == 3 ? message.len / 2 : message.len;
     answer = call_shelve(messages, width, &message, room, &out);
-    note(8, 0, answer);
+    note(SHELVES, 0, answer);
     if (answer == 0) {
-        note(8, 1, call_unshelve(messages, width, &out, out.len, &shares[0]));
+        note(SHELVES, 1, call_unshelve(messages, width, &out, out.len, &shares[0]));
         if (shares[0].len != message.len || memcmp(shares[0].at, message.at, message.len) != 0)
             fail("messages do not come back");
     }
-    note(8, 2, call_unshelve(messages, width, &message, room, &out));
+    note(SHELVES, 2, call_unshelve(messages, width, &message, room, &out));
 }
 
 int LLVMFuzzerInitialize(int *argc, char ***argv)
@@ -226,19 +236,19 @@ int LLVMFuzzerTestOneInput(const uint8_t *data, size_t size)
     struct circuit_counts circuit;
     uint32_t lists, entries;
     start_input(data, size);
-    before = 8;
+    before = SHELVES;
     seed_random(size);
     switch (byte() % 5) {
     case 0:
         bytes(&sheet, RUN_BYTES / 2);
-        note(7, 0, call_sizes(&sheet, &sizes));
-        note(7, 1, call_circuit(&sheet, POOL_MAX_CIRCUIT_BYTES, &out));
-        note(7, 3, call_every_return(&sheet, POOL_MAX_EVERY_RETURN_BYTES, &lists, &out));
+        note(SHEETS, 0, call_sizes(&sheet, &sizes));
+        note(SHEETS, 1, call_circuit(&sheet, POOL_MAX_CIRCUIT_BYTES, &out));
+        note(SHEETS, 3, call_every_return(&sheet, POOL_MAX_EVERY_RETURN_BYTES, &lists, &out));
         break;
     case 1:
         entries = two_bytes();
         bytes(&message, RUN_BYTES / 2);
-        note(7, 2, call_read_circuit(entries, &message, &circuit));
+        note(SHEETS, 2, call_read_circuit(entries, &message, &circuit));
         break;
     case 2:
         arbitrary_table();

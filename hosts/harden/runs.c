@@ -194,7 +194,7 @@ void check_round_two(const struct table *was, uint32_t id, const struct run *joi
         fail("messages are taken in which a server is twice or missing, or that are not sound");
 }
 
-/* The least count */
+/* The least count and the stages */
 
 void check_opened(const struct table *now, uint32_t returns, uint32_t least)
 {
@@ -205,14 +205,17 @@ void check_opened(const struct table *now, uint32_t returns, uint32_t least)
         fail("another N or least count in a new table");
 }
 
-void check_least(const struct table *was, uint32_t answer)
+void check_limits(const struct table *was, uint32_t answer)
 {
     const uint8_t *at = was->bytes.at;
-    if (was->bytes.len < HEADER)
+    if (was->bytes.len < HEADER || answer == POOL_STAGE)
         return;
     uint32_t least = get_u16(at + LEAST_AT);
-    if ((least < 1 || least > get_u16(at + RETURNS_AT)) && answer != POOL_STAGE)
+    if (least < 1 || least > get_u16(at + RETURNS_AT))
         fail("a table is taken whose least count is not from 1 to N");
+    for (size_t k = 0; k < was->slots.len / SLOT_BYTES; k++)
+        if (slot_of(was, k).stage > POOL_AWAITS_ENTRY)
+            fail("a table is taken with a stage that there is not");
 }
 
 void check_close(const struct table *was, size_t room, uint32_t answer)
@@ -227,10 +230,10 @@ void check_close(const struct table *was, size_t room, uint32_t answer)
     for (size_t k = 0; k < POOL_SLOTS; k++)
         if (slot_of(was, k).stage != POOL_FREE)
             fail("a close while a return waits that is not refused 11");
-    if (get_u16(at + ACCEPTED_AT) < get_u16(at + LEAST_AT))
+    if (get_u16(at + ENTERED_AT) < get_u16(at + LEAST_AT))
         want = POOL_FEW;
     else if (room < POOL_TOTALS_BYTES(sizes.published))
         want = POOL_ROOM;
     if (answer != want)
-        fail("a close with fewer accepted than the least count, or a refusal of one with enough");
+        fail("a close with fewer entered than the least count, or a refusal of one with enough");
 }

@@ -14,7 +14,7 @@ enum { KIND_ONE = 34, KIND_TWO = 35, SERVER_AT = 5, D_AT = 6, E_AT = 10, R_AT = 
 size_t round_bytes(uint8_t kind);
 
 /* Places in the bytes of a table: the layout stands at the head of crates/rules/specs/Table.antt. */
-enum { STAGE_AT = 1, SERVERS_AT = 2, OWN_AT = 3, RETURNS_AT = 4, DECIDED_AT = 6, ACCEPTED_AT = 8, LEAST_AT = 10 };
+enum { STAGE_AT = 1, SERVERS_AT = 2, OWN_AT = 3, RETURNS_AT = 4, DECIDED_AT = 6, ENTERED_AT = 8, LEAST_AT = 10 };
 enum { SHEET_LEN_AT = 12, HEADER = 14 };
 
 void copy(struct run *to, const struct run *from);
@@ -41,10 +41,10 @@ void check_round_two(const struct table *was, uint32_t id, const struct run *joi
 /* A new table has this N and this least count, from 1 to N. */
 void check_opened(const struct table *now, uint32_t returns, uint32_t least);
 
-/* Every call refuses a table 11 whose least count is not from 1 to N. */
-void check_least(const struct table *was, uint32_t answer);
+/* Every call refuses a table 11 whose least count is not from 1 to N, or in which a slot has a stage that there is not. */
+void check_limits(const struct table *was, uint32_t answer);
 
-/* A close that is not refused 11: none waits; it is refused 15 exactly where fewer than the least count are accepted, then 14. */
+/* A close that is not refused 11: none waits; it is refused 15 exactly where fewer than the least count are entered, then 14. */
 void check_close(const struct table *was, size_t room, uint32_t answer);
 
 #endif

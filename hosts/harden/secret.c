@@ -1,17 +1,18 @@
 /*
  * secret.c: which branches and places in memory depend on a share's elements, for valgrind. The element bytes of a
  * share message are marked as undefined before pool_share has them, so that valgrind reports each branch and each
- * address that is worked out from them, in this call and in the later ones on the same table. Two returns are under way.
+ * address that is worked out from them, in this call and in the later ones on the same table. Three returns are under way.
  *
  * Nothing is filtered. These reports are expected:
  *   - the check that an element is below p, of a share message and, in every call on a table, of the shares that wait
  *     and of the totals: for sound elements it always goes the same way;
  *   - in the rounds, the checks of the joined messages and the verdict, on numbers that the servers publish.
- * Storing shares by place and bringing them back has none.
+ * Storing shares by place and bringing them back has none. Entering a return has none but those checks.
  * A report in arithmetic (a sum, product or reduction modulo p) shows that the time depends on a secret.
  *
  * The round messages are published, so they, and the slots with the same d and e, are marked as defined once they are
- * written. A return that is decided must leave zeros in its slot and its place, which valgrind knows as defined.
+ * written. A return that is accepted must keep its share until it is entered or dropped. One that is decided must leave zeros in its
+ * slot and its place, which valgrind knows as defined.
  */
 #include <stdio.h>
 #include <string.h>
@@ -19,7 +20,7 @@
 
 #include "pool.h"
 
-enum { SERVERS = 2, RETURNS = 4, IDS = 2 };
+enum { SERVERS = 2, RETURNS = 4, IDS = 3 };
 
 static const uint8_t sheet[] = {POOL_YES_NO, POOL_CHOICE, 3, POOL_NUMBER, 4, POOL_TOP, 200, 0, 0, 0};
 static const uint8_t values[] = {1, 0, 0, 0, 2, 0, 0, 0, 9, 0, 0, 0, 150, 0, 0, 0};
@@ -119,31 +120,67 @@ static uint32_t left(size_t k)
     return found;
 }
 
+/* Every server gives its verdict on a return. Gives how many accept it. */
+static uint32_t round_two(uint32_t id, uint32_t *refused)
+{
+    uint32_t accepted = 0, verdict = 0;
+    for (size_t i = 0; i < SERVERS; i++, accepted += verdict)
+        *refused |= pool_round_two(TABLE(&tables[i]), id, twos[id], sizeof twos[id], &verdict);
+    return accepted;
+}
+
+/* Whether the share of a return, in the slot of its id, is not all in its place at some server. */
+static uint32_t missing(uint32_t id)
+{
+    static uint8_t place[POOL_MAX_SHARE_BYTES], share[POOL_MAX_SHARE_BYTES];
+    size_t elements = (share_len - 6) / 4;
+    uint32_t found = 0;
+    for (size_t i = 0; i < SERVERS; i++) {
+        memcpy(place, tables[i].elements + id * (elements + 2), 4 * elements);
+        memcpy(share, shares[id] + i * share_len + 6, 4 * elements);
+        (void)VALGRIND_MAKE_MEM_DEFINED(place, sizeof place);
+        (void)VALGRIND_MAKE_MEM_DEFINED(share, sizeof share);
+        found |= memcmp(place, share, 4 * elements) != 0;
+    }
+    return found;
+}
+
+/* Every server enters a return, or drops it. */
+static uint32_t end(uint32_t id, const char *call, int enters)
+{
+    uint32_t refused = 0;
+    say(call);
+    for (struct table *t = tables; t < tables + SERVERS; t++)
+        refused |= enters ? pool_enter(TABLE(t), id) : pool_drop(TABLE(t), id);
+    return refused;
+}
+
 int main(void)
 {
-    uint32_t refused = prepare(), accepted = 0, kept = 0, verdict;
+    uint32_t refused = prepare(), accepted = 0, kept = 0, lost = 0;
     say("pool_shelve and pool_unshelve");
     refused |= shelve();
     say("pool_share");
     refused |= take_shares(0);
     say("pool_share while another return waits");
-    refused |= take_shares(1);
+    refused |= take_shares(1) | take_shares(2);
     say("pool_round_one");
-    refused |= round_one(1);
-    refused |= round_one(0);
+    for (uint32_t id = IDS; id-- > 0;)
+        refused |= round_one(id);
     say("pool_round_two");
-    for (size_t i = 0; i < SERVERS; i++) {
-        refused |= pool_round_two(TABLE(&tables[i]), 0, twos[0], sizeof twos[0], &verdict);
-        accepted += verdict;
+    for (uint32_t id = 0; id < IDS; id++) {
+        accepted += round_two(id, &refused);
+        lost |= missing(id);
     }
-    kept |= left(0);
-    say("pool_drop");
-    for (size_t i = 0; i < SERVERS; i++)
-        refused |= pool_drop(TABLE(&tables[i]), 1);
-    kept |= left(1);
+    /* With the first one that is entered the totals become secret. A drop looks at them, before another is added to them. */
+    refused |= end(0, "pool_enter", 1);
+    refused |= end(1, "pool_drop", 0);
+    refused |= end(2, "pool_enter", 1);
+    for (uint32_t id = 0; id < IDS; id++)
+        kept |= left(id);
     (void)VALGRIND_MAKE_MEM_DEFINED(&refused, sizeof refused);
     (void)VALGRIND_MAKE_MEM_DEFINED(&accepted, sizeof accepted);
-    printf("refused %u, accepted %u%s\n", (unsigned)refused, (unsigned)accepted,
-           kept ? ", and something of a decided return stays" : "");
-    return refused != 0 || accepted != SERVERS || kept;
+    printf("refused %u, accepted %u%s%s\n", (unsigned)refused, (unsigned)accepted,
+           kept ? ", and something of a decided return stays" : "", lost ? ", and the share of an accepted return is gone" : "");
+    return refused != 0 || accepted != IDS * SERVERS || kept || lost;
 }

@@ -1,144 +1,35 @@
 /* servers.c: tables with up to eight returns under way, each server at its own pace. */
 #include <string.h>
 
-#include "driver.h"
+#include "courses.h"
 
-enum { NOT_YET, AWAITS_ONE, AWAITS_TWO, ENDED }; /* where a return is at a server */
-#define KIND_OF(round) ((round) == AWAITS_ONE ? KIND_ONE : KIND_TWO) /* of the messages that it awaits */
-enum conduct { HONEST, ALTERED, PAST_TOP, DROP_ONE, DROP_TWO, SLIPPED }; /* SLIPPED: the servers have different pairs */
+struct course courses[MOST_RETURNS];
+uint32_t course_count;
+static uint32_t decided_before, entered_before; /* of earlier returns, at every server */
 
-/* A return: what its workshop sent, how far it is at each server, and what the servers wrote for it. */
-static struct course {
-    uint32_t id;
-    enum conduct conduct;
-    uint32_t accepted; /* what the verdict must be */
-    uint32_t sums[POOL_MAX_ENTRIES];
-    uint8_t shares[POOL_MAX_MAKE_BYTES];
-    struct pair {
-        uint64_t r, s;
-    } pairs[POOL_MAX_SERVERS];
-    uint8_t at[POOL_MAX_SERVERS];
-    uint8_t ones[POOL_MAX_SERVERS * POOL_ROUND_ONE_BYTES], twos[POOL_MAX_SERVERS * POOL_ROUND_TWO_BYTES];
-} courses[MOST_RETURNS];
-static uint32_t course_count;
-static uint32_t decided_before, accepted_before; /* of earlier returns, at every server */
+static struct run out, message;
 
-static struct table t; /* for calls gone wild */
-static struct run b, out, message;
-
-/* Calls gone wild */
-
-/* The share of a return for server i, or its messages of a round in any order: zeros for those that are not yet written. */
-static void message_of(const struct course *c, uint32_t i, int round)
+void message_of(const struct course *c, uint32_t i, int round, struct run *to)
 {
-    message.len = 0;
-    if (round == 0)
-        append(&message, c->shares + i * pool.sizes.share_bytes, pool.sizes.share_bytes);
+    to->len = 0;
+    if (round == NOT_YET)
+        append(to, c->shares + i * pool.sizes.share_bytes, pool.sizes.share_bytes);
     else
-        join_shuffled(&message, KIND_OF(round), round == 1 ? c->ones : c->twos, pool.servers);
+        join_shuffled(to, KIND_OF(round), round == AWAITS_ONE ? c->ones : c->twos, pool.servers);
 }
 
-/*
- * A copy of a server's table, or of another server's, now and then a wild one. Gives the bytes and numbers to lend after it:
- * none after a wild one, which could be a longer table with them.
- */
-static size_t any_table(uint32_t i)
-{
-    copy_table(&t, &pool.tables[random_below(4) ? i : random_below(pool.servers)]);
-    if (random_below(3) != 0)
-        return some_extra();
-    wild_table(&t);
-    return 0;
-}
-
-/* Whatever the stage of the table, with messages of any return. */
-void wild_call(uint32_t i)
-{
-    const struct course *c = &courses[course_count ? random_below(course_count) : 0];
-    uint32_t accepted, id = random_below(4) ? c->id : wild32(courses[random_below(MOST_RETURNS)].id);
-    size_t extra = any_table(i);
-    int round = (int)random_below(3);
-    message_of(c, i, round);
-    copy(&b, &message);
-    if (round == 1 && random_below(4) == 0)
-        set_apart(&b, pool.servers, i);
-    if (round > 0 && random_below(3) == 0)
-        spoil(&b, KIND_OF(round), pool.servers, i);
-    if (random64() % 2)
-        wild(&b);
-    switch (random_below(3) ? round : 3 + (int)random_below(2)) {
-    case 0:
-        call_share(&t, extra, &b, wild64(c->pairs[i].r), wild64(c->pairs[i].s), wild_room(POOL_ROUND_ONE_BYTES), &out);
-        break;
-    case 1:
-        call_round_one(&t, extra, id, &b, wild_room(POOL_ROUND_TWO_BYTES), &out);
-        break;
-    case 2:
-        call_round_two(&t, extra, id, &b, &accepted);
-        break;
-    case 3:
-        call_drop(&t, extra, id);
-        break;
-    default:
-        call_close(&t, extra, wild_room(POOL_TOTALS_BYTES(pool.sizes.published)), &out);
-        break;
-    }
-}
-
-/* Whether a return is accepted once it is decided. */
-static int accepts(const struct course *c) { return c->accepted && c->conduct < DROP_ONE; }
+/* Whether a return is entered at its end. */
+static int enters(const struct course *c) { return c->accepted && c->conduct < DROP_ONE; }
 
 struct counts counts_at(uint32_t i)
 {
-    struct counts n = {0, decided_before, accepted_before};
+    struct counts n = {0, decided_before, entered_before};
     for (const struct course *c = courses; c < courses + course_count; c++) {
-        n.waiting += c->at[i] == AWAITS_ONE || c->at[i] == AWAITS_TWO;
+        n.waiting += c->at[i] != NOT_YET && c->at[i] != ENDED;
         n.decided += c->at[i] == ENDED;
-        n.accepted += c->at[i] == ENDED && accepts(c);
+        n.entered += c->at[i] == ENDED && enters(c);
     }
     return n;
-}
-
-/* What a sound share comes to at server i: under an id that is new there, and under one that waits or was decided. */
-static void refused_shares(uint32_t i)
-{
-    struct counts n = counts_at(i);
-    uint32_t early = n.waiting == POOL_SLOTS ? POOL_STAGE : n.waiting + n.decided >= pool.returns ? POOL_FULL : POOL_DONE;
-    const struct course *c = &courses[random_below(course_count)];
-    uint32_t known = early ? early : c->at[i] == NOT_YET ? POOL_DONE : POOL_DECIDED;
-    for (int fresh = 0; fresh < 2; fresh++) {
-        message_of(c, i, 0);
-        if (fresh)
-            put_u32(message.at + 1, pool.first_id - 1);
-        copy_table(&t, &pool.tables[i]);
-        if (call_share(&t, 0, &message, c->pairs[i].r, c->pairs[i].s, POOL_ROUND_ONE_BYTES, &out) != (fresh ? early : known))
-            fail("the refusal of a share: eight wait, N are decided or wait, or its id is used");
-    }
-}
-
-/* The messages that the servers wrote last for a return, or all of them with another id. */
-static void renamed(const struct course *c, uint32_t i, uint8_t round)
-{
-    message_of(c, i, round);
-    for (size_t at = 1; c->at[i] == round && at < message.len; at += round_bytes(KIND_OF(round)))
-        put_u32(message.at + at, c->id + 1);
-}
-
-/* Rounds and drops of a return that is not in that stage at server i, and rounds with messages of another id. */
-static void refused_rounds(uint32_t i)
-{
-    const struct course *c = &courses[random_below(course_count)];
-    uint8_t at = c->at[i];
-    uint32_t accepted;
-    copy_table(&t, &pool.tables[i]);
-    renamed(c, i, AWAITS_ONE);
-    if (call_round_one(&t, 0, c->id, &message, POOL_ROUND_TWO_BYTES, &out) != (at == AWAITS_ONE ? POOL_JOINED : POOL_STAGE))
-        fail("the refusal of a round one");
-    renamed(c, i, AWAITS_TWO);
-    if (call_round_two(&t, 0, c->id, &message, &accepted) != (at == AWAITS_TWO ? POOL_JOINED : POOL_STAGE))
-        fail("the refusal of a round two");
-    if (at != AWAITS_ONE && at != AWAITS_TWO && call_drop(&t, 0, c->id) != POOL_STAGE)
-        fail("the refusal of a drop");
 }
 
 /* Returns */
@@ -179,8 +70,7 @@ static void new_course(struct course *c, uint32_t id)
     }
 }
 
-/* The least stage that a return has at any server. */
-static uint8_t least(const struct course *c)
+uint8_t least_stage(const struct course *c)
 {
     uint8_t stage = ENDED;
     for (uint32_t i = 0; i < pool.servers; i++)
@@ -188,17 +78,7 @@ static uint8_t least(const struct course *c)
     return stage;
 }
 
-/* What a round with the messages of all servers answers. */
-static uint32_t round_answer(const struct course *c) { return c->conduct == SLIPPED ? POOL_UNEQUAL : POOL_DONE; }
-
-/* Other orders and faults in the messages of a return, where they are all there for the round that it awaits at server i. */
-static void other_orders(uint32_t i)
-{
-    const struct course *c = &courses[random_below(course_count)];
-    uint8_t at = c->at[i];
-    if ((at == AWAITS_ONE || at == AWAITS_TWO) && least(c) >= at)
-        check_orders(i, c->id, KIND_OF(at), at == AWAITS_ONE ? c->ones : c->twos, round_answer(c));
-}
+uint32_t round_answer(const struct course *c) { return c->conduct == SLIPPED ? POOL_UNEQUAL : POOL_DONE; }
 
 /* Round one with the messages of all servers. A return with a slip is refused and waits; it ends by a drop. */
 static uint8_t take_round_one(struct course *c, uint32_t i)
@@ -214,21 +94,54 @@ static uint8_t take_round_one(struct course *c, uint32_t i)
     return ENDED;
 }
 
-static void decide(struct course *c, uint32_t i)
+/* The verdict. A rejected return is at its end, an accepted one awaits entry. */
+static uint8_t take_round_two(const struct course *c, uint32_t i)
 {
     uint32_t accepted = 2;
     must(call_round_two(&pool.tables[i], some_extra(), c->id, &message, &accepted), "sound round two");
     if (accepted != c->accepted)
         fail("the verdict");
+    return accepted ? AWAITS_ENTRY : ENDED;
 }
 
-/* Takes a return one step on at server i; does nothing where that waits for the messages of others. */
+/* Whether a return is dropped at a server where it is in this stage. */
+static int drops(const struct course *c, uint8_t stage)
+{
+    switch (c->conduct) {
+    case DROP_ONE:
+        return stage == AWAITS_ONE;
+    case DROP_TWO:
+        return stage == AWAITS_TWO;
+    case DROP_ENTRY:
+        return stage == AWAITS_ENTRY || (stage == AWAITS_TWO && random_below(4) == 0);
+    default:
+        return 0;
+    }
+}
+
+/* Calls on copies of the table of server i. */
+static void try_calls(uint32_t i)
+{
+    check_free(&pool.tables[i]);
+    wild_call(i);
+    if (random_below(4) == 0 || counts_at(i).waiting == POOL_SLOTS)
+        refused_shares(i);
+    if (random_below(4) == 0 || counts_at(i).waiting == 0)
+        try_close(i);
+    if (random_below(4) == 0)
+        refused_calls(i);
+    if (random_below(2) == 0)
+        other_orders(i);
+}
+
+/* Takes a return one step on at server i; does nothing where that waits for the messages or the verdicts of others. */
 static void step(struct course *c, uint32_t i)
 {
     struct table *table = &pool.tables[i];
     uint8_t stage = c->at[i];
-    message_of(c, i, stage);
-    if ((stage == AWAITS_ONE && c->conduct == DROP_ONE) || (stage == AWAITS_TWO && c->conduct == DROP_TWO)) {
+    if (stage != AWAITS_ENTRY)
+        message_of(c, i, stage, &message);
+    if (drops(c, stage)) {
         must(call_drop(table, some_extra(), c->id), "dropping");
         c->at[i] = ENDED;
     } else if (stage == NOT_YET) {
@@ -236,24 +149,17 @@ static void step(struct course *c, uint32_t i)
         must(call_share(table, some_extra(), &message, p.r, p.s, POOL_ROUND_ONE_BYTES, &out), "a sound share");
         memcpy(c->ones + i * POOL_ROUND_ONE_BYTES, out.at, POOL_ROUND_ONE_BYTES);
         c->at[i] = AWAITS_ONE;
-    } else if (stage == AWAITS_ONE && least(c) >= AWAITS_ONE) {
+    } else if (stage == AWAITS_ONE && least_stage(c) >= AWAITS_ONE) {
         c->at[i] = take_round_one(c, i);
-    } else if (stage == AWAITS_TWO && least(c) >= AWAITS_TWO) {
-        decide(c, i);
+    } else if (stage == AWAITS_TWO && least_stage(c) >= AWAITS_TWO) {
+        c->at[i] = take_round_two(c, i);
+    } else if (stage == AWAITS_ENTRY && least_stage(c) >= AWAITS_ENTRY) {
+        must(call_enter(table, some_extra(), c->id), "entering");
         c->at[i] = ENDED;
     } else {
         return;
     }
-    check_free(table);
-    wild_call(i);
-    if (random_below(4) == 0 || counts_at(i).waiting == POOL_SLOTS)
-        refused_shares(i);
-    if (random_below(4) == 0 || counts_at(i).waiting == 0)
-        try_close(i);
-    if (random_below(4) == 0)
-        refused_rounds(i);
-    if (random_below(2) == 0)
-        other_orders(i);
+    try_calls(i);
 }
 
 /* The first eight returns that are not ended everywhere: no server has more than these. Gives how many there are. */
@@ -261,7 +167,7 @@ static uint32_t under_way(struct course *window[POOL_SLOTS])
 {
     uint32_t count = 0;
     for (uint32_t k = 0; k < course_count && count < POOL_SLOTS; k++)
-        if (least(&courses[k]) < ENDED)
+        if (least_stage(&courses[k]) < ENDED)
             window[count++] = &courses[k];
     return count;
 }
@@ -272,7 +178,7 @@ void play_returns(uint32_t count)
     uint32_t wide;
     course_count = count;
     decided_before = pool.decided;
-    accepted_before = pool.accepted;
+    entered_before = pool.entered;
     for (uint32_t k = 0; k < count; k++)
         new_course(&courses[k], pool.first_id + pool.decided++);
     /* now and then all shares first, so that eight wait */
@@ -287,8 +193,8 @@ void play_returns(uint32_t count)
     }
     for (uint32_t k = 0; k < count; k++) {
         const struct course *c = &courses[k];
-        pool.accepted += (uint32_t)accepts(c);
-        for (uint32_t e = 0; accepts(c) && e < pool.sizes.published; e++)
+        pool.entered += (uint32_t)enters(c);
+        for (uint32_t e = 0; enters(c) && e < pool.sizes.published; e++)
             pool.plain[e] += c->sums[e];
     }
     if (count > 0)

@@ -105,6 +105,12 @@ static void round_two(void)
         refused |= pool_round_two(TABLE(&tables[i]), POOL_SLOTS, other, SERVERS * POOL_ROUND_TWO_BYTES, &accepted);
 }
 
+static void enter(void)
+{
+    for (size_t i = 0; i < SERVERS; i++)
+        refused |= pool_enter(TABLE(&tables[i]), POOL_SLOTS);
+}
+
 static void close_tables(void)
 {
     joined_len = 0;
@@ -164,10 +170,10 @@ static const struct {
     const char *name;
     void (*step)(void);
 } steps[] = {
-    {"sizes", tell_sizes}, {"circuit", write_circuit}, {"read_circuit", read_circuit}, {"make", make},
-    {"open", open_tables}, {"share", take_share},      {"shares", take_seven_more},    {"round_one", round_one},
-    {"drop", drop_seven},  {"round_two", round_two},   {"close", close_tables},        {"join", join},
-    {"shelve", shelve},    {"unshelve", unshelve},     {"every_return", every_return},
+    {"sizes", tell_sizes},    {"circuit", write_circuit}, {"read_circuit", read_circuit}, {"make", make},
+    {"open", open_tables},    {"share", take_share},      {"shares", take_seven_more},    {"round_one", round_one},
+    {"round_two", round_two}, {"enter", enter},           {"drop", drop_seven},           {"close", close_tables},
+    {"join", join},           {"shelve", shelve},         {"unshelve", unshelve},         {"every_return", every_return},
 };
 
 /* Runs every step; gives the number of those that need more than was promised. */

@@ -1,148 +1,8 @@
 /* tables.c: the calls on a table, and what each may change in its three parts. See calls.h. */
-#include <stdbool.h>
 #include <string.h>
 
+#include "parts.h"
 #include "runs.h"
-#include "watch.h"
-
-/* Stages of a table. */
-enum { OPEN = 0, CLOSED = 1 };
-
-/* The parts of a table that a call may change. */
-enum { BYTES = 1, SLOTS = 2, ELEMENTS = 4 };
-
-/* The numbers of the buffers that hold a table. */
-struct lent_table {
-    int bytes, slots, elements;
-};
-
-#define LENT_SLOTS(k) (void *)lents[k].at, lents[k].len / SLOT_BYTES
-#define LENT_ELEMENTS(k) (void *)lents[k].at, lents[k].len / 4
-#define LENT_TABLE(t) LENT((t).bytes), LENT_SLOTS((t).slots), LENT_ELEMENTS((t).elements)
-
-static struct lent_table lend_table(const struct table *table, size_t extra)
-{
-    if (table->slots.len % SLOT_BYTES != 0 || table->elements.len % 4 != 0)
-        fail("half a slot or number");
-    struct lent_table t = {lend_both(&table->bytes, extra), lend(&table->slots), lend_both(&table->elements, 4 * extra)};
-    return t;
-}
-
-/* Looking into a table */
-
-static pool_slot slot_at(const uint8_t *slots, size_t k)
-{
-    pool_slot slot;
-    memcpy(&slot, slots + k * SLOT_BYTES, sizeof slot);
-    return slot;
-}
-
-pool_slot slot_of(const struct table *table, size_t k) { return slot_at(table->slots.at, k); }
-
-static bool all_zero(const uint8_t *at, size_t len)
-{
-    for (size_t k = 0; k < len; k++)
-        if (at[k] != 0)
-            return false;
-    return true;
-}
-
-/* What the sheet of a table comes to; the table was taken as sound. */
-static struct sheet_sizes sizes_in(const struct table *table)
-{
-    struct sheet_sizes sizes;
-    if (sizes_of(table->bytes.at + HEADER, get_u16(table->bytes.at + SHEET_LEN_AT), &sizes) != 0)
-        fail("a table without a sheet was taken as sound");
-    return sizes;
-}
-
-/* The length of a slot's place in the elements, in bytes. */
-static size_t place_bytes(const struct table *table)
-{
-    return 4 * POOL_ELEMENTS(sizes_in(table).share_bytes) / POOL_SLOTS;
-}
-
-/* The first slot in which the id waits, or, for no id, the first that is free. */
-static size_t slot_with(const struct table *table, const uint32_t *id)
-{
-    for (size_t k = 0; k < POOL_SLOTS; k++) {
-        pool_slot slot = slot_of(table, k);
-        if (id ? slot.stage != POOL_FREE && slot.id == *id : slot.stage == POOL_FREE)
-            return k;
-    }
-    fail("a call is done on a return that does not wait, or without a free slot");
-}
-
-void check_free(const struct table *table)
-{
-    size_t place = place_bytes(table);
-    for (size_t k = 0; k < POOL_SLOTS; k++)
-        if (slot_of(table, k).stage == POOL_FREE && (!all_zero(table->slots.at + k * SLOT_BYTES, SLOT_BYTES) ||
-                                                     !all_zero(table->elements.at + k * place, place)))
-            fail("a slot that is free, or its place, is not all 0");
-}
-
-/* Checks of the lent parts against the table as it was */
-
-/* In a lent buffer only the bytes from `from`, so many, differ from what they were. */
-static void kept_around(int k, size_t from, size_t len)
-{
-    const struct lent *l = &lents[k];
-    size_t own = l->was->len;
-    if (from + len > own || memcmp(l->at, l->was->at, from) != 0 ||
-        memcmp(l->at + from + len, l->was->at + from + len, own - from - len) != 0)
-        fail("another return, or another part of the table, was changed");
-}
-
-/* Of the slots and elements only those of slot k differ. */
-static void kept_others(struct lent_table t, const struct table *was, size_t k)
-{
-    size_t place = place_bytes(was);
-    kept_around(t.slots, k * SLOT_BYTES, SLOT_BYTES);
-    kept_around(t.elements, k * place, place);
-}
-
-/* After a decision: slot and place are 0, the id is noted, and the counts have grown. */
-static void decided(struct lent_table t, const struct table *was, uint32_t id, uint32_t accepted)
-{
-    size_t k = slot_with(was, &id), place = place_bytes(was);
-    const uint8_t *now = lents[t.bytes].at, *before = was->bytes.at;
-    uint32_t count = get_u16(before + DECIDED_AT);
-    size_t totals = HEADER + get_u16(before + SHEET_LEN_AT), ids = totals + 4 * sizes_in(was).published;
-    kept_others(t, was, k);
-    if (!all_zero(lents[t.slots].at + k * SLOT_BYTES, SLOT_BYTES) || !all_zero(lents[t.elements].at + k * place, place))
-        fail("something of a decided return stays in its slot or its place");
-    if (get_u16(now + DECIDED_AT) != count + 1 || get_u32(now + ids + 4 * count) != id ||
-        get_u16(now + ACCEPTED_AT) != get_u16(before + ACCEPTED_AT) + accepted)
-        fail("the counts, or the id that was decided");
-    if (memcmp(now, before, DECIDED_AT) != 0 || memcmp(now + LEAST_AT, before + LEAST_AT, totals - LEAST_AT) != 0 ||
-        (!accepted && memcmp(now + totals, before + totals, ids - totals) != 0) ||
-        memcmp(now + ids, before + ids, 4 * count) != 0 ||
-        memcmp(now + ids + 4 * count + 4, before + ids + 4 * count + 4, was->bytes.len - ids - 4 * count - 4) != 0)
-        fail("another part of the table was changed");
-}
-
-/* One part of a table after a call: changed by one that is done and may change it, else as it was. */
-static void take_part(int k, bool changes, struct run *part)
-{
-    if (!changes) {
-        kept(k);
-        return;
-    }
-    kept_filler(k, part->len, part->len);
-    if (part->len > 0)
-        memcpy(part->at, lents[k].at, part->len);
-}
-
-static void take_table(struct lent_table t, uint32_t answer, unsigned changes, struct table *table)
-{
-    check_least(table, answer);
-    take_part(t.bytes, answer == 0 && changes & BYTES, &table->bytes);
-    take_part(t.slots, answer == 0 && changes & SLOTS, &table->slots);
-    take_part(t.elements, answer == 0 && changes & ELEMENTS, &table->elements);
-}
-
-/* The calls */
 
 /* A part that was opened: so many bytes are 0, and the rest is as it was. */
 static void take_zeros(int k, uint32_t answer, size_t len, struct run *part)
@@ -187,7 +47,7 @@ static void shared(struct lent_table t, const struct table *was, const struct ru
                    const struct run *out)
 {
     size_t k = slot_with(was, NULL), place = place_bytes(was);
-    pool_slot slot = slot_at(lents[t.slots].at, k);
+    pool_slot slot = lent_slot(t, k);
     kept_others(t, was, k);
     if (slot.id != get_u32(message->at + 1) || slot.stage != POOL_AWAITS_ONE || slot.r != r || slot.s != s ||
         slot.d != get_u32(out->at + D_AT) || slot.e != get_u32(out->at + E_AT))
@@ -231,12 +91,7 @@ uint32_t call_round_one(struct table *table, size_t extra, uint32_t id, const st
     kept(j);
     take(o, &w, answer, out);
     if (answer == 0) {
-        size_t k = slot_with(table, &id);
-        pool_slot was = slot_of(table, k), now = slot_at(lents[t.slots].at, k);
-        kept_around(t.slots, k * SLOT_BYTES, SLOT_BYTES);
-        if (was.stage != POOL_AWAITS_ONE || now.stage != POOL_AWAITS_TWO || now.id != id || now.r != was.r ||
-            now.s != was.s)
-            fail("the slot of a round one");
+        check_moved(t, table, id, POOL_AWAITS_ONE, POOL_AWAITS_TWO);
         if (out->len != POOL_ROUND_TWO_BYTES)
             fail("a length that the header does not give");
     }
@@ -259,9 +114,28 @@ uint32_t call_round_two(struct table *table, size_t extra, uint32_t id, const st
         if (a.value > 1)
             fail("a verdict that is neither 0 nor 1");
         if (slot_of(table, slot_with(table, &id)).stage != POOL_AWAITS_TWO)
-            fail("a verdict before round one");
-        decided(t, table, id, a.value);
+            fail("a verdict before round one, or a second one");
+        if (a.value)
+            check_moved(t, table, id, POOL_AWAITS_TWO, POOL_AWAITS_ENTRY);
+        else
+            check_decided(t, table, id, false);
         *accepted = a.value;
+    }
+    /* an accepted return keeps its share, and nothing is added yet */
+    take_table(t, answer, a.value == 1 ? SLOTS : BYTES | SLOTS | ELEMENTS, table);
+    return end_call(answer);
+}
+
+uint32_t call_enter(struct table *table, size_t extra, uint32_t id)
+{
+    start_call("pool_enter");
+    struct lent_table t = lend_table(table, extra);
+    uint32_t answer = pool_enter(LENT_TABLE(t), id);
+    answered(answer, MAY(POOL_STAGE));
+    if (answer == 0) {
+        if (slot_of(table, slot_with(table, &id)).stage != POOL_AWAITS_ENTRY)
+            fail("a return is entered that has no accepted verdict");
+        check_decided(t, table, id, true);
     }
     take_table(t, answer, BYTES | SLOTS | ELEMENTS, table);
     return end_call(answer);
@@ -274,7 +148,7 @@ uint32_t call_drop(struct table *table, size_t extra, uint32_t id)
     uint32_t answer = pool_drop(LENT_TABLE(t), id);
     answered(answer, MAY(POOL_STAGE));
     if (answer == 0)
-        decided(t, table, id, 0);
+        check_decided(t, table, id, false);
     take_table(t, answer, BYTES | SLOTS | ELEMENTS, table);
     return end_call(answer);
 }

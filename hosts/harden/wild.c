@@ -116,6 +116,15 @@ static void wild_twice(struct table *table)
         memcpy(table->elements.at + to * place, table->elements.at + from * place, place);
 }
 
+/* Another stage in one slot: one that there is, or not. */
+static void wild_stage(struct table *table)
+{
+    static const uint32_t odd[] = {POOL_FREE, POOL_AWAITS_ONE, POOL_AWAITS_TWO, POOL_AWAITS_ENTRY, POOL_AWAITS_ENTRY + 1,
+                                   POOL_AWAITS_ENTRY + 256, 0x80000000u + POOL_AWAITS_ENTRY, UINT32_MAX};
+    uint8_t *slot = table->slots.at + SLOT_BYTES * random_below(POOL_SLOTS);
+    put_u32(slot + offsetof(pool_slot, stage), odd[random_below(sizeof odd / sizeof odd[0])]);
+}
+
 uint32_t wild_least(void)
 {
     const uint32_t odd[] = {0, 1, pool.returns, pool.returns + 1, pool.returns + 256, 65535, 1 + random_below(pool.returns)};
@@ -124,7 +133,7 @@ uint32_t wild_least(void)
 
 void wild_table(struct table *table)
 {
-    switch (random_below(6)) {
+    switch (random_below(7)) {
     case 0:
         wild(&table->slots);
         whole(&table->slots, SLOT_BYTES);
@@ -138,6 +147,9 @@ void wild_table(struct table *table)
         break;
     case 3:
         put_u16(table->bytes.at + LEAST_AT, wild_least());
+        break;
+    case 4:
+        wild_stage(table);
         break;
     default:
         wild(&table->bytes);

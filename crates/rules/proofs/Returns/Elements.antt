@@ -11,9 +11,9 @@ use Rattle.algebra.proofs.Residues.{residues, toNumbers, value-of, value-below,
 use Rattle.rules.specs.Settings.{Setting, Facts}
 use Rattle.rules.specs.Columns.{Column}
 use Rattle.rules.specs.Run.{Valid}
-use Rattle.rules.specs.Judging.{addedUp, sigmaSum, tauSum}
+use Rattle.rules.specs.Judging.{addedUp, dSum, eSum, sigmaSum, tauSum}
 use Rattle.rules.proofs.Circuits.Legal.{valid-lifts}
-use Rattle.rules.proofs.Returns.JudgingHom.{addedUp-hom, sigmaSum-hom, tauSum-hom}
+use Rattle.rules.proofs.Returns.JudgingHom.{addedUp-hom, dSum-hom, eSum-hom, sigmaSum-hom, tauSum-hom}
 
 module _ (σ : Setting) (facts : Facts σ) where
   abbrev pub p : ℕ
@@ -65,6 +65,16 @@ module _ (σ : Setting) (facts : Facts σ) where
     pub valid-down : Valid R σ cs (addedUp R σ cs servers lifted) → Valid (modulo p) σ cs (addedUp (modulo p) σ cs servers x)
     valid-down z =
         valid-lifts σ facts cs (addedUp (modulo p) σ cs servers x) added-below .1 (subst (Valid R σ cs) (sym added-lifts) z)
+
+    pub d-value : (r : ℕ) → r < p → value (dSum R σ cs servers lifted (R .ι r)) ≡ dSum (modulo p) σ cs servers x r
+    d-value r l =
+        dSum-hom (toNumbers p (facts .prime)) σ cs servers lifted (R .ι r)
+        ∙ λ t. dSum (modulo p) σ cs servers (shares-back t) (back r l t)
+
+    pub e-value : (r : ℕ) → r < p → value (eSum R σ cs servers lifted (R .ι r)) ≡ eSum (modulo p) σ cs servers x r
+    e-value r l =
+        eSum-hom (toNumbers p (facts .prime)) σ cs servers lifted (R .ι r)
+        ∙ λ t. eSum (modulo p) σ cs servers (shares-back t) (back r l t)
 
     pub sigma-value : (r : ℕ) → r < p
         → value (sigmaSum R σ cs servers lifted (R .ι r)) ≡ sigmaSum (modulo p) σ cs servers x r

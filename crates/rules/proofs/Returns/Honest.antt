@@ -75,11 +75,11 @@ module _ (𝓕 : Field) where
         inputs-right σ server (onList O x) cs (λ k l u. ap₂ _⊕_ (parts .entry-is k u) (one-mul 𝓕 (ι (σ .modulus - 1))))
 
     -- so f and g are those of making, and h is their product
-    f-is : (r : F) → fAt O σ cs 𝟙 w r ≡ fOf O σ cs x u₀ r
+    pub f-is : (r : F) → fAt O σ cs 𝟙 w r ≡ fOf O σ cs x u₀ r
     unfolding fAt fOf
     f-is r = ap₂ (λ z l. interpolate O M (zeroThen O z l) r) (parts .f-zero-is) lefts-are
 
-    g-is : (r : F) → gAt O σ cs 𝟙 w r ≡ gOf O σ cs x v₀ r
+    pub g-is : (r : F) → gAt O σ cs 𝟙 w r ≡ gOf O σ cs x v₀ r
     unfolding gAt gOf
     g-is r = ap₂ (λ z l. interpolate O M (zeroThen O z l) r) (parts .g-zero-is) rights-are
 

@@ -23,7 +23,8 @@ use Rattle.rules.proofs.Circuits.Encoding.{entry-below-modulus}
 use Rattle.rules.proofs.Circuits.Legal.{valid-lifts, tests-say-legal}
 use Rattle.rules.proofs.Returns.LetsIn.{allowed-says, zero-lets-in}
 use Rattle.rules.proofs.Returns.Elements.{field, R, elements-apart, value, zero-value, added-lifts, sigma-value, tau-value}
-use Rattle.rules.proofs.Returns.Shares.{getD-below, made, wholeElements, whole-value, added-is-whole}
+use Rattle.rules.proofs.Returns.Whole.{wholeAt}
+use Rattle.rules.proofs.Returns.Shares.{getD-below, made, whole-value, added-is-whole}
 use Rattle.rules.proofs.Returns.Honest.{honest-sigma, honest-tau}
 
 -- the theorem, for the values vs and the random elements zs
@@ -56,22 +57,24 @@ module _ (σ : Setting) (facts : Facts σ) (cs : List Column) (limits : All InLi
   entries-below : (e : ℕ) → entries e < p
   entries-below = entry-below-modulus σ facts cs vs limits legal
 
-  shares-below : (i e : ℕ) → shares i e < p
+  pub shares-below : (i e : ℕ) → shares i e < p
   shares-below i e = getD-below p (positive p (facts .prime)) (made σ facts cs servers vs zs some random .share-below i) e
 
-  apart : Apart (field σ facts) (suc (gatesIn cs + gatesIn cs)) (R σ facts .ι)
+  pub apart : Apart (field σ facts) (suc (gatesIn cs + gatesIn cs)) (R σ facts .ι)
   apart = elements-apart σ facts _ (omega (arith, facts .large))
 
   abbrev ι : ℕ → R σ facts .F
   ι = R σ facts .ι
 
-  -- the elements of the shares add up to the whole in the field
-  adds : addedUp (R σ facts) σ cs servers (λ i e. ι (shares i e))
-      ≡ (λ e. getD (wholeElements σ facts cs servers vs zs some random entries-below) e (R σ facts .𝟘))
+  -- the whole in the field, to which the elements of the shares add up
+  abbrev wholeUp : ℕ → R σ facts .F
+  wholeUp =
+      wholeAt (R σ facts) σ cs (λ e. ι (entries e)) (ι (getD zs 0 0)) (ι (getD zs 1 0)) (ι (getD zs 2 0)) (ι (getD zs 3 0))
+
+  pub adds : addedUp (R σ facts) σ cs servers (λ i e. ι (shares i e)) ≡ wholeUp
   adds = sym (added-lifts σ facts cs servers shares shares-below) ∙ λ t e. element e t
     where
-      element : (e : ℕ) → ι (addedUp (modulo p) σ cs servers shares e)
-          ≡ getD (wholeElements σ facts cs servers vs zs some random entries-below) e (R σ facts .𝟘)
+      element : (e : ℕ) → ι (addedUp (modulo p) σ cs servers shares e) ≡ wholeUp e
       element e =
           ap ι (added-is-whole σ facts cs servers vs zs some random entries-below e
           ∙ sym (whole-value σ facts cs servers vs zs some random entries-below e))

@@ -24,7 +24,7 @@ module _ (σ : Setting) (facts : Facts σ) (sheet : List ℕ) (cs : List Column)
   kept : Limits sheet cs
   kept = limits sheet cs read
 
-  gates : gatesIn cs ≤ 256
+  pub gates : gatesIn cs ≤ 256
   gates = omega (arith, kept .gates-most, kept .entries-most)
 
   pub sheet-few-pairs : FewPairs σ cs

@@ -1,0 +1,1 @@
+// What a curious server learns, as definitions and theorems in specs/ and proofs/. There is no code in this crate.

@@ -2,6 +2,7 @@
 pub mod Tests
 pub mod TwoServers
 pub mod Premises
+pub mod SeenMessages
 pub mod TypingSlip
 pub mod StoppedServer
 pub mod ThreeServers

@@ -32,14 +32,14 @@ use Rattle.runs.proofs.TwoServers.{ones, twos, give, short, lent, sheet
 use Rattle.runs.proofs.TwoServers.{pool, meets-them, ended}
 
 -- ---- making: yes, and the random elements, as bytes
-abbrev valueBytes : List ℕ
+abbrev pub valueBytes : List ℕ
 valueBytes = bytesOfAll 4 (1 ∷ [])
 
-abbrev randomBytes : List ℕ
+abbrev pub randomBytes : List ℕ
 randomBytes = bytesOfAll 4 random
 
 -- not refused, where 84 bytes are lent
-not-refused : makeRefusal document01 sheet 2 valueBytes randomBytes 84 ≡ 0
+pub not-refused : makeRefusal document01 sheet 2 valueBytes randomBytes 84 ≡ 0
 unfolding everything
 not-refused = refl
 
@@ -176,14 +176,14 @@ unfolding everything howMany calls ones twos
 one-yes = totals-77 .yes-total [] [] refl
 
 -- ---- the first thirteen calls: 77 is entered, and nothing waits
-abbrev early : ℕ → List Call
+abbrev pub early : ℕ → List Call
 early i = take 13 (calls i)
 
-is-early : isPool document01 2 sheet 3 1 (λ i. lent 31 88) early ≡ true
+pub is-early : isPool document01 2 sheet 3 1 (λ i. lent 31 88) early ≡ true
 unfolding everything isPool opensAt bytesCall calls ones twos
 is-early = refl
 
-abbrev earlyPool : Pool document01
+abbrev pub earlyPool : Pool document01
 earlyPool = poolOf document01 2 sheet 3 1 (λ i. lent 31 88) early is-early
 
 ready-honest : Ready document01 earlyPool 78 honest 4 9 22 14
@@ -195,7 +195,7 @@ unfolding everything isReady isEnded calls ones twos
 ready-false = is-ready document01 earlyPool 78 false-return 3 9 22 14 refl
 
 -- they accept and enter a return that making wrote
-can-take : CanTake document01 earlyPool 78 4 9 22 14
+pub can-take : CanTake document01 earlyPool 78 4 9 22 14
 can-take = record {
   waits = ready-honest .waits;
   open-all = ready-honest .open-all;

@@ -4,7 +4,6 @@
 use mathlib.Core.Path.{_≡_, sym, _∙_, ap, ap₂}
 use mathlib.Core.Logic.{_≢_}
 use Prim.Native.Nat.{ℕ, zero, suc, _<_, _≤_}
-use native.Mathlib.Nat.{mod-lt}
 use native.Mathlib.Omega.{arith}
 use Rattle.algebra.specs.Ops.{Ops, Field, Hom, minus}
 use Rattle.algebra.specs.Modulo.{modulo}
@@ -12,10 +11,10 @@ use Rattle.algebra.specs.Prime.{Prime}
 use Rattle.algebra.specs.Interpolation.{ascending, others, weight, basis, interpolate}
 use Rattle.algebra.specs.Claims.{Apart}
 use Rattle.algebra.proofs.Ring.{ring, mul-one, zero-mul}
-use Rattle.algebra.proofs.Residues.{positive, residues, toNumbers, value-of, of-value, points-apart}
-use Rattle.algebra.proofs.Sums.{sum-ext, sum-first}
+use Rattle.algebra.proofs.Residues.{residues, toNumbers, value-of, points-apart}
+use Rattle.algebra.proofs.Sums.{sum-first}
 use Rattle.algebra.proofs.Polynomial.{poly-const}
-use Rattle.algebra.proofs.Homs.{ascending-hom, weight-hom, basis-hom, interpolate-hom}
+use Rattle.algebra.proofs.Homs.{ascending-hom, weight-hom, basis-hom}
 use Rattle.algebra.proofs.Interpolation.{interpolate-add, interpolate-at, interpolate-ext, interpolate-of}
 use Rattle.algebra.proofs.Weights.{others-whole}
 
@@ -120,14 +119,6 @@ module _ (p : ℕ) (prime : Prime p) (n : ℕ) (few : n < p) where
   minus-back : {a b : ℕ} → a < p → b < p → values .φ (minus (E .ops) (up a) (up b)) ≡ minus N a b
   minus-back h k = values .add _ _ ∙ ap₂ (N ._⊕_) (back h) (values .opp _ ∙ ap (N .neg) (back k))
 
-  interpolate-back : (y : ℕ → ℕ) (t : ℕ) → ((j : ℕ) → j ≤ n → y j < p) → t < p
-      → values .φ (interpolate (E .ops) n (λ j. up (y j)) (up t)) ≡ interpolate N n y t
-  unfolding interpolate
-  interpolate-back y t below h =
-      interpolate-hom values n (λ j. up (y j)) (up t)
-      ∙ ap (interpolate N n (λ j. values .φ (up (y j)))) (back h)
-      ∙ sum-ext N (suc n) _ _ (λ j l. ap (λ a. N ._⊗_ a (basis N n j t)) (back (below j (omega arith))))
-
   shift-back : (d : E .ops .F) (e c t : ℕ) → values .φ d ≡ e → c < p → t < p
       → values .φ (shift (E .ops) n d (up c) (up t)) ≡ shift N n e c t
   shift-back d e c t q hc ht =
@@ -136,28 +127,6 @@ module _ (p : ℕ) (prime : Prime p) (n : ℕ) (few : n < p) where
       (values .mul _ _
       ∙ ap₂ (N ._⊗_) (values .add _ _ ∙ ap₂ (N ._⊕_) q (values .opp _ ∙ ap (N .neg) (back hc)))
       (basis-hom values n 0 (up t) ∙ ap (basis N n 0) (back ht)))
-
-  -- the values z are the values y with c added at the points 1, .., n
-  pub number-shifted : (y z : ℕ → ℕ) (c t : ℕ) → ((j : ℕ) → j ≤ n → y j < p) → z 0 < p → c < p → t < p
-      → ((j : ℕ) → j < n → z (suc j) ≡ N ._⊕_ (y (suc j)) c)
-      → interpolate N n z t ≡ N ._⊕_ (interpolate N n y t) (shift N n (minus N (z 0) (y 0)) c t)
-  number-shifted y z c t below hz hc ht q =
-      sym (interpolate-back z t z-below ht)
-      ∙ ap (values .φ)
-      (interpolate-shifted E n apart (λ j. up (y j)) (λ j. up (z j)) (minus (E .ops) (up (z 0)) (up (y 0))) (up c) (up t)
-      (sym (id-difference E (up (y 0)) (up (z 0)))) each)
-      ∙ values .add _ _
-      ∙ ap₂ (N ._⊕_) (interpolate-back y t below ht)
-      (shift-back _ _ c t (minus-back hz (below 0 (omega arith))) hc ht)
-    where
-      z-below : (j : ℕ) → j ≤ n → z j < p
-      z-below zero h = hz
-      z-below (suc j) h = rw (q j (omega arith)) (mod-lt _ (positive p prime))
-
-      each : (j : ℕ) → j < n → up (z (suc j)) ≡ E .ops ._⊕_ (up (y (suc j))) (up c)
-      each j h =
-          ap up (q j h ∙ ap₂ (N ._⊕_) (sym (back (below (suc j) (omega arith)))) (sym (back hc)) ∙ sym (values .add _ _))
-          ∙ of-value p prime _
 
   -- at the points
   pub number-first : (d c : ℕ) → d < p → c < p → shift N n d c 0 ≡ d

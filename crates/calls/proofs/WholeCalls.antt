@@ -29,6 +29,7 @@ use Rattle.calls.specs.Servers.{Servers, over, roundsIn, closingsIn, poo
 use Rattle.calls.proofs.Writing.{reads, number-done}
 use Rattle.calls.proofs.ManyCalls.{calls-tell}
 use Rattle.calls.proofs.Handing.{closedIn, rounds-same, closings-same, closed-wrote}
+use Rattle.calls.proofs.Lines.{line-told}
 
 join-long : (servers : ℕ) (sheet joined : List ℕ)
     → length (joinBytes document01 servers sheet joined) ≡ 4 * publishedIn (columnsOf sheet)
@@ -124,4 +125,5 @@ module _ (𝓢 : Servers) where
         (ap closedIn e);
     closes = closes;
     joins = joins;
+    lines = λ 𝓒 m w. line-told (poolOf 𝓢) (oneByOne m (𝓢 .servers)) (joined-are 𝓒 m w) (closed 𝓒 m w);
   }

@@ -2,10 +2,11 @@
 -- whose calls these are is told, so that what is claimed of it is claimed of the C calls.
 -- Assumes nothing.
 use mathlib.Core.Path.{_≡_, sym}
-use mathlib.Core.Bool.{cond}
+use mathlib.Core.Bool.{true, cond}
 use mathlib.Core.List.{List, [], _∷_, _++_, map}
 use Prim.Native.Nat.{ℕ, _*_, _%_, _≤_, _<_}
 use lib.Dec.{eqb, leb}
+use lib.IntN.{ℤ}
 use lib.ListN.{length, take}
 use Rattle.algebra.specs.Lists.{In, Distinct, Rearranged, sumOver}
 use Rattle.words.specs.Bytes.{bytesOfAll}
@@ -16,10 +17,12 @@ use Rattle.rules.specs.Ledger.{wrote, isClosed, empty, closingMessage}
 use Rattle.rules.specs.Pools.{Bytes, Pool, columns, openedAt, ledgerAt, enteredAt, droppedAt, addedEntry, KeepsForm, messagesIn}
 use Rattle.rules.specs.Pools.{handedIn, Unaltered, Conditions}
 use Rattle.rules.specs.WholeRun.{WholeRun}
+use Rattle.rules.specs.Line.{namesPoint}
 use Rattle.rules.specs.Resumed.{Resumes}
-use Rattle.pool_totals.specs.Calls.{Joins}
+use Rattle.pool_totals.specs.Calls.{Joins, TellsLine}
 use Rattle.calls.specs.Calls.{CCall, pool-share, pool-round-one, pool-round-two, pool-enter, pool-drop, pool-close, callOf}
 use Rattle.calls.specs.Calls.{answerOf, Log, Serves, Tells}
+use Rattle.calls.specs.Lines.{LineTold}
 
 -- "Servers are opened alike when S, sheet and N are the same and their numbers are 0 to S - 1, one each." "Servers opened alike have the
 -- same Q too."
@@ -133,6 +136,13 @@ module _ (𝓢 : Servers) where
         → (out : List ℕ) (accepted written a : ℕ) (out' : List ℕ) (accepted' written' : ℕ)
         → Joins (𝓢 .servers) (𝓢 .sheet) (𝓢 .returns) (oneByOne m (𝓢 .servers)) out accepted written a out' accepted' written'
         → Totals out a out' accepted' written'
+    -- and pool_line, handed these bytes and a number that names a column of two numbers
+    pub lines : CConditions → (m : ℕ → List ℕ) → ((i : ℕ) → i < 𝓢 .servers → In (m i) (over closingsIn (𝓢 .log i .calls)))
+        → (column : ℕ) → namesPoint column (columns document01 poolOf) ≡ true
+        → (determinant slope intercept : ℤ) (a : ℕ) (determinant' slope' intercept' : ℤ)
+        → TellsLine (𝓢 .servers) (𝓢 .sheet) (𝓢 .returns) (oneByOne m (𝓢 .servers)) column determinant slope intercept
+        a determinant' slope' intercept'
+        → LineTold poolOf column determinant slope intercept a determinant' slope' intercept'
 
 -- CLAIM: there are such lists of C calls for everything that can be asked
 pub record AskedBy (𝓟 : Pool document01) : Type 0 where

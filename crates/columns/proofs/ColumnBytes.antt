@@ -9,7 +9,7 @@ use native.Mathlib.Omega.{arith}
 use borrow.Author.Tests.{eq-eqb, ne-eqb}
 use lib.Dec.{eqb}
 use Rattle.records.specs.Outcome.{ok}
-use Rattle.rules.specs.Columns.{Column, yesNo, choice, number, top, columnBody, columnOf}
+use Rattle.rules.specs.Columns.{Column, yesNo, choice, number, top, point, columnBody, columnOf}
 use Rattle.columns.specs.Kinds.{withKind, bytesOfKind, toCode, fromCode}
 
 -- ---- a kind and its bytes
@@ -34,26 +34,23 @@ module _ (k : ℕ) where
   unfolding bytesOfKind
   kind-size n e = ap withKind e
 
-  -- every other known kind has a byte behind it, and all but two of these have four
-  module _ (n : ℕ) (not-17 : k ≡ 17 → ⊥) (long : bytesOfKind k ≡ n + 1) where
-    pub body-some : 1 ≤ n
+  -- a yes/no has no byte behind it, every other known kind has some, and a top has four
+  module _ (n : ℕ) (long : bytesOfKind k ≡ n + 1) where
+    pub body-some : (k ≡ 17 → ⊥) → 1 ≤ n
     unfolding bytesOfKind columnBody
-    body-some = by-kind (eqb k 18) (eqb k 19) (eqb k 20) (rw (ne-eqb k 17 not-17) at long)
+    body-some not-17 = by-kind (eqb k 18) (eqb k 19) (eqb k 20) (eqb k 21) (rw (ne-eqb k 17 not-17) at long)
       where
-        by-kind : (b d f : Bool) → withKind (cond b (some 1) (cond d (some 1) (cond f (some 4) none))) ≡ n + 1 → 1 ≤ n
-        by-kind true d f q = omega arith
-        by-kind false true f q = omega arith
-        by-kind false false true q = omega arith
-        by-kind false false false q = absurd (omega arith)
+        by-kind : (b d f g : Bool)
+            → withKind (cond b (some 1) (cond d (some 1) (cond f (some 4) (cond g (some 1) none)))) ≡ n + 1 → 1 ≤ n
+        by-kind true d f g q = omega arith
+        by-kind false true f g q = omega arith
+        by-kind false false true g q = omega arith
+        by-kind false false false true q = omega arith
+        by-kind false false false false q = absurd (omega arith)
 
-    pub body-four : (k ≡ 18 → ⊥) → (k ≡ 19 → ⊥) → n ≡ 4
+    pub body-four : k ≡ 20 → n ≡ 4
     unfolding bytesOfKind columnBody
-    body-four not-18 not-19 =
-        by-kind (eqb k 20) (rw (ne-eqb k 17 not-17, ne-eqb k 18 not-18, ne-eqb k 19 not-19) at long)
-      where
-        by-kind : (f : Bool) → withKind (cond f (some 4) none) ≡ n + 1 → n ≡ 4
-        by-kind true q = omega arith
-        by-kind false q = absurd (omega arith)
+    body-four e = let q : bytesOfKind 20 ≡ n + 1 = rw e at long in omega arith
 
 -- a yes/no has no body, and is taken
 pub yes-no-body : (k : ℕ) → k ≡ 17 → columnBody k ≡ some 0
@@ -70,3 +67,4 @@ from-to-code yesNo = refl
 from-to-code (choice n) = refl
 from-to-code (number n) = refl
 from-to-code (top n) = refl
+from-to-code (point n) = refl

@@ -3,13 +3,15 @@
 -- other kinds follow from these counts, column by column. Assumes nothing.
 use mathlib.Core.Path.{_≡_, refl, sym, ap, _∙_}
 use mathlib.Core.List.{List, [], _∷_, _++_}
-use Prim.Native.Nat.{ℕ, _+_, _≤_, _<_, max}
+use Prim.Native.Nat.{ℕ, _+_, _*_, _/_, _≤_, _<_, max}
 use native.Mathlib.Numerals.{add-one}
 use native.Mathlib.Omega.{arith}
 use lib.ListN.{length, getD, take, drop, take-append-drop}
 use lib.Seq.{take-suc}
-use Rattle.rules.specs.Columns.{Column, yesNo, choice, number, top, entriesOf, publishedOf, largestOf, entriesIn, publishedIn, largestIn}
-use Rattle.rules.specs.Circuit.{constantsOf, constantsIn, addsOf, scalesOf, gatesOf, testsOf, addsIn, scalesIn, gatesIn, testsIn}
+use Rattle.rules.specs.Columns.{Column, yesNo, choice, number, top, point, entriesOf, publishedOf, largestOf}
+use Rattle.rules.specs.Columns.{entriesIn, publishedIn, largestIn}
+use Rattle.rules.specs.Circuit.{constantsOf, addsOf, scalesOf, gatesOf, productsAt, productsOf, testsOf}
+use Rattle.rules.specs.Circuit.{constantsIn, addsIn, scalesIn, gatesIn, productsIn, testsIn}
 
 -- `In` adds up `of` over the columns
 pub record Total (of : Column → ℕ) (In : List Column → ℕ) : Type 0 where
@@ -39,6 +41,10 @@ scales = record { nothing = refl; next = λ c cs. refl }
 pub gates : Total gatesOf gatesIn
 unfolding gatesIn
 gates = record { nothing = refl; next = λ c cs. refl }
+
+pub products : Total productsOf productsIn
+unfolding productsIn
+products = record { nothing = refl; next = λ c cs. refl }
 
 pub tests : Total testsOf testsIn
 unfolding testsIn
@@ -76,30 +82,40 @@ unfolding largestIn
 largest-one c = omega arith
 
 -- ---- steps of other kinds
--- each multiplication checks a bit and has an addition before it, and the sums of a column have as many terms as the column
--- has tests, less one
-column-adds : (c : Column) → addsOf c + 1 ≡ gatesOf c + testsOf c
-unfolding addsOf gatesOf testsOf
-column-adds yesNo = refl
-column-adds (choice n) = omega arith
-column-adds (number n) = omega arith
-column-adds (top n) = omega arith
+-- the products of a column, wherever its entries start
+pub products-count : (e : ℕ) (c : Column) → length (productsAt e c) ≡ productsOf c
+unfolding productsOf productsAt
+products-count e yesNo = refl
+products-count e (choice n) = refl
+products-count e (number n) = refl
+products-count e (top n) = refl
+products-count e (point n) = refl
 
-pub adds-are : (cs : List Column) → addsIn cs + length cs ≡ gatesIn cs + testsIn cs
-unfolding addsIn gatesIn testsIn
+-- each multiplication that checks a bit has an addition before it, and the sums of a column have as many terms as the column has
+-- tests, less one, or less two for a point: so for each two products there are three additions less; m are the products behind
+column-adds : (c : Column) (m : ℕ) → addsOf c + 1 + 3 * ((productsOf c + m) / 2) ≡ gatesOf c + testsOf c + 3 * (m / 2)
+unfolding addsOf gatesOf productsOf productsAt testsOf
+column-adds yesNo m = omega arith
+column-adds (choice n) m = omega arith
+column-adds (number n) m = omega arith
+column-adds (top n) m = omega arith
+column-adds (point n) m = omega arith
+
+pub adds-are : (cs : List Column) → addsIn cs + length cs + 3 * (productsIn cs / 2) ≡ gatesIn cs + testsIn cs
+unfolding addsIn gatesIn productsIn testsIn
 adds-are [] = refl
-adds-are (c ∷ cs) = omega (arith, column-adds c, adds-are cs)
+adds-are (c ∷ cs) = omega (arith, column-adds c (productsIn cs), adds-are cs)
 
--- each entry that is not published is a bit, with a product by its weight, and each that no multiplication checks a number,
--- with a product by p - 1
-column-scales : (c : Column) → scalesOf c + publishedOf c + gatesOf c ≡ entriesOf c + entriesOf c
-unfolding scalesOf publishedOf gatesOf entriesOf
+-- each entry that is not published is a bit, with a product by its weight, and each that no bit check reads has a product by p - 1
+column-scales : (c : Column) → scalesOf c + publishedOf c + gatesOf c ≡ entriesOf c + entriesOf c + productsOf c
+unfolding scalesOf publishedOf gatesOf entriesOf productsOf productsAt
 column-scales yesNo = refl
 column-scales (choice n) = omega arith
 column-scales (number n) = omega arith
 column-scales (top n) = omega arith
+column-scales (point n) = omega arith
 
-pub scales-are : (cs : List Column) → scalesIn cs + publishedIn cs + gatesIn cs ≡ entriesIn cs + entriesIn cs
-unfolding scalesIn publishedIn gatesIn entriesIn
+pub scales-are : (cs : List Column) → scalesIn cs + publishedIn cs + gatesIn cs ≡ entriesIn cs + entriesIn cs + productsIn cs
+unfolding scalesIn publishedIn gatesIn entriesIn productsIn
 scales-are [] = refl
 scales-are (c ∷ cs) = omega (arith, column-scales c, scales-are cs)

@@ -2,14 +2,14 @@
 -- By the cases of the kind. Assumes nothing.
 use mathlib.Core.Path.{_≡_, refl, sym, ap, _∙_}
 use mathlib.Core.List.{List, [], _∷_}
-use Prim.Native.Nat.{ℕ, _^_, _≤_}
-use native.Mathlib.Nat.{pow-le-pow-right}
+use Prim.Native.Nat.{ℕ, _-_, _^_, _≤_}
+use native.Mathlib.Nat.{pow-le-pow-right, mul-le-mul}
 use native.Mathlib.Omega.{arith}
 use Rattle.records.specs.Outcome.{Outcome, ok, refused}
-use Rattle.rules.specs.Columns.{Column, yesNo, choice, number, top, columnOf}
+use Rattle.rules.specs.Columns.{Column, yesNo, choice, number, top, point, columnOf}
 use Rattle.algebra.specs.Lists.{All, all[], all∷}
 use Rattle.rules.specs.Columns.{entriesOf, publishedOf, largestOf, entriesIn, publishedIn, largestIn}
-use Rattle.rules.specs.Circuit.{constantsOf, gatesOf, testsOf, constantsIn, gatesIn, testsIn}
+use Rattle.rules.specs.Circuit.{constantsOf, gatesOf, productsAt, productsOf, testsOf, constantsIn, gatesIn, productsIn, testsIn}
 use Rattle.rules.proofs.Circuits.Limits.{InLimits, column-limited, column-refused}
 use Rattle.rules.proofs.Circuits.BitLength.{bit-length}
 use Rattle.columns.specs.declared.Column as code
@@ -19,7 +19,7 @@ use Rattle.columns.specs.declared.Counts.{Counts}
 use Rattle.columns.specs.Counting.{countsOf, Small}
 use Rattle.columns.specs.Kinds.{toCode, fromCode, judgedOf, columnIn}
 use Rattle.columns.proofs.ColumnBytes.{from-to-code}
-use Rattle.columns.proofs.Sums.{entries, published, constants, gates, tests, total-one, largest-one}
+use Rattle.columns.proofs.Sums.{entries, published, constants, gates, products, tests, total-one, largest-one}
 
 -- ---- what one column comes to
 pub counts-one : (c : Column)
@@ -30,6 +30,7 @@ pub counts-one : (c : Column)
       published = publishedOf c;
       constants = constantsOf c;
       gates = gatesOf c;
+      products = productsOf c;
       tests = testsOf c;
       largest = largestOf c;
     }
@@ -39,6 +40,7 @@ counts-one c =
       total-one published c,
       total-one constants c,
       total-one gates c,
+      total-one products c,
       total-one tests c,
       largest-one c,
     )
@@ -49,18 +51,23 @@ largest-most yesNo h = omega arith
 largest-most (choice n) h = omega arith
 largest-most (top n) h = h .1
 largest-most (number n) h = let p : 2 ^ n ≤ 2 ^ 24 = pow-le-pow-right (omega arith) (h .1) in omega arith
+largest-most (point n) h =
+    let p : 2 ^ n ≤ 2 ^ 12 = pow-le-pow-right (omega arith) (h .1) in
+    let m : 2 ^ n - 1 ≤ 4095 = omega arith in
+    omega (arith, mul-le-mul m m)
 
 pub column-small : (a : Column) → InLimits a → Small 64 (countsOf (a ∷ []))
-unfolding entriesOf publishedOf constantsOf gatesOf testsOf
+unfolding entriesOf publishedOf constantsOf gatesOf productsOf productsAt testsOf
 column-small yesNo h = rw (counts-one yesNo) (let l = largest-most yesNo h in search arith)
 column-small (choice n) h = rw (counts-one (choice n)) (let l = largest-most (choice n) h in search arith)
 column-small (number n) h = rw (counts-one (number n)) (let l = largest-most (number n) h in search arith)
 column-small (top n) h =
     rw (counts-one (top n)) (let l = largest-most (top n) h in let b = bit-length n (h .0) (h .1) in search arith)
+column-small (point n) h = rw (counts-one (point n)) (let l = largest-most (point n) h in search arith)
 
 -- and what columns come to
 columns-bounded : (cs : List Column) → All InLimits cs → Small (entriesIn cs) (countsOf cs)
-unfolding entriesIn publishedIn constantsIn gatesIn testsIn largestIn
+unfolding entriesIn publishedIn constantsIn gatesIn productsIn testsIn largestIn
 columns-bounded [] all[] = search arith
 columns-bounded (c ∷ cs) (all∷ h hs) =
     let one = rw (counts-one c) at (column-small c h) in
@@ -71,6 +78,7 @@ columns-bounded (c ∷ cs) (all∷ h hs) =
       published-most = omega (arith, one .published-most, rest .published-most);
       constants-most = omega (arith, one .constants-most, rest .constants-most);
       gates-most = omega (arith, one .gates-most, rest .gates-most);
+      products-most = omega (arith, one .products-most, rest .products-most);
       tests-many = omega (arith, one .tests-many, rest .tests-many);
       tests-most = omega (arith, one .tests-most, rest .tests-most);
       largest-most = omega (arith, one .largest-most, rest .largest-most);
@@ -83,6 +91,7 @@ small-more l h = record {
   published-most = h .published-most;
   constants-most = h .constants-most;
   gates-most = h .gates-most;
+  products-most = h .products-most;
   tests-many = h .tests-many;
   tests-most = h .tests-most;
   largest-most = h .largest-most;

@@ -3,7 +3,7 @@
 use mathlib.Core.Option.{Option, some, none}
 use Prim.Native.Nat.{ℕ, suc}
 use Rattle.records.specs.Outcome.{Outcome, ok, refused}
-use Rattle.rules.specs.Columns.{Column, yesNo, choice, number, top, columnBody}
+use Rattle.rules.specs.Columns.{Column, yesNo, choice, number, top, point, columnBody}
 use Rattle.columns.specs.declared.Column as code
 use Rattle.columns.specs.declared.Column.the-variants as kind
 use Rattle.columns.specs.declared.Judged.{Judged}
@@ -23,12 +23,14 @@ toCode yesNo = kind.YesNo
 toCode (choice n) = kind.Choice n
 toCode (number n) = kind.Number n
 toCode (top n) = kind.Top n
+toCode (point n) = kind.Point n
 
 abbrev pub fromCode : code.Column → Column
 fromCode kind.YesNo = yesNo
 fromCode (kind.Choice n) = choice n
 fromCode (kind.Number n) = number n
 fromCode (kind.Top n) = top n
+fromCode (kind.Point n) = point n
 
 -- what a record says: the column, or the refusal
 unfoldable pub judgedOf : Outcome Column → Judged

@@ -4,28 +4,32 @@ ghost use mathlib.Core.Path.{_≡_};
 ghost use mathlib.Core.List.{[], _∷_};
 ghost use Prim.Native.Nat.{_+_, _^_, _≤_};
 ghost use lib.ListN.{length};
-ghost use Rattle.rules.specs.Columns.{choice, number, top, bitLength, within, limitedColumn, columnOf, largestOf};
+ghost use Rattle.rules.specs.Columns.{choice, number, top, point, bitLength, within, limitedColumn, columnOf, largestOf};
 ghost use Rattle.rules.proofs.Circuits.Limits.{InLimits};
 ghost use Rattle.columns.specs.Counting.{countsOf};
 ghost use Rattle.columns.specs.Kinds.{bytesOfKind, judgedOf, fromCode};
 
-// What columns come to: entries, published entries, constants, multiplications and tests, and their largest value.
+// What columns come to: entries, published entries, constants, multiplications, those of them that check no bit, and tests; and
+// their largest value.
 pub struct Counts {
     pub columns: usize,
     pub entries: usize,
     pub published: usize,
     pub constants: usize,
     pub gates: usize,
+    pub products: usize,
     pub tests: usize,
     pub largest: u32,
 }
 
-// A column: yes/no, a choice of so many options, a number of so many bits, a number up to a top.
+// A column: yes/no, a choice of so many options, a number of so many bits, a number up to a top, a point of two numbers of so
+// many bits.
 pub enum Column {
     YesNo,
     Choice(usize),
     Number(usize),
     Top(u32),
+    Point(usize),
 }
 
 // What a record says: a column, or the number of its refusal.
@@ -44,6 +48,7 @@ pub fn none() -> Counts
         published: 0,
         constants: 0,
         gates: 0,
+        products: 0,
         tests: 0,
         largest: 0,
     }
@@ -64,6 +69,9 @@ pub fn bytes_of(kind: u8) -> usize
     }
     if kind == 20 {
         return 5;
+    }
+    if kind == 21 {
+        return 2;
     }
     0
 }
@@ -107,6 +115,19 @@ fn top_of(n: u32) -> Judged
     Judged::Taken(Column::Top(n))
 }
 
+// A point of two numbers of n bits.
+fn point_of(n: usize) -> Judged
+    ensures { λ r. ⌜ r ≡ judgedOf (limitedColumn (within 1 12 n) (point n)) ⌝ }
+{
+    if n < 1 {
+        return Judged::Refused(2);
+    }
+    if 12 < n {
+        return Judged::Refused(2);
+    }
+    Judged::Taken(Column::Point(n))
+}
+
 fn wide(n: u8) -> usize
     ensures { λ r. ⌜ r ≡ n ⌝ }
 {
@@ -127,7 +148,10 @@ pub fn column_of(kind: u8, body: &[u8]) -> Judged
     if kind == 19 {
         return number_of(wide(body[0]));
     }
-    top_of(words::read_u32(body, 0))
+    if kind == 20 {
+        return top_of(words::read_u32(body, 0));
+    }
+    point_of(wide(body[0]))
 }
 
 // 2 to the n.
@@ -148,6 +172,10 @@ pub fn largest_of(column: Column) -> u32
         Column::Choice(_) => 1,
         Column::Number(n) => power(n) - 1,
         Column::Top(n) => n,
+        Column::Point(n) => {
+            let most = power(n) - 1;
+            most * most
+        }
     }
 }
 
@@ -170,8 +198,26 @@ fn top_counts(b: usize, n: u32) -> Counts
         published: 1,
         constants: 1,
         gates: 2 * b,
+        products: 0,
         tests: 2 * b + 2,
         largest: n,
+    }
+}
+
+// What a point of two numbers of n bits comes to, where this is its largest value.
+fn point_counts(n: usize, largest: u32) -> Counts
+    requires { ⌜ (n ≤ 12) × (largest ≡ largestOf (point n)) ⌝ }
+    ensures { λ r. ⌜ r ≡ countsOf (point n ∷ []) ⌝ }
+{
+    Counts {
+        columns: 1,
+        entries: 4 + 2 * n,
+        published: 4,
+        constants: 0,
+        gates: 2 * n + 2,
+        products: 2,
+        tests: 2 * n + 4,
+        largest,
     }
 }
 
@@ -188,6 +234,7 @@ pub fn counts_of(column: Column) -> Counts
             published: 1,
             constants: 0,
             gates: 1,
+            products: 0,
             tests: 1,
             largest,
         },
@@ -197,6 +244,7 @@ pub fn counts_of(column: Column) -> Counts
             published: n,
             constants: 0,
             gates: n,
+            products: 0,
             tests: n + 1,
             largest,
         },
@@ -206,9 +254,11 @@ pub fn counts_of(column: Column) -> Counts
             published: 1,
             constants: 0,
             gates: n,
+            products: 0,
             tests: n + 1,
             largest,
         },
         Column::Top(n) => top_counts(bit_length(n), n),
+        Column::Point(n) => point_counts(n, largest),
     }
 }

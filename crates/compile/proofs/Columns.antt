@@ -4,16 +4,17 @@ use mathlib.Core.Path.{_≡_, refl, sym, ap, ap₂, _∙_}
 use mathlib.Core.List.{List, [], _∷_, _++_, append-assoc, append-nil}
 use Prim.Native.Nat.{ℕ, suc, _+_, _-_, _*_, _<_}
 use native.Mathlib.Nat.{add-assoc, add-zero, zero-add}
-use native.Mathlib.Numerals.{add-one}
+use native.Mathlib.Numerals.{add-one, add-two}
 use native.Mathlib.Omega.{arith}
 use lib.ListN.{length, getD, take, length-append}
 use lib.Seq.{take-suc}
 use Rattle.words.specs.Bytes.{bytesOf}
 use Rattle.words.proofs.Numbers.{length-bytes}
 use Rattle.rules.specs.Settings.{document01}
-use Rattle.rules.specs.Columns.{Column, yesNo, choice, number, top, bitLength, entriesOf, entriesIn, columnsOf}
-use Rattle.rules.specs.Circuit.{Step, constant, entry, add, scale, test, stepBytes, circuitBytes, bitChecks, optionAdds, optionSum}
-use Rattle.rules.specs.Circuit.{bitAdds, bitSum, topSums, topSteps, columnSteps, wiresOf, circuitFrom, circuitOf, wiresIn}
+use Rattle.rules.specs.Columns.{Column, yesNo, choice, number, top, point, bitLength, entriesOf, entriesIn, columnsOf}
+use Rattle.rules.specs.Circuit.{Step, constant, entry, add, scale, multiply, test, stepBytes, circuitBytes, bitChecks, optionAdds}
+use Rattle.rules.specs.Circuit.{optionSum, bitAdds, bitSum, topSums, topSteps, numberChecks, productCheck, pointChecks, pointSteps}
+use Rattle.rules.specs.Circuit.{columnSteps, wiresOf, circuitFrom, circuitOf, wiresIn}
 use Rattle.rules.specs.Circuit.{constantsOf, addsOf, scalesOf, gatesOf, testsOf}
 use Rattle.rules.specs.CircuitReader.{sheetCircuit}
 use Rattle.rules.specs.Sizes.{sizeByKind, columnSize}
@@ -29,13 +30,42 @@ pub choice-is : (n e w : ℕ)
 unfolding columnSteps
 choice-is n e w = bytes-append (bitChecks n e w) _
 
+-- the checks of a number, and the whole column
+pub number-checks-is : (n a e w : ℕ)
+    → bytes (numberChecks document01 a e w n)
+    ≡ bytes (bitChecks n e w) ++ stepBytes document01 (scale a 2147483646)
+    ++ bytes (bitAdds n w (w + 3 * n) ++ (test (w + 3 * n + 2 * n) ∷ []))
+unfolding numberChecks bitSum
+number-checks-is n a e w = simp (bytes-append, bytes-one, append-assoc)
+
 pub number-is : (n e w : ℕ)
     → bytes (columnSteps document01 e w (number n))
-    ≡ stepBytes document01 (entry e) ++ bytes (bitChecks n (e + 1) (w + 1)) ++ stepBytes document01 (scale w 2147483646)
-    ++ bytes (bitAdds n (w + 1) (w + 1 + 3 * n) ++ (test (w + 1 + 3 * n + 2 * n) ∷ []))
+    ≡ stepBytes document01 (entry e) ++ bytes (numberChecks document01 w (e + 1) (w + 1) n)
 unfolding columnSteps
-number-is n e w =
-    simp (add-one, bytes-append, bytes-one, append-assoc)
+number-is n e w = simp (add-one, bytes-append, bytes-one)
+
+-- the check of a product, the checks of a point, and the whole column
+pub product-check-is : (a b c w : ℕ)
+    → bytes (productCheck document01 a b c w)
+    ≡ stepBytes document01 (multiply a b) ++ stepBytes document01 (scale c 2147483646) ++ stepBytes document01 (add w (w + 1))
+    ++ stepBytes document01 (test (w + 2))
+unfolding productCheck circuitBytes
+product-check-is a b c w = rw (append-nil, add-one, add-two) (simp append-assoc)
+
+pub point-checks-is : (n e w q : ℕ)
+    → bytes (pointChecks document01 e w q n)
+    ≡ bytes (numberChecks document01 w (e + 4) (w + 4) n)
+    ++ bytes (numberChecks document01 (w + 2) (e + 4 + n) (w + 4 + (5 * n + 1)) n)
+    ++ bytes (productCheck document01 w w (w + 1) q) ++ bytes (productCheck document01 w (w + 2) (w + 3) (q + 3))
+unfolding pointChecks
+point-checks-is n e w q = simp (bytes-append, append-assoc)
+
+pub point-is : (n e w : ℕ)
+    → bytes (columnSteps document01 e w (point n))
+    ≡ stepBytes document01 (entry e) ++ stepBytes document01 (entry (e + 1)) ++ stepBytes document01 (entry (e + 2))
+    ++ stepBytes document01 (entry (e + 3)) ++ bytes (pointChecks document01 e w (w + 4 + (5 * n + 1) + (5 * n + 1)) n)
+unfolding columnSteps pointSteps
+point-is n e w = simp (bytes-next, append-assoc)
 
 -- the second sum of a top, and the whole column; b is the bit length, q the wire of v times p - 1, r that of the constant
 pub rest-is : (n b w q : ℕ)
@@ -68,6 +98,10 @@ number-size n = omega arith
 pub top-size : (n b : ℕ) → b ≡ bitLength n → columnSize document01 (top n) ≡ 56 * b + 26
 unfolding columnSize sizeByKind entriesOf constantsOf addsOf scalesOf gatesOf testsOf
 top-size n b e = omega arith
+
+pub point-size : (n : ℕ) → columnSize document01 (point n) ≡ 56 * n + 72
+unfolding columnSize sizeByKind entriesOf constantsOf addsOf scalesOf gatesOf testsOf
+point-size n = omega arith
 
 pub yes-no-size : columnSize document01 yesNo ≡ 16
 unfolding columnSize sizeByKind entriesOf constantsOf addsOf scalesOf gatesOf testsOf

@@ -10,17 +10,21 @@ ghost use Rattle.records.specs.Outcome.{ok};
 ghost use Rattle.rules.specs.Settings.{document01};
 ghost use Rattle.rules.specs.Columns.{choice, number, top, bitLength, readSheet, columnsOf};
 ghost use Rattle.rules.specs.Circuit.{circuitBytes, bitCheck, bitChecks, optionAdds, optionSum, bitAdds, test};
-ghost use Rattle.rules.specs.Circuit.{columnSteps, wiresOf};
+ghost use Rattle.rules.specs.Circuit.{numberChecks, columnSteps, wiresOf};
 ghost use Rattle.rules.specs.CircuitReader.{sheetCircuit};
 ghost use Rattle.rules.proofs.Circuits.Limits.{InLimits};
 ghost use Rattle.rules.specs.Sizes.{columnSize};
 ghost use Rattle.columns.specs.Counting.{countsOf};
 ghost use Rattle.columns.specs.Kinds.{fromCode};
 ghost use Rattle.compile.specs.Writing.{Put, restSteps, writtenOf, circuitIn};
+
+mod points;
+
 use columns::Column;
 use columns::Counts;
 use columns::bit_length;
 use columns::counts_of;
+use points::put_point;
 use records::Written;
 use sheet::Reading;
 
@@ -134,16 +138,25 @@ fn put_choice(out: &mut [u8], at: usize, n: u32, e: u32, w: u32) -> usize
     option_sum(out, sum, n, w, w + 3 * n)
 }
 
+// The checks of a number of `n` bits: wire `a` holds it, its bits are the entries from `e`, and `w` is the next wire.
+fn put_number_checks(out: &mut [u8], at: usize, n: u32, a: u32, e: u32, w: u32) -> usize
+    requires { ⌜ (at + (28 * n + 10) ≤ length (now out)) × (n ≤ 24) × (e < 32768) × (w < 32000) ⌝ }
+    ensures { λ r. ⌜ Put (now (out .entry)) at (28 * n + 10)
+        (circuitBytes document01 (numberChecks document01 a e w n)) (now (out .exit)) r ⌝ }
+{
+    let minus = bit_checks(out, at, n, e, w);
+    let sum = put_scale(out, minus, a, field::P - 1);
+    bit_sum(out, sum, n, w, w + 3 * n)
+}
+
 // A number of `n` bits, whose first entry is `e`.
 fn put_number(out: &mut [u8], at: usize, n: u32, e: u32, w: u32) -> usize
     requires { ⌜ (at + columnSize document01 (number n) ≤ length (now out)) × (n ≤ 24) × (e < 16384) × (w < 16384) ⌝ }
     ensures { λ r. ⌜ Put (now (out .entry)) at (columnSize document01 (number n))
         (circuitBytes document01 (columnSteps document01 e w (number n))) (now (out .exit)) r ⌝ }
 {
-    let bits = put_one(out, at, 2, e);
-    let minus = bit_checks(out, bits, n, e + 1, w + 1);
-    let sum = put_scale(out, minus, w, field::P - 1);
-    bit_sum(out, sum, n, w + 1, w + 1 + 3 * n)
+    let checks = put_one(out, at, 2, e);
+    put_number_checks(out, checks, n, w, e + 1, w + 1)
 }
 
 // The second sum of a top `n` of `b` bits: the constant p - n, which is wire `q`, it and the entry wire `w`, the second bits.
@@ -183,6 +196,7 @@ fn put_column(out: &mut [u8], at: usize, column: Column, e: u32, w: u32) -> usiz
         Column::Choice(n) => put_choice(out, at, n as u32, e, w),
         Column::Number(n) => put_number(out, at, n as u32, e, w),
         Column::Top(n) => put_top(out, at, n, bit_length(n) as u32, e, w),
+        Column::Point(n) => put_point(out, at, n as u32, e, w),
     }
 }
 

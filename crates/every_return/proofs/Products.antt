@@ -11,7 +11,7 @@ use lib.ListN.{length, getD, take, drop}
 use lib.Pow.{pow-pos}
 use Rattle.algebra.specs.Lists.{All, all[], all∷}
 use Rattle.words.proofs.Below.{all-drop}
-use Rattle.rules.specs.Columns.{Column, yesNo, choice, number, top, valuesOf}
+use Rattle.rules.specs.Columns.{Column, yesNo, choice, number, top, point, valuesOf}
 use Rattle.rules.specs.EveryReturn.{listsIn, mostLists}
 use Rattle.rules.proofs.Circuits.Limits.{InLimits}
 use Rattle.every_return.specs.Listing.{countedUp}
@@ -22,6 +22,7 @@ values-pos yesNo h = omega arith
 values-pos (choice n) h = omega (arith, h .0)
 values-pos (number n) h = pow-pos n
 values-pos (top n) h = omega arith
+values-pos (point n) h = mul-pos (pow-pos n) (pow-pos n)
 
 lists-pos : (cs : List Column) → All InLimits cs → 0 < listsIn cs
 unfolding listsIn

@@ -1,15 +1,14 @@
 -- What joining answers by what the judge says: a refusal leaves the buffer; messages judged fit have all that the writing of
 -- their totals asks for, and what is written is rules' totals (`join-totals`). Assumes nothing.
-use mathlib.Core.Path.{_≡_, refl, sym, _∙_}
-use mathlib.Core.Bool.{Bool, true, false, cond}
+use mathlib.Core.Path.{_≡_, sym, _∙_}
 use mathlib.Core.List.{List}
 use Prim.Native.Nat.{ℕ, _*_, _/_, _≤_, _<_}
 use native.Mathlib.Nat.{mul-le-mul-left}
 use native.Mathlib.Omega.{arith}
-use borrow.Author.Tests.{leb-true, eqb-true, eqb-false, ne-eqb}
-use lib.Dec.{leb, eqb}
+use borrow.Author.Tests.{leb-true, ne-eqb}
+use lib.Dec.{leb}
 use lib.ListN.{length}
-use Rattle.records.specs.Answers.{answered, onlyIf}
+use Rattle.records.specs.Answers.{onlyIf}
 use Rattle.records.specs.declared.Written.the-variants as written
 use Rattle.records.proofs.Outcome.{or-zero}
 use Rattle.words.specs.Bytes.{splice}
@@ -23,27 +22,7 @@ use Rattle.steps.proofs.Parts.{check-holds}
 use Rattle.totals_message.proofs.Totals.{joined-fault, join-totals, totals-summable}
 use Rattle.joining.specs.Calls.{joinedOf, Joins, totalsOf, Joinable, judged}
 use Rattle.joining.specs.declared.Joined.the-variants as answer
-
--- ---- a choice between bytes written and a refusal
-refused-by : (b : Bool) (r w n : ℕ) → cond b (written.Done w) (written.Refused r) ≡ written.Refused n → (b ≡ false) × (r ≡ n)
-refused-by true r w n e = let z : _≡_ {A = ℕ} 0 1 = cc in absurd (omega arith)
-refused-by false r w n e = (refl, cc)
-
-refused-of : (r w n : ℕ) → answered r w ≡ written.Refused n → (r ≡ n) × (n ≡ 0 → ⊥)
-unfolding answered
-refused-of r w n e =
-    let f = refused-by (eqb r 0) r w n e in
-    (f .1, λ z. eqb-false r 0 (f .0) (f .1 ∙ z))
-
-done-by : (b : Bool) (r w n : ℕ) → cond b (written.Done w) (written.Refused r) ≡ written.Done n → (b ≡ true) × (n ≡ w)
-done-by true r w n e = (refl, cc)
-done-by false r w n e = let z : _≡_ {A = ℕ} 0 1 = cc in absurd (omega arith)
-
-done-of : (r w n : ℕ) → answered r w ≡ written.Done n → (r ≡ 0) × (n ≡ w)
-unfolding answered
-done-of r w n e =
-    let f = done-by (eqb r 0) r w n e in
-    (eqb-true r 0 (f .0), f .1)
+use Rattle.joining.proofs.Pooling.{refused-of, done-of}
 
 -- messages without a refusal
 pub record Fit (servers : ℕ) (sheet : List ℕ) (returns : ℕ) (joined out : List ℕ) (w : ℕ) : Type 0 where

@@ -8,10 +8,11 @@ use lib.Dec.{eqb}
 use lib.ListN.{length}
 use Rattle.algebra.specs.Lists.{tabulate}
 use Rattle.words.specs.Bytes.{splice, bytesOfAll}
+use Rattle.records.specs.Outcome.{orElse}
 use Rattle.records.specs.Answers.{answered, onlyIf}
 use Rattle.records.specs.declared.Written.{Written}
 use Rattle.rules.specs.Settings.{document01}
-use Rattle.rules.specs.Columns.{publishedIn, columnsOf}
+use Rattle.rules.specs.Columns.{publishedIn, columnsOf, sheetFault, serversFault, returnsFault, totalsFault}
 use Rattle.rules.specs.Joining.{joinRefusal, joinCount, joinBytes}
 use Rattle.totals_message.specs.Totals.{totalAt, SummableTotals}
 use Rattle.joining.specs.declared.Joined.{Joined}
@@ -40,6 +41,16 @@ pub record Joinable (servers published : ℕ) (joined out : List ℕ) : Type 0 w
   pub small : published ≤ 256
   pub summable : (k : ℕ) → k < published → SummableTotals servers published k joined
   pub room : 4 * published ≤ length out
+
+-- "S, sheet, N, 4": the refusal before any message is looked at
+unfoldable pub poolFault : ℕ → List ℕ → ℕ → ℕ
+poolFault servers sheet returns =
+    orElse (serversFault servers)
+    (orElse (sheetFault sheet) (orElse (returnsFault returns) (totalsFault document01 returns (columnsOf sheet))))
+
+-- the published entries of the sheet, or that refusal
+unfoldable pub pooled : ℕ → List ℕ → ℕ → Written
+pooled servers sheet returns = answered (poolFault servers sheet returns) (publishedIn (columnsOf sheet))
 
 -- the bytes that the totals take, or the refusal
 unfoldable pub judged : ℕ → List ℕ → ℕ → List ℕ → ℕ → Written

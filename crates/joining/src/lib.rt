@@ -2,9 +2,8 @@
 // cite the crate rules, at document 01's setting, and specs/. A refusal leaves the buffer as it was.
 ghost use mathlib.Core.Path.{_≡_};
 ghost use Rattle.words.specs.Bytes.{splice};
-ghost use Rattle.joining.specs.Calls.{totalsOf, Joinable, judged, Joins};
+ghost use Rattle.joining.specs.Calls.{totalsOf, Joinable, pooled, judged, Joins};
 use records::Written;
-use records::or_else;
 use sheet::Reading;
 
 // What joining hands back: the accepted count, and how many bytes were written.
@@ -31,9 +30,9 @@ fn write_totals(joined: &[u8], servers: u32, published: usize, out: &mut [u8])
     }
 }
 
-// Whether the messages can be joined: the bytes that their totals take, or the number of the first refusal.
-fn judge(servers: u32, sheet: &[u8], returns: u32, joined: &[u8], room: usize) -> Written
-    ensures { λ r. ⌜ r ≡ judged servers (now (sheet .entry)) returns (now (joined .entry)) room ⌝ }
+// The published entries of a sheet that S servers pool N returns of, or the number of the first refusal.
+pub fn poolable(servers: u32, sheet: &[u8], returns: u32) -> Written
+    ensures { λ r. ⌜ r ≡ pooled servers (now (sheet .entry)) returns ⌝ }
 {
     if servers < limits::MIN_SERVERS {
         return Written::Refused(2);
@@ -44,12 +43,25 @@ fn judge(servers: u32, sheet: &[u8], returns: u32, joined: &[u8], room: usize) -
     match sheet::read(sheet) {
         Reading::Refused(n) => Written::Refused(n),
         Reading::Counts(counts) => {
-            let published = counts.published;
             let over = sheet::returns::returns_refusal(sheet, returns);
+            if over != 0 {
+                return Written::Refused(over);
+            }
+            Written::Done(counts.published)
+        }
+    }
+}
+
+// Whether the messages can be joined: the bytes that their totals take, or the number of the first refusal.
+fn judge(servers: u32, sheet: &[u8], returns: u32, joined: &[u8], room: usize) -> Written
+    ensures { λ r. ⌜ r ≡ judged servers (now (sheet .entry)) returns (now (joined .entry)) room ⌝ }
+{
+    match poolable(servers, sheet, returns) {
+        Written::Refused(n) => Written::Refused(n),
+        Written::Done(published) => {
             let unsound = totals_message::totals_refusal(joined, servers, published, returns);
-            let fault = or_else(over, unsound);
-            if fault != 0 {
-                return Written::Refused(fault);
+            if unsound != 0 {
+                return Written::Refused(unsound);
             }
             if room < 4 * published {
                 return Written::Refused(14);

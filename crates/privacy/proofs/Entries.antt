@@ -44,7 +44,8 @@ module _ (O : Ops) (σ : Setting) (cs : List Column) (x y : ℕ → O .F) (same 
   unfolding gOf lessOne
   g-same v r =
       ap (λ (l : List (O .F)). interpolate O (gatesIn cs) (zeroThen O v l) r)
-      (inputs-right σ (onList O x) (onList O y) cs (λ k l m. ap (λ z. O ._⊕_ z (O .ι (σ .modulus - 1))) (same k m)))
+      (inputs-right σ (onList O x) (onList O y) cs (λ k l m. same k m)
+      (λ k l m. ap (λ z. O ._⊕_ z (O .ι (σ .modulus - 1))) (same k m)))
 
   whole-same : (u v a b : O .F) → whole O σ cs x u v a b ≡ whole O σ cs y u v a b
   unfolding whole

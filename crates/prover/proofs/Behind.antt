@@ -1,10 +1,10 @@
 -- A buffer whose first member is stored, and whose rest is lent to be filled. Assumes nothing.
 use mathlib.Core.Path.{_≡_, ap, ap₂, _∙_}
-use mathlib.Core.List.{List, [], _∷_, _++_, append-nil}
-use Prim.Native.Nat.{ℕ, suc, _-_, _<_, _≤_}
+use mathlib.Core.List.{List, _∷_, _++_, append-nil}
+use Prim.Native.Nat.{ℕ, suc, _-_, _≤_}
 use native.Mathlib.Omega.{arith}
-use borrow.Rule.Slice.PartMut.{midOf, postOf, putMid, mid-len, post-is, same-len-mid}
-use lib.ListN.{length, length-set, set, take}
+use borrow.Rule.Slice.PartMut.{midOf, putMid, mid-len, post-is, same-len-mid}
+use lib.ListN.{length, length-set, set}
 use lib.Seq.{take-suc-set, drop-length}
 
 module _ (d : List ℕ) (v : ℕ) {m : ℕ} (long : length d ≡ suc m) where

@@ -6,5 +6,6 @@ pub mod Backwards
 pub mod Falls
 pub mod CurveValues
 pub mod Shifts
+pub mod InPlace
 pub mod Inputs
 pub mod HRoom

@@ -1,20 +1,18 @@
--- The polynomial g - f, which is d at 0 and the prime less 1 at 1, .., n: its value at a point is that number, and beyond
--- them it follows from the tables. With this polynomial added, the values of f are those of g. Assumes nothing.
+-- The polynomial that is d at 0 and the prime less 1 at 1, .., n: its value at a point is that number, and beyond them it
+-- follows from the tables. Assumes nothing.
 use mathlib.Core.Path.{_≡_, sym, ap, ap₂, _∙_}
-use mathlib.Core.List.{List, _∷_}
+use mathlib.Core.List.{List}
 use Prim.Native.Nat.{ℕ, suc, _+_, _-_, _<_, _≤_}
 use native.Mathlib.Nat.{mod-lt, mod-eq-of-lt}
 use native.Mathlib.Omega.{arith}
 use lib.Dec.{lit<}
 use lib.ListN.{length}
-use Rattle.algebra.specs.Ops.{minus}
 use Rattle.algebra.specs.Interpolation.{ascending}
 use Rattle.algebra.proofs.Trial.{prime-2147483647}
-use Rattle.algebra.proofs.Shifts.{shift, number-shifted, number-first, number-other, number-beyond}
-use Rattle.field.specs.Residues.{prime, residues, Elements}
-use Rattle.field.proofs.Below.{member-below}
+use Rattle.algebra.proofs.Shifts.{shift, number-first, number-other, number-beyond}
+use Rattle.field.specs.Residues.{prime, residues}
 use Rattle.walk.specs.Walks.{members}
-use Rattle.prover.specs.Curves.{valueAt, scaledShift, shiftAt, Ready}
+use Rattle.prover.specs.Curves.{scaledShift, shiftAt, Ready}
 use Rattle.prover.proofs.Backwards.{fall-at, inverse-at}
 
 module _ (n d : ℕ) (few : n ≤ 256) (h : d < prime) where
@@ -52,11 +50,3 @@ module _ (n d : ℕ) (few : n ≤ 256) (h : d < prime) where
 
 pub shift-below : (n d j : ℕ) → shiftAt n d j < prime
 shift-below n d j = mod-lt _ (lit< tt)
-
--- the values v, gs are the values u, fs with this polynomial added
-pub value-shifted : (n u v : ℕ) (fs gs : List ℕ) → n ≤ 256 → Elements (u ∷ fs) → v < prime
-    → ((j : ℕ) → j < n → members gs j ≡ residues ._⊕_ (members fs j) (prime - 1)) → (j : ℕ)
-    → valueAt n (v ∷ gs) j ≡ residues ._⊕_ (valueAt n (u ∷ fs) j) (shiftAt n (minus residues v u) j)
-value-shifted n u v fs gs few below h each j =
-    number-shifted prime prime-2147483647 n (omega arith) (members (u ∷ fs)) (members (v ∷ gs)) (prime - 1) (residues .ι j)
-    (λ i l. member-below (u ∷ fs) i below) h (lit< tt) (mod-lt j (lit< tt)) each

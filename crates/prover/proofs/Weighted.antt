@@ -9,7 +9,7 @@ use Rattle.algebra.specs.Lists.{tabulate}
 use Rattle.algebra.proofs.Tables.{length-tabulate, getD-tabulate}
 use Rattle.field.specs.Residues.{prime, residues, Elements}
 use Rattle.quotients.proofs.Numbers.{weight-below}
-use Rattle.field.proofs.Below.{inverse-below, tabulate-below, member-below}
+use Rattle.field.proofs.Below.{tabulate-below, member-below}
 use Rattle.walk.specs.Walks.{members}
 use Rattle.prover.specs.Curves.{Weights}
 

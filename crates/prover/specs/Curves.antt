@@ -38,6 +38,20 @@ shiftAt n d j =
 abbrev pub scaledShift : ℕ → ℕ → ℕ
 scaledShift n d = residues ._⊗_ (minus residues d (prime - 1)) (weight residues n 0)
 
+-- f(j) g(j) from y = f(j), where g - f is that polynomial, and where it is that and one whose value is e
+abbrev pub productOf : ℕ → ℕ → ℕ → ℕ → ℕ
+productOf n y d j = residues ._⊗_ y (residues ._⊕_ y (shiftAt n d j))
+
+abbrev pub correctedOf : ℕ → ℕ → ℕ → ℕ → ℕ → ℕ
+correctedOf n y e d j = residues ._⊗_ y (residues ._⊕_ (residues ._⊕_ y (shiftAt n d j)) e)
+
+-- from the values of f, and of the other polynomial es
+abbrev pub productAt : ℕ → List ℕ → ℕ → ℕ → ℕ
+productAt n fs d j = productOf n (valueAt n fs j) d j
+
+abbrev pub correctedAt : ℕ → List ℕ → List ℕ → ℕ → ℕ → ℕ
+correctedAt n fs es d j = correctedOf n (valueAt n fs j) (valueAt n es j) d j
+
 -- the weights of the points 0, .., n
 pub record Weights (n : ℕ) (ws : List ℕ) : Type 0 where
   pub are : ws ≡ tabulate (weight residues n) (suc n)

@@ -1,7 +1,8 @@
 // The values of h = f g at 0, 1, .., 2M, which a client adds to the entries of a return. f is given by its values at
 // 0, .., M; beyond M a value is an inner product with inverses, times a product of differences. g - f is P - 1 at each of
-// 1, .., M, so that g needs no inner product of its own. Elements are u32 below the prime. No step depends on the value of
-// an element.
+// 1, .., M where a bit is checked, so that g needs no inner product of its own on a sheet where all multiplications check bits;
+// on another sheet it is corrected by the polynomial of what the products have past that. Elements are u32 below the prime. No
+// step depends on the value of an element.
 ghost use mathlib.Core.Path.{_≡_};
 ghost use mathlib.Core.List.{_∷_};
 ghost use Prim.Native.Nat.{suc, _+_, _-_, _<_, _≤_};
@@ -10,11 +11,14 @@ ghost use Rattle.algebra.specs.Lists.{tabulate};
 ghost use Rattle.field.specs.Residues.{prime, residues, Elements};
 ghost use Rattle.rules.specs.Settings.{document01};
 ghost use Rattle.rules.specs.Columns.{columnsOf};
-ghost use Rattle.rules.specs.Circuit.{gatesIn};
+ghost use Rattle.rules.specs.Circuit.{gatesIn, productsIn};
 ghost use Rattle.rules.specs.Walk.{walkLefts};
 ghost use Rattle.rules.specs.Making.{fOf, gOf};
 ghost use Rattle.walk.specs.Walks.{plain, members, Entries};
-ghost use Rattle.prover.specs.Curves.{scaledAt, fallAt, beyondAt, valueAt, scaledShift, shiftAt, Weights, Ready, Curve};
+ghost use Rattle.prover.specs.Curves.{scaledAt, fallAt, beyondAt, valueAt, scaledShift, shiftAt, productOf};
+ghost use Rattle.prover.specs.Curves.{Weights, Ready, Curve};
+
+pub mod correcting;
 
 // out[j] = y[j] times the weight of point j.
 fn scale(y: &[u32], weights: &[u32], out: &mut [u64])
@@ -139,52 +143,58 @@ fn shift(d: u32, k: u32, falls: &[u32], back: &[u64], j: usize) -> u32
     }
 }
 
-// The values of f at 0, .., M: u, then the left inputs.
-fn fill_f(sheet: &[u8], x: &[u32], u: u32, out: &mut [u32])
+// The values of f at 0, .., M: u, then the left inputs; and how many multiplications check no bit.
+fn fill_f(sheet: &[u8], x: &[u32], u: u32, out: &mut [u32]) -> usize
     requires { ⌜ Entries (now sheet) (now x) × (length (now out) ≡ suc (gatesIn (columnsOf (now sheet)))) ⌝ }
-    ensures { λ _. ⌜ now (out .exit)
-        ≡ u ∷ walkLefts document01 (plain 0 (members (now (x .entry)))) 0 (columnsOf (now (sheet .entry))) ⌝ }
+    ensures { λ r. ⌜ (now (out .exit)
+        ≡ u ∷ walkLefts document01 (plain 0 (members (now (x .entry)))) 0 (columnsOf (now (sheet .entry))))
+        × (r ≡ productsIn (columnsOf (now (sheet .entry)))) ⌝ }
 {
     out[0] = u;
-    walk::fill_lefts(sheet, x, &mut out[1..]);
+    walk::fill_lefts(sheet, x, &mut out[1..])
 }
 
-// out[j] = f(j) g(j), where g - f is d at 0 and P - 1 at the other points; fs are the values of f with their weights as
-// factors, and k is what `scaled_shift` gives.
-fn fill_products(
-    f: &[u32],
-    fs: &[u64],
-    d: u32,
-    k: u32,
-    falls: &[u32],
-    back: &[u64],
-    out: &mut [u32],
-)
-    requires { ⌜ Curve (length (now falls)) (now f) (now fs) × (d < prime) × (k ≡ scaledShift (length (now falls)) d) ⌝ }
-    requires { ⌜ Ready (length (now falls)) (now falls) (now back)
+// out[j] = the value at j of the polynomial whose values at 0, .., n are y, where n is the length of falls.
+fn fill_values(y: &[u32], scaled: &[u64], falls: &[u32], back: &[u64], out: &mut [u32])
+    requires { ⌜ Curve (length (now falls)) (now y) (now scaled) × Ready (length (now falls)) (now falls) (now back)
         × (length (now out) ≤ suc (length (now falls) + length (now falls))) ⌝ }
-    ensures { λ _. ⌜ now (out .exit) ≡ tabulate (λ j. residues ._⊗_ (valueAt (length (now (falls .entry))) (now (f .entry)) j)
-        (residues ._⊕_ (valueAt (length (now (falls .entry))) (now (f .entry)) j) (shiftAt (length (now (falls .entry))) d j)))
+    ensures { λ _. ⌜ now (out .exit)
+        ≡ tabulate (valueAt (length (now (falls .entry))) (now (y .entry))) (length (now (out .entry))) ⌝ }
+{
+    let mut j = 0;
+    while j < out.len() {
+        out[j] = value(y, scaled, falls, back, j);
+        j += 1;
+    }
+}
+
+// out[j] = f(j) g(j), where out[j] was f(j) and g - f is d at 0 and P - 1 at 1, .., n; k is what `scaled_shift` gives.
+fn fill_products(d: u32, k: u32, falls: &[u32], back: &[u64], out: &mut [u32])
+    requires { ⌜ (d < prime) × (k ≡ scaledShift (length (now falls)) d) × Ready (length (now falls)) (now falls) (now back) ⌝ }
+    requires { ⌜ Elements (now out) × (length (now out) ≤ suc (length (now falls) + length (now falls))) ⌝ }
+    ensures { λ _. ⌜ now (out .exit) ≡ tabulate (λ j. productOf (length (now (falls .entry))) (members (now (out .entry)) j) d j)
         (length (now (out .entry))) ⌝ }
 {
     let mut j = 0;
     while j < out.len() {
-        let y = value(f, fs, falls, back, j);
+        let y = out[j];
         out[j] = field::mul(y, field::add(y, shift(d, k, falls, back, j)));
         j += 1;
     }
 }
 
-// f by its values, and these with their weights as factors.
-fn curve_f(sheet: &[u8], x: &[u32], u: u32, weights: &[u32], f: &mut [u32], fs: &mut [u64])
+// f by its values, and these with their weights as factors; and how many multiplications check no bit.
+fn curve_f(sheet: &[u8], x: &[u32], u: u32, weights: &[u32], f: &mut [u32], fs: &mut [u64]) -> usize
     requires { ⌜ Entries (now sheet) (now x) × (u < prime) × (length (now f) ≡ suc (gatesIn (columnsOf (now sheet)))) ⌝ }
     requires { ⌜ Weights (gatesIn (columnsOf (now sheet))) (now weights) × (length (now fs) ≡ length (now f)) ⌝ }
-    ensures { λ _. ⌜ (now (f .exit)
+    ensures { λ r. ⌜ (now (f .exit)
         ≡ u ∷ walkLefts document01 (plain 0 (members (now (x .entry)))) 0 (columnsOf (now (sheet .entry))))
-        × Curve (gatesIn (columnsOf (now (sheet .entry)))) (now (f .exit)) (now (fs .exit)) ⌝ }
+        × Curve (gatesIn (columnsOf (now (sheet .entry)))) (now (f .exit)) (now (fs .exit))
+        × (r ≡ productsIn (columnsOf (now (sheet .entry)))) ⌝ }
 {
-    fill_f(sheet, x, u, f);
+    let products = fill_f(sheet, x, u, f);
     scale(f, weights, fs);
+    products
 }
 
 // The same as `fill_h`, with the tables lent.
@@ -209,10 +219,20 @@ fn fill_with(
     let mut f = [0u32; 257];
     let mut fs = [0u64; 257];
     let n = falls.len() + 1;
-    curve_f(sheet, x, u, weights, &mut f[..n], &mut fs[..n]);
+    let products = curve_f(sheet, x, u, weights, &mut f[..n], &mut fs[..n]);
     let d = field::sub(v, u);
-    let k = scaled_shift(weights, d);
-    fill_products(&f[..n], &fs[..n], d, k, falls, back, out);
+    correcting::fill_from(
+        sheet,
+        x,
+        products,
+        &f[..n],
+        &fs[..n],
+        d,
+        weights,
+        falls,
+        back,
+        out,
+    );
 }
 
 // h(0), .., h(2M) for the entries x, with f(0) = u and g(0) = v; out has 2M + 1 places.

@@ -2,6 +2,7 @@
 pub mod Natural
 pub mod Growth
 pub mod Stretches
+pub mod NumberRuns
 pub mod ColumnRuns
 pub mod Walk
 pub mod BitLength
@@ -13,6 +14,7 @@ pub mod Sound
 pub mod ReadBack
 pub mod Digits
 pub mod FieldTests
+pub mod DigitTests
 pub mod ColumnTests
 pub mod Encoding
 pub mod Published

@@ -7,6 +7,8 @@ pub mod Circuits
 pub mod LegalLists
 -- Judging and making: linearity, few pairs, shares add up, honest returns
 pub mod Returns
+-- The line that best fits y on x: D is the spread of x, the three numbers solve equation 1, how large they are
+pub mod Lines
 -- Messages stored by place: every run is brought back
 pub mod Storage
 -- The waiting list: records by their places, and the returns that wait

@@ -6,6 +6,8 @@ pub mod JudgingHom
 pub mod MakingHom
 pub mod Few
 pub mod Elements
+pub mod Products
+pub mod ProductsHom
 pub mod LetsIn
 pub mod FewPairs
 pub mod Whole

@@ -23,3 +23,4 @@ pub mod WholeRuns
 pub mod Delivered
 pub mod EncodedTotals
 pub mod MadeRuns
+pub mod FittedLine

@@ -1,11 +1,12 @@
--- Document 01, "Sheet and circuit", and document 02, "A column with a top of its own": steps, their bytes, and the circuit of
--- a sheet.
+-- Document 01, "Sheet and circuit", and document 02, "A column with a top of its own" and "Hours against diameter": steps, their
+-- bytes, and the circuit of a sheet.
 -- Assumes nothing.
 use mathlib.Core.List.{List, [], _∷_, _++_}
 use Prim.Native.Nat.{ℕ, zero, suc, _+_, _-_, _*_, _^_}
+use lib.ListN.{length}
 use Rattle.words.specs.Bytes.{bytesOf}
 use Rattle.rules.specs.Settings.{Setting}
-use Rattle.rules.specs.Columns.{Column, yesNo, choice, number, top, bitLength, entriesOf}
+use Rattle.rules.specs.Columns.{Column, yesNo, choice, number, top, point, bitLength, entriesOf}
 
 -- "1: constant. 2: entry number. 3: add two wires. 4: wire times constant. 5: multiply two wires. 6: test that a wire is
 -- zero. Kinds 1 to 5 each make the next wire, from 0."
@@ -69,18 +70,36 @@ unfoldable pub topSteps : Setting → ℕ → ℕ → ℕ → ℕ → List Step
 topSteps σ e w b n =
     (entry e ∷ []) ++ (bitChecks (2 * b) (suc e) (suc w) ++ topSums σ w (suc w + 3 * (2 * b)) b n)
 
+-- "the kind 19 checks": b bit checks; v times p - 1; the bits' sum; the test. Wire a holds v, its n bits are the entries from e, and
+-- w is the next wire
+unfoldable pub numberChecks : Setting → ℕ → ℕ → ℕ → ℕ → List Step
+numberChecks σ a e w n = bitChecks n e w ++ ((scale a (σ .modulus - 1) ∷ []) ++ bitSum n w (w + 3 * n))
+
+-- "multiply x by y, add the fourth times p - 1, test": the wires a, b and c, and w is the next wire
+unfoldable pub productCheck : Setting → ℕ → ℕ → ℕ → ℕ → List Step
+productCheck σ a b c w = multiply a b ∷ scale c (σ .modulus - 1) ∷ add w (suc w) ∷ test (suc (suc w)) ∷ []
+
+-- "The steps are: the four entries; the kind 19 checks for x and then for y over their own bits; multiply x by x, add the second
+-- entry times p - 1, test; multiply x by y, add the fourth times p - 1, test": q is the wire behind the checks
+unfoldable pub pointChecks : Setting → ℕ → ℕ → ℕ → ℕ → List Step
+pointChecks σ e w q n =
+    numberChecks σ w (e + 4) (w + 4) n
+    ++ (numberChecks σ (w + 2) (e + 4 + n) (w + 4 + (5 * n + 1)) n
+    ++ (productCheck σ w w (w + 1) q ++ productCheck σ w (w + 2) (w + 3) (q + 3)))
+
+unfoldable pub pointSteps : Setting → ℕ → ℕ → ℕ → List Step
+pointSteps σ e w n =
+    entry e ∷ entry (e + 1) ∷ entry (e + 2) ∷ entry (e + 3) ∷ pointChecks σ e w (w + 4 + (5 * n + 1) + (5 * n + 1)) n
+
 -- "Kind 17 is one bit check. Kind 18: B bit checks; then the options' sum; test the last sum. Kind 19: entry v; b bit
 -- checks; v times p - 1; then the bits' sum; test the last sum."
 -- The column's first entry is e, and w is the next wire
 unfoldable pub columnSteps : Setting → ℕ → ℕ → Column → List Step
 columnSteps σ e w yesNo = bitChecks 1 e w
 columnSteps σ e w (choice n) = bitChecks n e w ++ (optionAdds n w (w + 3 * n) ++ (test (optionSum (w + 3 * n) n) ∷ []))
-columnSteps σ e w (number n) =
-    (entry e ∷ [])
-    ++ (bitChecks n (suc e) (suc w)
-    ++ ((scale w (σ .modulus - 1) ∷ [])
-    ++ (bitAdds n (suc w) (suc w + 3 * n) ++ (test (suc w + 3 * n + 2 * n) ∷ []))))
+columnSteps σ e w (number n) = (entry e ∷ []) ++ numberChecks σ w (suc e) (suc w) n
 columnSteps σ e w (top n) = topSteps σ e w (bitLength n) n
+columnSteps σ e w (point n) = pointSteps σ e w n
 
 -- the additions and the products with a constant among a column's steps: in the bit checks, then in the sums
 unfoldable pub addsOf : Column → ℕ
@@ -88,12 +107,14 @@ addsOf yesNo = 1
 addsOf (choice n) = n + n
 addsOf (number n) = n + n
 addsOf (top n) = suc (4 * bitLength n)
+addsOf (point n) = 4 * n + 2
 
 unfoldable pub scalesOf : Column → ℕ
 scalesOf yesNo = 0
 scalesOf (choice n) = 0
 scalesOf (number n) = suc n
 scalesOf (top n) = suc (2 * bitLength n)
+scalesOf (point n) = 2 * n + 4
 
 -- its constants
 unfoldable pub constantsOf : Column → ℕ
@@ -101,6 +122,7 @@ constantsOf yesNo = 0
 constantsOf (choice n) = 0
 constantsOf (number n) = 0
 constantsOf (top n) = 1
+constantsOf (point n) = 0
 
 -- the wires, multiplications and tests of a column's steps
 unfoldable pub wiresOf : Column → ℕ
@@ -108,18 +130,45 @@ wiresOf yesNo = 3
 wiresOf (choice n) = 3 * n + n
 wiresOf (number n) = suc (3 * n) + suc (2 * n)
 wiresOf (top n) = 10 * bitLength n + 4
+wiresOf (point n) = 10 * n + 12
 
 unfoldable pub gatesOf : Column → ℕ
 gatesOf yesNo = 1
 gatesOf (choice n) = n
 gatesOf (number n) = n
 gatesOf (top n) = 2 * bitLength n
+gatesOf (point n) = 2 * n + 2
+
+-- of the multiplications, those that check a bit; the others stand behind them
+unfoldable pub bitsOf : Column → ℕ
+bitsOf yesNo = 1
+bitsOf (choice n) = n
+bitsOf (number n) = n
+bitsOf (top n) = 2 * bitLength n
+bitsOf (point n) = 2 * n
+
+-- the entries that those others multiply, where the column's first entry is e
+pub record Product : Type 0 where
+  pub left : ℕ
+  pub right : ℕ
+
+unfoldable pub productsAt : ℕ → Column → List Product
+productsAt e yesNo = []
+productsAt e (choice n) = []
+productsAt e (number n) = []
+productsAt e (top n) = []
+productsAt e (point n) = record { left = e; right = e } ∷ record { left = e; right = e + 2 } ∷ []
+
+-- how many they are
+unfoldable pub productsOf : Column → ℕ
+productsOf c = length (productsAt 0 c)
 
 unfoldable pub testsOf : Column → ℕ
 testsOf yesNo = 1
 testsOf (choice n) = n + 1
 testsOf (number n) = n + 1
 testsOf (top n) = 2 * bitLength n + 2
+testsOf (point n) = 2 * n + 4
 
 -- "A sheet's circuit starts with the constant p - 1, wire 0. Then for each column"
 unfoldable pub circuitFrom : Setting → ℕ → ℕ → List Column → List Step
@@ -137,6 +186,10 @@ wiresIn (c ∷ cs) = wiresOf c + wiresIn cs
 unfoldable pub gatesIn : List Column → ℕ
 gatesIn [] = 0
 gatesIn (c ∷ cs) = gatesOf c + gatesIn cs
+
+unfoldable pub productsIn : List Column → ℕ
+productsIn [] = 0
+productsIn (c ∷ cs) = productsOf c + productsIn cs
 
 unfoldable pub testsIn : List Column → ℕ
 testsIn [] = 0

@@ -3,8 +3,9 @@
 -- order and with one challenge, calls on several returns mixed, and what is promised of whole runs, of returns that making
 -- wrote and of servers that go on after a stop; the examples.
 -- (Making names the size of a share from Judging; Keyed has lists whose members have an id.) Of document 02: columns with a top
--- stand among the others, and returns that wait, their entry and the least count in the rules of a server; behind the values every legal
--- return of a small sheet; behind recount room told from the sheet, and messages stored by place.
+-- and of points stand among the others, and returns that wait, their entry and the least count in the rules of a server; behind the
+-- values every legal return of a small sheet; behind judging the products that check no bit; behind recount room told from the sheet,
+-- and messages stored by place; behind whole runs the line through points.
 pub mod Settings
 pub mod Columns
 pub mod Circuit
@@ -15,6 +16,7 @@ pub mod Values
 pub mod EveryReturn
 pub mod Making
 pub mod Judging
+pub mod Products
 pub mod Messages
 pub mod Keyed
 pub mod Server
@@ -31,11 +33,13 @@ pub mod SameChallenge
 pub mod Mixing
 pub mod Pools
 pub mod WholeRun
+pub mod Line
 pub mod Made
 pub mod Resumed
 pub mod Examples
 pub mod CallExamples
 pub mod TopExamples
+pub mod PointExamples
 pub mod SoundExamples
 pub mod TableExamples
 pub mod WaitingExamples

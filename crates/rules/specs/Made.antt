@@ -3,7 +3,7 @@
 use mathlib.Core.Path.{_≡_}
 use mathlib.Core.Bool.{Bool, true, cond}
 use mathlib.Core.List.{List, [], _∷_, _++_, map}
-use Prim.Native.Nat.{ℕ, suc, _+_, _-_, _*_, _≤_, _<_, max}
+use Prim.Native.Nat.{ℕ, suc, _+_, _-_, _*_, _/_, _%_, _^_, _≤_, _<_, max}
 use lib.Dec.{eqb}
 use lib.ListN.{length, getD}
 use Rattle.algebra.specs.Lists.{In, Rearranged, sumOver}
@@ -11,9 +11,9 @@ use Rattle.algebra.specs.Modulo.{modulo}
 use Rattle.algebra.specs.Count.{countPairs}
 use Rattle.words.specs.Bytes.{part, elementsOf}
 use Rattle.rules.specs.Settings.{Setting}
-use Rattle.rules.specs.Columns.{Column, yesNo, choice, number, entriesIn, publishedIn, publishedFrom, columnsOf}
+use Rattle.rules.specs.Columns.{Column, yesNo, choice, number, point, entriesIn, publishedIn, publishedFrom, columnsOf}
 use Rattle.rules.specs.Circuit.{gatesIn, testsIn}
-use Rattle.rules.specs.Values.{encoding}
+use Rattle.rules.specs.Values.{pointEntry, encoding}
 use Rattle.rules.specs.Judging.{shareSize, addedUp, letsIn, allowedPair}
 use Rattle.rules.specs.Making.{madeWhole, madeShare, shareMessage, shareLength, makeRefusal, makeBytes}
 use Rattle.rules.specs.Messages.{idIn, elementsIn, headerFault, elementsFault, roundLength}
@@ -137,6 +137,10 @@ module _ (σ : Setting) (𝓟 : Pool σ) where
     -- a number's total is the sum of the numbers
     pub number-total : (before after : List Column) (n : ℕ) → columns σ 𝓟 ≡ before ++ (number n ∷ after)
         → getD joinedTotals (publishedIn before) 0 ≡ sumOver (λ id. getD (values id) (length before) 0) ids
+    -- the four totals of a column of points are the sums of x, x × x, y and x × y, where the value is x + 2^b × y
+    pub point-total : (before after : List Column) (n i : ℕ) → columns σ 𝓟 ≡ before ++ (point n ∷ after) → i < 4
+        → getD joinedTotals (publishedIn before + i) 0
+        ≡ sumOver (λ id. pointEntry n (getD (values id) (length before) 0 % 2 ^ n) (getD (values id) (length before) 0 / 2 ^ n) i) ids
 
 -- WHAT IS PROMISED of returns that making wrote, in any pool
 pub record MadeRun (σ : Setting) (𝓟 : Pool σ) : Type 0 where

@@ -4,7 +4,7 @@ use mathlib.Core.Bool.{true, false, cond}
 use mathlib.Core.List.{List, [], _∷_, _++_}
 use Prim.Native.Nat.{ℕ, zero, suc, _+_, _*_, _/_, _%_}
 use lib.Dec.{eqb, ltb, leb}
-use lib.ListN.{length, getD, take, drop}
+use lib.ListN.{length, getD, drop}
 use Rattle.words.specs.Bytes.{valueOf, part}
 use Rattle.rules.specs.Settings.{Setting}
 use Rattle.rules.specs.Columns.{Column, publishedOf, publishedIn, columnsOf}
@@ -30,7 +30,7 @@ unfoldable pub refusalText : ℕ → List ℕ
 refusalText n = refusedText ++ decimal n ++ (10 ∷ [])
 
 -- "After the first line each holds column (from 1), option (from 0; always 0 for kinds 17 and 19), total." Of kind 20
--- "recount prints it as option 0"
+-- "recount prints it as option 0"; of kind 21 "recount prints them as options 0 to 3"
 unfoldable pub lineText : ℕ → ℕ → ℕ → List ℕ
 lineText column option total = decimal column ++ (32 ∷ []) ++ decimal option ++ (32 ∷ []) ++ decimal total ++ (10 ∷ [])
 

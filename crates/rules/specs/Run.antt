@@ -2,13 +2,13 @@
 -- Assumes nothing.
 use mathlib.Core.Path.{_≡_}
 use mathlib.Core.List.{List, [], _∷_, _++_}
-use Prim.Native.Nat.{ℕ, zero, suc, _+_, _-_, _^_}
+use Prim.Native.Nat.{ℕ, suc, _+_}
 use lib.ListN.{length, getD}
-use Rattle.algebra.specs.Lists.{All, tabulate}
+use Rattle.algebra.specs.Lists.{All}
 use Rattle.algebra.specs.Ops.{Ops}
 use Rattle.rules.specs.Settings.{Setting}
 use Rattle.rules.specs.Columns.{Column}
-use Rattle.rules.specs.Circuit.{Step, constant, entry, add, scale, multiply, test, gatesOf, circuitOf}
+use Rattle.rules.specs.Circuit.{Step, constant, entry, add, scale, multiply, test, circuitOf}
 
 -- What the steps mean where wires hold values of X: an entry, a constant, the sum of two wires, a wire times a constant,
 -- the output of multiplication t (from 1) on its two inputs; `none` is what a wire that is not made holds

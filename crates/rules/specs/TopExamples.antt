@@ -69,7 +69,6 @@ tops =
     ∷ row "T = 16,777,215 is read" (eqb (sheetFault (topped 16777215)) 0)
     ∷ row "T = 16,777,216: 2" (eqb (sheetFault (topped 16777216)) 2)
     ∷ row "3 bytes behind byte 20: 1" (eqb (sheetFault (20 ∷ 200 ∷ 0 ∷ 0 ∷ [])) 1)
-    ∷ row "byte 21: 1" (eqb (sheetFault (21 ∷ 1 ∷ 0 ∷ 0 ∷ 0 ∷ [])) 1)
     ∷ row "the longest sheet has 426 bytes" (eqb (length (longest 85)) 426 && eqb (sheetFault (longest 85)) 0)
     ∷ row "one entry more: 2" (eqb (sheetFault (longest 85 ++ (17 ∷ []))) 2)
     ∷ row "T = 200: 17 entries, 1 published, 85 wires, 16 multiplications, 18 tests, 479 bytes"

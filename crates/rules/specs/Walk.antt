@@ -1,12 +1,12 @@
 -- The inputs of the multiplications and the tests of a sheet's circuit, column by column and with no wires: what code
 -- computes. `walk-is-run` in proofs says that this is the run of the circuit.
 -- Assumes nothing.
-use mathlib.Core.List.{List, [], _∷_, _++_}
+use mathlib.Core.List.{List, [], _∷_, _++_, map}
 use Prim.Native.Nat.{ℕ, zero, suc, _+_, _-_, _*_, _^_}
 use Rattle.algebra.specs.Lists.{tabulate}
 use Rattle.rules.specs.Settings.{Setting}
-use Rattle.rules.specs.Columns.{Column, yesNo, choice, number, top, bitLength, entriesOf}
-use Rattle.rules.specs.Circuit.{gatesOf}
+use Rattle.rules.specs.Columns.{Column, yesNo, choice, number, top, point, bitLength, entriesOf}
+use Rattle.rules.specs.Circuit.{gatesOf, bitsOf, productsAt}
 use Rattle.rules.specs.Run.{Meaning}
 
 -- the first bit entry of a column whose first entry is e
@@ -15,6 +15,7 @@ bitsAt e yesNo = e
 bitsAt e (choice n) = e
 bitsAt e (number n) = suc e
 bitsAt e (top n) = suc e
+bitsAt e (point n) = e + 4
 
 module _ {X : Type 0} (σ : Setting) (μ : Meaning X) where
   -- a + f 0 + .. + f (n - 1)
@@ -31,10 +32,11 @@ module _ {X : Type 0} (σ : Setting) (μ : Meaning X) where
 
   -- a column whose first entry is e, where t multiplications stand before it
   unfoldable pub columnLefts : ℕ → Column → List X
-  columnLefts e c = tabulate (λ i. μ .entryAt (bitsAt e c + i)) (gatesOf c)
+  columnLefts e c = tabulate (λ i. μ .entryAt (bitsAt e c + i)) (bitsOf c) ++ map (λ p. μ .entryAt (p .left)) (productsAt e c)
 
   unfoldable pub columnRights : ℕ → Column → List X
-  columnRights e c = tabulate (λ i. lessOne (bitsAt e c + i)) (gatesOf c)
+  columnRights e c =
+      tabulate (λ i. lessOne (bitsAt e c + i)) (bitsOf c) ++ map (λ p. μ .entryAt (p .right)) (productsAt e c)
 
   -- n bit checks of the entries from e, where t multiplications stand before them
   unfoldable pub bitTests : ℕ → ℕ → ℕ → List X
@@ -52,14 +54,27 @@ module _ {X : Type 0} (σ : Setting) (μ : Meaning X) where
   unfoldable pub restTest : ℕ → ℕ → ℕ → ℕ → X
   restTest m a e n = weighted (μ .plus (μ .constantOf (σ .modulus - m)) (μ .entryAt a)) e n
 
+  -- the kind 19 checks of entry a, whose n bits are the entries from e
+  unfoldable pub numberTests : ℕ → ℕ → ℕ → ℕ → List X
+  numberTests a e t n = bitTests e t n ++ (numberTest a e n ∷ [])
+
+  -- "multiply x by y, add the fourth times p - 1": the entries a, b and c, where t multiplications stand before this one
+  unfoldable pub productTest : ℕ → ℕ → ℕ → ℕ → X
+  productTest t a b c =
+      μ .plus (μ .gate (suc t) (μ .entryAt a) (μ .entryAt b)) (μ .times (μ .entryAt c) (σ .modulus - 1))
+
   unfoldable pub columnTests : ℕ → ℕ → Column → List X
   columnTests e t yesNo = bitTests e t 1
   columnTests e t (choice n) =
       bitTests e t n ++ (sumFrom (μ .constantOf (σ .modulus - 1)) (λ i. μ .entryAt (e + i)) n ∷ [])
-  columnTests e t (number n) = bitTests (suc e) t n ++ (numberTest e (suc e) n ∷ [])
+  columnTests e t (number n) = numberTests e (suc e) t n
   columnTests e t (top n) =
       bitTests (suc e) t (2 * bitLength n)
       ++ (numberTest e (suc e) (bitLength n) ∷ restTest n e (suc e + bitLength n) (bitLength n) ∷ [])
+  columnTests e t (point n) =
+      numberTests e (e + 4) t n
+      ++ (numberTests (e + 2) (e + 4 + n) (t + n) n
+      ++ (productTest (t + n + n) e e (e + 1) ∷ productTest (suc (t + n + n)) e (e + 2) (e + 3) ∷ []))
 
   unfoldable pub walkLefts : ℕ → List Column → List X
   walkLefts e [] = []

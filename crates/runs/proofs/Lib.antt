@@ -6,6 +6,7 @@ pub mod SeenMessages
 pub mod TypingSlip
 pub mod StoppedServer
 pub mod ThreeServers
+pub mod PointsPool
 pub mod MixedReturns
 pub mod MixedPremises
 pub mod SecondProgram

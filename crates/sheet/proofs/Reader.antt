@@ -13,12 +13,12 @@ use Rattle.records.specs.Outcome.{ok, refused}
 use Rattle.records.specs.Records.{read}
 use Rattle.rules.specs.Columns.{Column, within, columnFormat}
 use Rattle.rules.specs.Columns.{entriesIn, publishedIn, largestIn, sheetLimits, limitedSheet, readSheet}
-use Rattle.rules.specs.Circuit.{constantsIn, gatesIn, testsIn}
-use Rattle.rules.specs.Columns.{yesNo, choice, number, top, recordSize}
-use Rattle.rules.specs.Circuit.{constantsOf, gatesOf, testsOf}
+use Rattle.rules.specs.Circuit.{constantsIn, gatesIn, productsIn, testsIn}
+use Rattle.rules.specs.Columns.{yesNo, choice, number, top, point, recordSize}
+use Rattle.rules.specs.Circuit.{constantsOf, gatesOf, productsAt, productsOf, testsOf}
 use Rattle.columns.specs.declared.Counts.{Counts}
 use Rattle.columns.specs.Counting.{countsOf, Small}
-use Rattle.columns.proofs.Sums.{entries, published, constants, gates, tests, total-append, largest-append}
+use Rattle.columns.proofs.Sums.{entries, published, gates, products, tests, total-append, largest-append}
 use Rattle.sheet.specs.declared.Reading.the-variants as answer
 use Rattle.sheet.specs.Cursor.{bytesIn}
 use Rattle.sheet.specs.Reading.{reading, readingOf, plus, more, withConstants, Countable, limited}
@@ -26,7 +26,7 @@ use Rattle.sheet.proofs.SheetBytes.{records-long}
 
 -- ---- the counts: those of the columns, or both past the limit
 pub none-small : Small 320 (countsOf [])
-unfolding entriesIn publishedIn constantsIn gatesIn testsIn largestIn
+unfolding entriesIn publishedIn constantsIn gatesIn productsIn testsIn largestIn
 none-small = search arith
 
 -- the counts of columns, but for the constants
@@ -38,6 +38,7 @@ seen cs =
       published = publishedIn cs;
       constants = 0;
       gates = gatesIn cs;
+      products = productsIn cs;
       tests = testsIn cs;
       largest = largestIn cs;
     }
@@ -55,6 +56,7 @@ counts-next done c =
       total-append entries done (c ∷ []),
       total-append published done (c ∷ []),
       total-append gates done (c ∷ []),
+      total-append products done (c ∷ []),
       total-append tests done (c ∷ []),
       largest-append done (c ∷ []),
       length-append done (c ∷ []),
@@ -85,41 +87,43 @@ tracks-limited c done n (inl q) = ap (λ k. limited k n) q
 tracks-limited c done n (inr o) = limited-over c n (o .0) ∙ sym (limited-over (seen done) n (o .1))
 
 -- ---- the constants
--- behind its kind byte a column has a byte for each of its sums, and two more for a constant
-column-bodies : (c : Column) → recordSize c + gatesOf c ≡ 1 + testsOf c + 2 * constantsOf c
-unfolding recordSize gatesOf testsOf constantsOf
+-- behind its kind byte a column has a byte for each of its sums, one for the two sums of a point, and two more for a constant
+column-bodies : (c : Column) → 2 * (recordSize c + gatesOf c) + productsOf c ≡ 2 * (1 + testsOf c + 2 * constantsOf c)
+unfolding recordSize gatesOf productsOf productsAt testsOf constantsOf
 column-bodies yesNo = refl
 column-bodies (choice n) = omega arith
 column-bodies (number n) = omega arith
 column-bodies (top n) = omega arith
+column-bodies (point n) = omega arith
 
-column-sums : (c : Column) → gatesOf c ≤ testsOf c
-unfolding gatesOf testsOf
+column-sums : (c : Column) → 2 * gatesOf c + productsOf c ≤ 2 * testsOf c
+unfolding gatesOf productsOf productsAt testsOf
 column-sums yesNo = omega arith
 column-sums (choice n) = omega arith
 column-sums (number n) = omega arith
 column-sums (top n) = omega arith
+column-sums (point n) = omega arith
 
-bodies-are : (cs : List Column) → bytesIn cs + gatesIn cs ≡ length cs + testsIn cs + 2 * constantsIn cs
-unfolding bytesIn gatesIn testsIn constantsIn
+bodies-are : (cs : List Column) → 2 * (bytesIn cs + gatesIn cs) + productsIn cs ≡ 2 * (length cs + testsIn cs + 2 * constantsIn cs)
+unfolding bytesIn gatesIn productsIn testsIn constantsIn
 bodies-are [] = refl
 bodies-are (c ∷ cs) = omega (arith, column-bodies c, bodies-are cs)
 
-sums-some : (cs : List Column) → gatesIn cs ≤ testsIn cs
-unfolding gatesIn testsIn
+sums-some : (cs : List Column) → 2 * gatesIn cs + productsIn cs ≤ 2 * testsIn cs
+unfolding gatesIn productsIn testsIn
 sums-some [] = omega arith
 sums-some (c ∷ cs) = omega (arith, column-sums c, sums-some cs)
 
 counts-whole : (cs : List Column) → withConstants (seen cs) (bytesIn cs) ≡ countsOf cs
 counts-whole cs =
-    let e : (bytesIn cs - length cs - (testsIn cs - gatesIn cs)) / 2 ≡ constantsIn cs
+    let e : (bytesIn cs - length cs - (testsIn cs - gatesIn cs - productsIn cs / 2)) / 2 ≡ constantsIn cs
     = omega (arith, bodies-are cs, sums-some cs) in
     rw e refl
 
 pub tracks-countable : (c : Counts) (done : List Column) (n : ℕ) → n ≡ bytesIn done → Tracks c done → Countable c n
 tracks-countable c done n e (inl q) =
     rw q (record {
-      sums = λ h. sums-some done;
+      sums = λ h. omega (arith, sums-some done);
       bodies = λ h. omega (arith, bodies-are done, sums-some done);
     })
 tracks-countable c done n e (inr o) = record { sums = λ h. absurd (omega (arith, o .0)); bodies = λ h. absurd (omega (arith, o .0)) }

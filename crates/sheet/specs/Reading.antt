@@ -28,6 +28,7 @@ plus c d =
       published = c .published + d .published;
       constants = c .constants;
       gates = c .gates + d .gates;
+      products = c .products + d .products;
       tests = c .tests + d .tests;
       largest = max (c .largest) (d .largest);
     }
@@ -36,24 +37,25 @@ plus c d =
 unfoldable pub more : Counts → Counts → Counts
 more c d = cond (leb (c .entries) 256) (plus c d) c
 
--- the counts of a sheet of so many bytes with its constants: behind its kind byte a column has a byte for each of its sums, and
--- two more for a constant
+-- the counts of a sheet of so many bytes with its constants: behind its kind byte a column has a byte for each of its sums, one for
+-- the two sums of a point, and two more for a constant
 abbrev pub withConstants : Counts → ℕ → Counts
 withConstants c bytes =
     record {
       columns = c .columns;
       entries = c .entries;
       published = c .published;
-      constants = (bytes - c .columns - (c .tests - c .gates)) / 2;
+      constants = (bytes - c .columns - (c .tests - c .gates - c .products / 2)) / 2;
       gates = c .gates;
+      products = c .products;
       tests = c .tests;
       largest = c .largest;
     }
 
 -- so it has, where the limit is kept
 pub record Countable (c : Counts) (bytes : ℕ) : Type 0 where
-  pub sums : c .entries ≤ 256 → c .gates ≤ c .tests
-  pub bodies : c .entries ≤ 256 → c .columns + (c .tests - c .gates) ≤ bytes
+  pub sums : c .entries ≤ 256 → c .gates + c .products / 2 ≤ c .tests
+  pub bodies : c .entries ≤ 256 → c .columns + (c .tests - c .gates - c .products / 2) ≤ bytes
 
 -- the total limit, last
 unfoldable pub limited : Counts → ℕ → Reading

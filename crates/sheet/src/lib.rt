@@ -43,13 +43,14 @@ fn with(c: Counts, d: Counts) -> Counts
         published: c.published + d.published,
         constants: c.constants,
         gates: c.gates + d.gates,
+        products: c.products + d.products,
         tests: c.tests + d.tests,
         largest: larger(c.largest, d.largest),
     }
 }
 
 // The total limit, last; then the constants, which need no count of their own: behind its kind byte a column has a byte for each
-// of its sums, and two more for a constant.
+// of its sums, one for the two sums of a point, and two more for a constant.
 fn limit(c: Counts, bytes: usize) -> Reading
     requires { ⌜ Countable c bytes ⌝ }
     ensures { λ r. ⌜ r ≡ limited c bytes ⌝ }
@@ -64,8 +65,9 @@ fn limit(c: Counts, bytes: usize) -> Reading
         columns: c.columns,
         entries: c.entries,
         published: c.published,
-        constants: (bytes - c.columns - (c.tests - c.gates)) / 2,
+        constants: (bytes - c.columns - (c.tests - c.gates - c.products / 2)) / 2,
         gates: c.gates,
+        products: c.products,
         tests: c.tests,
         largest: c.largest,
     })

@@ -2,17 +2,17 @@
 -- its wires by kinds 1 to 5, the greatest N as a quotient. Assumes nothing.
 use mathlib.Core.Path.{_≡_, refl}
 use mathlib.Core.List.{List, [], _∷_}
-use Prim.Native.Nat.{ℕ, zero, suc, _+_, _-_, _*_, _^_, _≤_, _<_}
-use native.Mathlib.Nat.{pow-le-pow-right}
+use Prim.Native.Nat.{ℕ, zero, suc, _+_, _-_, _*_, _/_, _^_, _≤_, _<_}
+use native.Mathlib.Nat.{pow-le-pow-right, mul-le-mul}
 use native.Mathlib.Numerals.{unary-clauses}
 use native.Mathlib.Omega.{arith}
 use borrow.Author.Tests.{ne-eqb}
 use lib.ListN.{length, getD}
 use Rattle.algebra.specs.Lists.{All, all[], all∷}
 use Rattle.rules.specs.Settings.{document01}
-use Rattle.rules.specs.Circuit.{addsIn, scalesIn, gatesIn, testsIn}
+use Rattle.rules.specs.Circuit.{addsIn, scalesIn, gatesIn, productsIn, testsIn}
 use Rattle.rules.specs.CircuitReader.{bodyLengths}
-use Rattle.rules.specs.Columns.{Column, yesNo, choice, number, top, largestOf, entriesIn, publishedIn, largestIn, columnsOf}
+use Rattle.rules.specs.Columns.{Column, yesNo, choice, number, top, point, largestOf, entriesIn, publishedIn, largestIn, columnsOf}
 use Rattle.rules.specs.Columns.{mostReturns}
 use Rattle.rules.specs.Judging.{shareSize}
 use Rattle.rules.specs.Making.{shareLength}
@@ -74,12 +74,14 @@ wires-most c h = omega (arith, adds-most c h, scales-most c h)
 -- of columns these are the steps of their circuit
 pub adds-made : (cs : List Column) → addsMade (countsOf cs) ≡ addsIn cs
 unfolding addsMade
-adds-made cs = let e : gatesIn cs + testsIn cs - length cs ≡ addsIn cs = omega (arith, adds-are cs) in e
+adds-made cs =
+    let e : gatesIn cs + testsIn cs - length cs - 3 * (productsIn cs / 2) ≡ addsIn cs = omega (arith, adds-are cs) in
+    e
 
 pub scales-made : (cs : List Column) → scalesMade (countsOf cs) ≡ scalesIn cs
 unfolding scalesMade
 scales-made cs =
-    let e : 2 * entriesIn cs - publishedIn cs - gatesIn cs ≡ scalesIn cs = omega (arith, scales-are cs) in
+    let e : 2 * entriesIn cs + productsIn cs - publishedIn cs - gatesIn cs ≡ scalesIn cs = omega (arith, scales-are cs) in
     e
 
 -- ---- every column has a value that is not 0
@@ -89,6 +91,10 @@ column-value yesNo h = omega arith
 column-value (choice n) h = omega arith
 column-value (top n) h = h .0
 column-value (number n) h = let p : 2 ^ 1 ≤ 2 ^ n = pow-le-pow-right (omega arith) (h .0) in omega arith
+column-value (point n) h =
+    let p : 2 ^ 1 ≤ 2 ^ n = pow-le-pow-right (omega arith) (h .0) in
+    let m : 1 ≤ 2 ^ n - 1 = omega arith in
+    omega (arith, mul-le-mul m m)
 
 some-value : (cs : List Column) → All InLimits cs → 1 ≤ entriesIn cs → 0 < largestIn cs
 unfolding entriesIn largestIn

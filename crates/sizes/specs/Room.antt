@@ -16,10 +16,10 @@ use Rattle.sizes.specs.declared.Told.the-variants as answer
 
 -- the additions and the products with a constant among the steps of columns with these counts
 unfoldable pub addsMade : Counts → ℕ
-addsMade c = c .gates + c .tests - c .columns
+addsMade c = c .gates + c .tests - c .columns - 3 * (c .products / 2)
 
 unfoldable pub scalesMade : Counts → ℕ
-scalesMade c = 2 * c .entries - c .published - c .gates
+scalesMade c = 2 * c .entries + c .products - c .published - c .gates
 
 -- the bytes of the steps of some columns, and of a constant in front
 unfoldable pub stepsSize : Counts → ℕ

@@ -41,22 +41,23 @@ fn kind_size(lengths: &[usize; 6], kind: usize, n: usize) -> usize
     n * (1 + lengths[kind])
 }
 
-// The additions among the steps of columns with these counts: one before each multiplication, which checks a bit, and one
-// for each term of a sum; the sums of a column have as many terms as the column has tests, less one.
+// The additions among the steps of columns with these counts: one before each multiplication that checks a bit, and one for each
+// term of a sum; the sums of a column have as many terms as the column has tests, less one, or less two for a point, which has two
+// products.
 fn adds(c: Counts) -> usize
     requires { ⌜ Small 256 c ⌝ }
     ensures { λ r. ⌜ (r ≡ addsMade c) × (r ≤ 768) ⌝ }
 {
-    c.gates + c.tests - c.columns
+    c.gates + c.tests - c.columns - 3 * (c.products / 2)
 }
 
-// The products with a constant: each entry that is not published is a bit and has one with its weight, each that no
-// multiplication checks is a number and has one with p - 1.
+// The products with a constant: each entry that is not published is a bit and has one with its weight, each that no bit check
+// reads has one with p - 1.
 fn scales(c: Counts) -> usize
     requires { ⌜ Small 256 c ⌝ }
     ensures { λ r. ⌜ (r ≡ scalesMade c) × (r ≤ 512) ⌝ }
 {
-    2 * c.entries - c.published - c.gates
+    2 * c.entries + c.products - c.published - c.gates
 }
 
 // The bytes of the steps of some columns, and of a constant in front.

@@ -1,24 +1,29 @@
--- The numbers of the two rounds from the walk over the columns: the run of the circuit is the walk, and the constant p - 1
--- at a server is the server's factor times it. Assumes nothing.
+-- The numbers of the two rounds from the walk over the columns: the run of the circuit is the walk, and g is f, corrected, where
+-- the constant p - 1 at a server is the server's factor times it. Assumes nothing.
 use mathlib.Core.Path.{_≡_, sym, ap, ap₂, _∙_}
 use mathlib.Core.List.{List}
-use Prim.Native.Nat.{ℕ, suc, _+_, _-_}
+use Prim.Native.Nat.{ℕ, suc, _+_, _-_, _≤_, _<_}
 use native.Mathlib.Omega.{arith}
 use lib.ListN.{length, take, drop}
 use lib.Seq.{getD-take, getD-drop}
 use Rattle.algebra.specs.Ops.{minus}
 use Rattle.algebra.specs.Interpolation.{basis, interpolate}
 use Rattle.algebra.proofs.Sums.{sum-ext}
-use Rattle.field.specs.Residues.{residues}
+use Rattle.field.specs.Residues.{prime, residues, Elements}
+use Rattle.field.proofs.Below.{member-below}
 use Rattle.rules.specs.Settings.{document01}
 use Rattle.rules.specs.Columns.{Column, entriesIn}
 use Rattle.rules.specs.Circuit.{gatesIn}
 use Rattle.rules.specs.Run.{atServer}
 use Rattle.rules.specs.Judging.{zeroThen, folded, hOf, aOf, bOf, shareRun, fAt, gAt, hAt, dOf, eOf, tauOf}
-use Rattle.rules.specs.Walk.{walkLefts, walkRights, walkTests}
+use Rattle.rules.specs.Walk.{walkTests}
+use Rattle.rules.specs.Products.{corrected}
+use Rattle.rules.proofs.Computed.Facts.{document01-facts}
 use Rattle.rules.proofs.Circuits.Walk.{walk-is-run}
-use Rattle.walk.specs.Walks.{plain, shared, members}
-use Rattle.walk.proofs.Meanings.{server-lefts, server-rights}
+use Rattle.rules.proofs.Returns.ProductsHom.{judged-right}
+use Rattle.walk.specs.Walks.{shared, members}
+use Rattle.walk.proofs.Meanings.{server-lefts}
+use Rattle.snip.specs.Judged.{leftAt}
 
 module _ (cs : List Column) (k : ℕ) (xs : List ℕ) where
   abbrev x : ℕ → ℕ
@@ -27,9 +32,7 @@ module _ (cs : List Column) (k : ℕ) (xs : List ℕ) where
   abbrev constant : ℕ
   constant = residues ._⊗_ k 2147483646
 
-  pub f-is : (r : ℕ)
-      → interpolate residues (gatesIn cs) (zeroThen residues (x (entriesIn cs)) (walkLefts document01 (plain 0 x) 0 cs)) r
-      ≡ fAt residues document01 cs k x r
+  f-is : (r : ℕ) → leftAt cs (entriesIn cs) xs r ≡ fAt residues document01 cs k x r
   unfolding fAt shareRun
   f-is r =
       ap (λ (l : List ℕ). interpolate residues (gatesIn cs) (zeroThen residues (x (entriesIn cs)) l) r)
@@ -37,16 +40,12 @@ module _ (cs : List Column) (k : ℕ) (xs : List ℕ) where
       (walk-is-run document01 (atServer residues k x (hOf residues document01 cs x)) cs .lefts-are
       ∙ server-lefts k x (hOf residues document01 cs x) cs))
 
-  pub g-is : (r : ℕ)
-      → interpolate residues (gatesIn cs)
-      (zeroThen residues (x (entriesIn cs + 1)) (walkRights document01 (plain constant x) 0 cs)) r
+  g-is : (r : ℕ) → Elements xs → gatesIn cs ≤ 256 → k < prime → r < prime
+      → corrected residues constant x cs (leftAt cs (entriesIn cs) xs r) (x (entriesIn cs)) (x (entriesIn cs + 1)) r
       ≡ gAt residues document01 cs k x r
-  unfolding gAt shareRun
-  g-is r =
-      ap (λ (l : List ℕ). interpolate residues (gatesIn cs) (zeroThen residues (x (entriesIn cs + 1)) l) r)
-      (sym
-      (walk-is-run document01 (atServer residues k x (hOf residues document01 cs x)) cs .rights-are
-      ∙ server-rights k x (hOf residues document01 cs x) cs))
+  g-is r elements few k-below r-below =
+      ap (λ f. corrected residues constant x cs f (x (entriesIn cs)) (x (entriesIn cs + 1)) r) (f-is r)
+      ∙ sym (judged-right document01 document01-facts cs few x (λ i. member-below xs i elements) k r k-below r-below)
 
   pub tau-is : (s : ℕ)
       → folded residues (walkTests document01 (shared k (entriesIn cs) xs) 0 0 cs) s
@@ -74,31 +73,26 @@ module _ (cs : List Column) (k : ℕ) (xs : List ℕ) where
   -- as code has them: l and m are the counts, c is the constant
   module _ (l m c : ℕ) (el : l ≡ entriesIn cs) (em : m ≡ gatesIn cs) (ec : c ≡ residues ._⊗_ k 2147483646) where
     pub d-from : (r f v : ℕ)
-        → f ≡ interpolate residues (gatesIn cs) (zeroThen residues (x l) (walkLefts document01 (plain 0 x) 0 cs)) r
-        → v ≡ minus residues f (x (l + 3 + (m + m))) → v ≡ dOf residues document01 cs k x r
+        → f ≡ leftAt cs l xs r → v ≡ minus residues f (x (l + 3 + (m + m))) → v ≡ dOf residues document01 cs k x r
     unfolding dOf aOf
     d-from r f v p q =
         q
         ∙ ap₂ (minus residues)
-        (p
-        ∙ ap (λ i. interpolate residues (gatesIn cs) (zeroThen residues (x i) (walkLefts document01 (plain 0 x) 0 cs)) r) el
-        ∙ f-is r)
+        (p ∙ ap (λ i. leftAt cs i xs r) el ∙ f-is r)
         (ap₂ (λ i j. x (i + 3 + (j + j))) el em)
 
-    pub e-from : (r g w v : ℕ)
-        → g ≡ interpolate residues (gatesIn cs) (zeroThen residues (x (l + 1)) (walkRights document01 (plain c x) 0 cs)) r
+    pub e-from : (r g w v : ℕ) → Elements xs → gatesIn cs ≤ 256 → k < prime → r < prime
+        → g ≡ corrected residues c x cs (leftAt cs l xs r) (x l) (x (l + 1)) r
         → w ≡ residues ._⊗_ r g → v ≡ minus residues w (x (l + 3 + (m + m) + 1)) → v ≡ eOf residues document01 cs k x r
     unfolding eOf bOf
-    e-from r g w v p q u =
+    e-from r g w v elements few k-below r-below p q u =
         u
         ∙ ap₂ (minus residues)
         (q
         ∙ ap (residues ._⊗_ r)
         (p
-        ∙ ap₂
-        (λ i n. interpolate residues (gatesIn cs) (zeroThen residues (x (i + 1)) (walkRights document01 (plain n x) 0 cs)) r)
-        el ec
-        ∙ g-is r))
+        ∙ ap₂ (λ i n. corrected residues n x cs (leftAt cs i xs r) (x i) (x (i + 1)) r) el ec
+        ∙ g-is r elements few k-below r-below))
         (ap x (let a : l + 3 + (m + m) + 1 ≡ entriesIn cs + 4 + (gatesIn cs + gatesIn cs) = omega arith in a))
 
     pub h-from : (r h v : ℕ) (ys : List ℕ) → ys ≡ take (l + 3 + (m + m) - (l + 2)) (drop (l + 2) xs)

@@ -12,7 +12,8 @@ use Rattle.rules.specs.Settings.{document01}
 use Rattle.rules.specs.Columns.{Column, entriesIn, readSheet, columnsOf}
 use Rattle.rules.specs.Circuit.{gatesIn, testsIn}
 use Rattle.rules.specs.Judging.{shareSize, firstOnly, zeroThen, hAt, dOf, eOf, tauOf}
-use Rattle.rules.specs.Walk.{walkLefts, walkRights}
+use Rattle.rules.specs.Walk.{walkLefts}
+use Rattle.rules.specs.Products.{corrected}
 use Rattle.snip.specs.declared.judging.Judged.{Judged}
 use Rattle.snip.specs.declared.judging.Inputs.{Inputs}
 use Rattle.snip.specs.declared.judging.Shape.{Shape}
@@ -27,23 +28,25 @@ judgedOf cs own xs r s = record {
   tau = tauOf residues document01 cs (firstOnly residues own) (members xs) s;
 }
 
--- f and g at r, where m is what the constant comes to
+-- f at r through the left inputs
+abbrev pub leftAt : List Column → ℕ → List ℕ → ℕ → ℕ
+leftAt cs l xs r =
+    interpolate residues (gatesIn cs)
+    (zeroThen residues (members xs l) (walkLefts document01 (plain 0 (members xs)) 0 cs)) r
+
+-- f and g at r, where m is what the constant comes to: g is f, corrected
 abbrev pub inputsOf : List Column → ℕ → ℕ → List ℕ → ℕ → Inputs
 inputsOf cs l m xs r = record {
-  f =
-      interpolate residues (gatesIn cs)
-      (zeroThen residues (members xs l) (walkLefts document01 (plain 0 (members xs)) 0 cs)) r;
-  g =
-      interpolate residues (gatesIn cs)
-      (zeroThen residues (members xs (l + 1)) (walkRights document01 (plain m (members xs)) 0 cs)) r;
+  f = leftAt cs l xs r;
+  g = corrected residues m (members xs) cs (leftAt cs l xs r) (members xs l) (members xs (l + 1)) r;
 }
 
 -- f and g at r from their values at 0, the basis of the point 0 and the part of f of the other points, where each right
--- input is the left one plus m
-abbrev pub inputsFrom : ℕ → ℕ → ℕ → ℕ → ℕ → Inputs
-inputsFrom f0 g0 first rest m = record {
+-- input is the left one, m and what `extra` is made of
+abbrev pub inputsFrom : ℕ → ℕ → ℕ → ℕ → ℕ → ℕ → Inputs
+inputsFrom f0 g0 first rest m extra = record {
   f = residues ._⊕_ (residues ._⊗_ first f0) rest;
-  g = residues ._⊕_ (residues ._⊗_ first (minus residues g0 m)) (residues ._⊕_ rest m);
+  g = residues ._⊕_ (residues ._⊕_ (residues ._⊗_ first (minus residues g0 m)) (residues ._⊕_ rest m)) extra;
 }
 
 -- what a sheet comes to, as far as judging needs it

@@ -8,9 +8,10 @@ ghost use Rattle.field.specs.Residues.{prime, residues, Elements};
 ghost use Rattle.interpolation.specs.Fractions.{sumOf, Element};
 ghost use Rattle.rules.specs.Settings.{document01};
 ghost use Rattle.rules.specs.Columns.{columnsOf};
-ghost use Rattle.rules.specs.Circuit.{gatesIn, testsIn};
+ghost use Rattle.rules.specs.Circuit.{gatesIn, productsIn, testsIn};
 ghost use Rattle.rules.specs.Judging.{folded};
 ghost use Rattle.rules.specs.Walk.{walkLefts, walkTests};
+ghost use Rattle.rules.specs.Products.{extraAt};
 ghost use Rattle.snip.specs.Judged.{judgedOf, inputsOf, inputsFrom, Share};
 ghost use Rattle.walk.specs.Walks.{plain, shared, members, Entries, Outputs};
 use interpolation::Fraction;
@@ -19,6 +20,12 @@ use interpolation::Fraction;
 pub struct Inputs {
     pub f: u32,
     pub g: u32,
+}
+
+// A sum over the left inputs, and how many of the multiplications check no bit.
+pub struct Lefts {
+    pub sum: Fraction,
+    pub products: usize,
 }
 
 // What a sheet comes to, as far as judging needs it.
@@ -37,27 +44,47 @@ pub struct Judged {
 }
 
 // The sum of the left inputs times their weights, over r - 1, r - 2, ..
-fn lefts_sum(sheet: &[u8], x: &[u32], weights: &[u32], r: u32) -> Fraction
+fn lefts_sum(sheet: &[u8], x: &[u32], weights: &[u32], r: u32) -> Lefts
     requires { ⌜ Entries (now sheet) (now x) × Elements (now weights) × (r < prime)
         × (length (now weights) ≡ gatesIn (columnsOf (now sheet))) × (length (now weights) ≤ 256) ⌝ }
-    ensures { λ q. ⌜ (q ≡ sumOf (walkLefts document01 (plain 0 (members (now (x .entry)))) 0 (columnsOf (now (sheet .entry))))
-        (now (weights .entry)) 1 r (gatesIn (columnsOf (now (sheet .entry))))) × Element q ⌝ }
+    ensures { λ q. ⌜ (q .sum ≡ sumOf (walkLefts document01 (plain 0 (members (now (x .entry)))) 0 (columnsOf (now (sheet .entry))))
+        (now (weights .entry)) 1 r (gatesIn (columnsOf (now (sheet .entry))))) × Element (q .sum)
+        × (q .products ≡ productsIn (columnsOf (now (sheet .entry)))) ⌝ }
 {
     let mut lefts = [0u32; 256];
     let m = weights.len();
-    walk::fill_lefts(sheet, x, &mut lefts[..m]);
-    interpolation::sum(&lefts[..m], weights, 1, r)
+    let products = walk::fill_lefts(sheet, x, &mut lefts[..m]);
+    let sum = interpolation::sum(&lefts[..m], weights, 1, r);
+    Lefts { sum, products }
+}
+
+// What g has at r by the multiplications that check no bit, of which there are `products`; without any it is 0.
+fn extra_at(sheet: &[u8], x: &[u32], weights: &[u32], products: usize, constant: u32, r: u32) -> u32
+    requires { ⌜ Entries (now sheet) (now x) × (constant < prime) × (r < prime) × (gatesIn (columnsOf (now sheet)) ≤ 256)
+        × (products ≡ productsIn (columnsOf (now sheet))) ⌝ }
+    requires { ⌜ now weights
+        ≡ tabulate (λ i. weight residues (gatesIn (columnsOf (now sheet))) (suc i)) (gatesIn (columnsOf (now sheet))) ⌝ }
+    ensures { λ q. ⌜ q ≡ extraAt residues constant (members (now (x .entry))) (columnsOf (now (sheet .entry))) r ⌝ }
+{
+    if products == 0 {
+        return 0;
+    }
+    let mut extras = [0u32; 256];
+    let m = weights.len();
+    walk::fill_extras(sheet, x, constant, &mut extras[..m]);
+    field::mul(r, interpolation::sum(&extras[..m], weights, 1, r).over)
 }
 
 // f and g at r from their values f0 and g0 at 0, where `first` is the basis of the point 0 and `rest` the part of f of the
-// other points. There the right inputs are the left ones and the constant.
-fn inputs_from(f0: u32, g0: u32, first: u32, rest: u32, constant: u32) -> Inputs
-    requires { ⌜ (f0 < prime) × (g0 < prime) × (first < prime) × (rest < prime) × (constant < prime) ⌝ }
-    ensures { λ q. ⌜ q ≡ inputsFrom f0 g0 first rest constant ⌝ }
+// other points. There the right inputs are the left ones, the constant, and what `extra` is made of.
+fn inputs_from(f0: u32, g0: u32, first: u32, rest: u32, constant: u32, extra: u32) -> Inputs
+    requires { ⌜ (f0 < prime) × (g0 < prime) × (first < prime) × (rest < prime) × (constant < prime) × (extra < prime) ⌝ }
+    ensures { λ q. ⌜ q ≡ inputsFrom f0 g0 first rest constant extra ⌝ }
 {
+    let shifted = field::mul_add(first, field::sub(g0, constant), field::add(rest, constant));
     Inputs {
         f: field::mul_add(first, f0, rest),
-        g: field::mul_add(first, field::sub(g0, constant), field::add(rest, constant)),
+        g: field::add(shifted, extra),
     }
 }
 
@@ -70,9 +97,19 @@ fn inputs_with(sheet: &[u8], x: &[u32], l: usize, weights: &[u32], constant: u32
         ≡ tabulate (weight residues (gatesIn (columnsOf (now sheet)))) (suc (gatesIn (columnsOf (now sheet)))) ⌝ }
     ensures { λ q. ⌜ q ≡ inputsOf (columnsOf (now (sheet .entry))) l constant (now (x .entry)) r ⌝ }
 {
-    let q = lefts_sum(sheet, x, &weights[1..], r);
-    let first = field::mul(weights[0], q.under);
-    inputs_from(x[l], x[l + 1], first, field::mul(r, q.over), constant)
+    let others = &weights[1..];
+    let lefts = lefts_sum(sheet, x, others, r);
+    let sum = lefts.sum;
+    let extra = extra_at(sheet, x, others, lefts.products, constant, r);
+    let first = field::mul(weights[0], sum.under);
+    inputs_from(
+        x[l],
+        x[l + 1],
+        first,
+        field::mul(r, sum.over),
+        constant,
+        extra,
+    )
 }
 
 // The polynomial through the members of y at the points 0, 1, .., at r, with the weights of these points.

@@ -6,11 +6,11 @@ use mathlib.Core.Bool.{true, _&&_}
 use mathlib.Core.List.{List}
 use Prim.Native.Nat.{ℕ, _+_, _*_, _≤_, _<_}
 use native.Mathlib.Omega.{arith}
-use borrow.Author.Tests.{eqb-true}
+use borrow.Author.Tests.{eqb-true, leb-true}
 use lib.Dec.{eqb, leb, lit<}
 use lib.ListN.{length, getD, drop, length-drop}
 use Rattle.algebra.specs.Lists.{tabulate}
-use Rattle.algebra.proofs.Members.{and-left}
+use Rattle.algebra.proofs.Members.{and-left, and-right}
 use Rattle.words.specs.Bytes.{valueOf, part, allBelow}
 use Rattle.words.proofs.Splice.{length-part, part-of-drop}
 use Rattle.words.proofs.Elements.{element-within}
@@ -91,3 +91,9 @@ module _ (servers published returns : ℕ) (joined : List ℕ) (sound : joinedFa
     one = one;
     below = λ i h. member-below _ k (all-of-below prime _ (elements-hold i h));
   }
+
+  pub count-within : acceptedCount joined ≤ returns
+  count-within =
+      let rest = and-right (eqb (length joined) (totalsBytes published * servers)) _ all-hold in
+      leb-true (acceptedCount joined) returns
+      (and-right (allTotalsSound servers published (acceptedCount joined) joined) (leb (acceptedCount joined) returns) rest)

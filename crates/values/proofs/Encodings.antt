@@ -17,8 +17,8 @@ use Rattle.words.specs.Bytes.{splice, elementsOf}
 use Rattle.words.proofs.Elements.{length-elements}
 use Rattle.words.proofs.Splice.{splice-none, length-splice}
 use Rattle.words.proofs.Loops.{sets-splice, grow}
-use Rattle.rules.specs.Columns.{Column, yesNo, number, top, bitLength, entriesOf, valuesOf, entriesIn, check}
-use Rattle.rules.specs.Values.{twoNumbers, encoded, legalValues, encoding}
+use Rattle.rules.specs.Columns.{Column, yesNo, number, top, point, bitLength, entriesOf, valuesOf, entriesIn, check}
+use Rattle.rules.specs.Values.{twoNumbers, pointEntry, encoded, legalValues, encoding}
 use Rattle.rules.specs.Making.{valuesFault}
 
 -- ---- a table put into the buffer d from place a
@@ -45,26 +45,46 @@ pub number-entries : (n v : ℕ) → tabulate (encoded (number n) v) (suc n) ≡
 unfolding encoded
 number-entries n v = tabulate-front (encoded (number n) v) n
 
+-- the b bits of two numbers
+module _ (b v w : ℕ) where
+  first-bits : (i : ℕ) → i < b → twoNumbers b v w i ≡ v / 2 ^ i % 2
+  unfolding twoNumbers
+  first-bits i h = rw (lt-ltb i b h) refl
+
+  second-bits : (i : ℕ) → i < b → twoNumbers b v w (b + i) ≡ w / 2 ^ i % 2
+  unfolding twoNumbers
+  second-bits i h = let back : b + i - b ≡ i = omega arith in rw (le-ltb (b + i) b (omega arith), back) refl
+
+  two-bits : tabulate (twoNumbers b v w) (2 * b) ≡ tabulate (λ j. v / 2 ^ j % 2) b ++ tabulate (λ j. w / 2 ^ j % 2) b
+  two-bits =
+      let size : 2 * b ≡ b + b = omega arith in
+      ap (tabulate (twoNumbers b v w)) size ∙ tabulate-append (twoNumbers b v w) b b
+      ∙ ap₂ _++_ (tabulate-cong _ _ b first-bits) (tabulate-cong _ _ b second-bits)
+
 -- a number, its bits, and those of what the top n, of b bits, has past it
-module _ (n v b : ℕ) (long : b ≡ bitLength n) where
-  first-bits : (i : ℕ) → i < suc b → encoded (top n) v i ≡ encoded (number b) v i
-  unfolding encoded twoNumbers
-  first-bits zero h = refl
-  first-bits (suc j) h = rw (← long, lt-ltb j b (omega arith)) refl
+pub top-entries : (n v b : ℕ) → b ≡ bitLength n
+    → tabulate (encoded (top n) v) (suc (2 * b))
+    ≡ tabulate (encoded (number b) v) (suc b) ++ tabulate (λ j. (n - v) / 2 ^ j % 2) b
+unfolding encoded
+top-entries n v b long =
+    rw (number-entries b v)
+    (tabulate-front (encoded (top n) v) (2 * b) ∙ rw (← long) (ap (λ (l : List ℕ). v ∷ l) (two-bits b v (n - v))))
 
-  second-bits : (i : ℕ) → i < b → encoded (top n) v (suc b + i) ≡ (n - v) / 2 ^ i % 2
-  unfolding encoded twoNumbers
-  second-bits i h =
-      let place : suc b + i ≡ suc (b + i) = omega arith in
-      let back : b + i - b ≡ i = omega arith in
-      rw (place, ← long, le-ltb (b + i) b (omega arith), back) refl
+-- the two numbers of v, their products and their bits
+module _ (n v : ℕ) where
+  behind-products : (i : ℕ) → encoded (point n) v (4 + i) ≡ twoNumbers n (v % 2 ^ n) (v / 2 ^ n) i
+  unfolding encoded pointEntry
+  behind-products i = let e : 4 + i ≡ suc (suc (suc (suc i))) = omega arith in rw e refl
 
-  pub top-entries : tabulate (encoded (top n) v) (suc (2 * b))
-      ≡ tabulate (encoded (number b) v) (suc b) ++ tabulate (λ j. (n - v) / 2 ^ j % 2) b
-  top-entries =
-      let size : suc (2 * b) ≡ suc b + b = omega arith in
-      ap (tabulate (encoded (top n) v)) size ∙ tabulate-append (encoded (top n) v) (suc b) b
-      ∙ ap₂ _++_ (tabulate-cong _ _ (suc b) first-bits) (tabulate-cong _ _ b second-bits)
+  pub point-entries : (x y : ℕ) → x ≡ v % 2 ^ n → y ≡ v / 2 ^ n
+      → tabulate (encoded (point n) v) (4 + 2 * n)
+      ≡ (x ∷ x * x ∷ y ∷ x * y ∷ []) ++ tabulate (λ j. x / 2 ^ j % 2) n ++ tabulate (λ j. y / 2 ^ j % 2) n
+  unfolding encoded pointEntry tabulate
+  point-entries x y first second =
+      rw (first, second)
+      (tabulate-append (encoded (point n) v) 4 (2 * n)
+      ∙ ap (λ (l : List ℕ). v % 2 ^ n ∷ v % 2 ^ n * (v % 2 ^ n) ∷ v / 2 ^ n ∷ v % 2 ^ n * (v / 2 ^ n) ∷ l)
+      (tabulate-cong _ _ (2 * n) (λ i h. behind-products i) ∙ two-bits n (v % 2 ^ n) (v / 2 ^ n)))
 
 -- ---- column by column
 pub encoding-next : (cs : List Column) (vs : List ℕ) (k : ℕ) → k < length cs → k < length vs

@@ -1,12 +1,13 @@
 // The values of a return: whether there is one for each column, within it, and their encoding as the sheet's entries.
 ghost use mathlib.Core.Path.{_≡_};
 ghost use mathlib.Core.Bool.{cond};
-ghost use Prim.Native.Nat.{_+_, _-_, _/_, _%_, _^_, _≤_};
+ghost use mathlib.Core.List.{[], _∷_};
+ghost use Prim.Native.Nat.{_+_, _-_, _*_, _/_, _%_, _^_, _≤_, _<_};
 ghost use lib.Dec.{eqb};
 ghost use lib.ListN.{length};
 ghost use Rattle.algebra.specs.Lists.{tabulate};
 ghost use Rattle.words.specs.Bytes.{splice};
-ghost use Rattle.rules.specs.Columns.{choice, number, top, entriesOf, valuesOf, columnsOf};
+ghost use Rattle.rules.specs.Columns.{choice, number, top, point, entriesOf, valuesOf, columnsOf};
 ghost use Rattle.rules.specs.Values.{encoded};
 ghost use Rattle.rules.specs.Making.{valuesFault};
 ghost use Rattle.rules.proofs.Circuits.Limits.{InLimits};
@@ -30,6 +31,10 @@ pub fn values_of(column: Column) -> u32
         Column::Choice(n) => n as u32,
         Column::Number(n) => power(n),
         Column::Top(n) => n + 1,
+        Column::Point(n) => {
+            let range = power(n);
+            range * range
+        }
     }
 }
 
@@ -117,6 +122,30 @@ fn write_top(out: &mut [u32], at: usize, n: u32, v: u32)
     write_bits(out, at + 1 + b, b, rest(n, v));
 }
 
+// Two numbers and their products from `at`: x, x × x, y, x × y.
+fn write_products(out: &mut [u32], at: usize, x: u32, y: u32)
+    requires { ⌜ (at + 4 ≤ length (now out)) × (x * x < 4294967296) × (x * y < 4294967296) ⌝ }
+    ensures { λ _. ⌜ now (out .exit) ≡ splice (now (out .entry)) at (x ∷ x * x ∷ y ∷ x * y ∷ []) ⌝ }
+{
+    out[at] = x;
+    out[at + 1] = x * x;
+    out[at + 2] = y;
+    out[at + 3] = x * y;
+}
+
+// The two numbers of v and their products from `at`, and the n bits of each number behind them.
+fn write_point(out: &mut [u32], at: usize, n: usize, v: u32)
+    requires { ⌜ (at + entriesOf (point n) ≤ length (now out)) × InLimits (point n) ⌝ }
+    ensures { λ _. ⌜ now (out .exit) ≡ splice (now (out .entry)) at (tabulate (encoded (point n) v) (entriesOf (point n))) ⌝ }
+{
+    let range = power(n);
+    let x = v % range;
+    let y = v / range;
+    write_products(out, at, x, y);
+    write_bits(out, at + 4, n, x);
+    write_bits(out, at + 4 + n, n, y);
+}
+
 // The entries of one column from `at`.
 fn encode_column(column: Column, v: u32, out: &mut [u32], at: usize)
     requires { ⌜ (at + entriesOf (fromCode column) ≤ length (now out)) × InLimits (fromCode column) ⌝ }
@@ -135,6 +164,9 @@ fn encode_column(column: Column, v: u32, out: &mut [u32], at: usize)
         }
         Column::Top(n) => {
             write_top(out, at, n, v);
+        }
+        Column::Point(n) => {
+            write_point(out, at, n, v);
         }
     }
 }

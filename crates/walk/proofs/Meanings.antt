@@ -1,19 +1,19 @@
--- The walks as walks of parts, and the inputs at a server and on a list as inputs by a meaning on numbers: they name no
--- constant but p - 1. By induction on the columns. Assumes nothing.
+-- The walks as walks of parts, and the left inputs at a server and on a list as inputs by a meaning on numbers: they name no
+-- constant. By induction on the columns. Assumes nothing.
 use mathlib.Core.Path.{_≡_, refl, ap, ap₂}
-use mathlib.Core.List.{List, [], _∷_, _++_}
+use mathlib.Core.List.{List, [], _∷_, _++_, map}
 use Prim.Native.Nat.{ℕ, _+_}
 use native.Mathlib.Omega.{arith}
 use Rattle.algebra.specs.Lists.{tabulate}
-use Rattle.algebra.proofs.Tables.{length-tabulate}
 use Rattle.field.specs.Residues.{residues}
 use Rattle.rules.specs.Settings.{document01}
-use Rattle.rules.specs.Columns.{Column, yesNo, choice, number, top, entriesOf}
-use Rattle.rules.specs.Circuit.{gatesOf, testsOf, gatesIn, testsIn}
+use Rattle.rules.specs.Columns.{Column, yesNo, choice, number, top, point, entriesOf}
+use Rattle.rules.specs.Circuit.{bitsOf, productsAt, gatesOf, testsOf, gatesIn, testsIn}
 use Rattle.rules.specs.Run.{Meaning, onList, atServer}
-use Rattle.rules.specs.Walk.{lessOne, bitsAt, columnLefts, columnRights, columnTests}
-use Rattle.rules.specs.Walk.{walkLefts, walkRights, walkTests}
-use Rattle.rules.proofs.Circuits.Walk.{column-tests}
+use Rattle.rules.specs.Walk.{bitsAt, columnLefts, columnTests, walkLefts, walkTests}
+use Rattle.rules.specs.Products.{columnExtras, walkExtras}
+use Rattle.rules.proofs.Circuits.Walk.{column-lefts, column-tests}
+use Rattle.rules.proofs.Returns.Products.{column-extras}
 use Rattle.columns.proofs.Sums.{gates, tests as test-count}
 use Rattle.walk.specs.Walks.{plain}
 use Rattle.walk.proofs.Walking.{walked, Parts}
@@ -22,13 +22,15 @@ use Rattle.walk.proofs.Walking.{walked, Parts}
 abbrev pub leftPart : Meaning ℕ → ℕ → ℕ → Column → List ℕ
 leftPart μ e t c = columnLefts document01 μ e c
 
+abbrev pub extraPart : ℕ → (ℕ → ℕ) → ℕ → ℕ → Column → List ℕ
+extraPart k x e t c = columnExtras residues k x e c
+
 abbrev pub testPart : Meaning ℕ → ℕ → ℕ → Column → List ℕ
 testPart μ e t c = columnTests document01 μ e t c
 
 module _ (μ : Meaning ℕ) where
   pub lefts : Parts (leftPart μ) gatesOf gatesIn
-  unfolding columnLefts
-  lefts = record { total = gates; each = λ e t c. length-tabulate _ (gatesOf c) }
+  lefts = record { total = gates; each = λ e t c. column-lefts document01 μ c e }
 
   pub tests : Parts (testPart μ) testsOf testsIn
   tests = record { total = test-count; each = λ e t c. column-tests document01 μ c e t }
@@ -44,58 +46,42 @@ module _ (μ : Meaning ℕ) where
   tests-walked [] e t = refl
   tests-walked (c ∷ cs) e t = ap (columnTests document01 μ e t c ++_) (tests-walked cs (e + entriesOf c) (t + gatesOf c))
 
--- ---- inputs by two meanings that agree on what they name
-module _ (μ ν : Meaning ℕ) where
-  left-same : μ .entryAt ≡ ν .entryAt → (e : ℕ) (c : Column) → columnLefts document01 μ e c ≡ columnLefts document01 ν e c
+module _ (k : ℕ) (x : ℕ → ℕ) where
+  pub extras : Parts (extraPart k x) gatesOf gatesIn
+  extras = record { total = gates; each = λ e t c. column-extras residues k x c e }
+
+  pub extras-walked : (cs : List Column) (e t : ℕ) → walked (extraPart k x) e t cs ≡ walkExtras residues k x e cs
+  unfolding walked walkExtras
+  extras-walked [] e t = refl
+  extras-walked (c ∷ cs) e t =
+      ap (columnExtras residues k x e c ++_) (extras-walked cs (e + entriesOf c) (t + gatesOf c))
+
+-- ---- left inputs by two meanings with the same entries
+module _ (μ ν : Meaning ℕ) (same : μ .entryAt ≡ ν .entryAt) where
+  left-same : (e : ℕ) (c : Column) → columnLefts document01 μ e c ≡ columnLefts document01 ν e c
   unfolding columnLefts
-  left-same q e c = ap (λ (f : ℕ → ℕ). tabulate (λ i. f (bitsAt e c + i)) (gatesOf c)) q
+  left-same e c =
+      ap (λ (f : ℕ → ℕ). tabulate (λ i. f (bitsAt e c + i)) (bitsOf c) ++ map (λ p. f (p .left)) (productsAt e c)) same
 
-  right-same : lessOne document01 μ ≡ lessOne document01 ν → (e : ℕ) (c : Column)
-      → columnRights document01 μ e c ≡ columnRights document01 ν e c
-  unfolding columnRights
-  right-same q e c = ap (λ (f : ℕ → ℕ). tabulate (λ i. f (bitsAt e c + i)) (gatesOf c)) q
-
-  pub lefts-same : μ .entryAt ≡ ν .entryAt → (cs : List Column) (e : ℕ)
-      → walkLefts document01 μ e cs ≡ walkLefts document01 ν e cs
+  lefts-same : (cs : List Column) (e : ℕ) → walkLefts document01 μ e cs ≡ walkLefts document01 ν e cs
   unfolding walkLefts
-  lefts-same q [] e = refl
-  lefts-same q (c ∷ cs) e = ap₂ _++_ (left-same q e c) (lefts-same q cs (e + entriesOf c))
+  lefts-same [] e = refl
+  lefts-same (c ∷ cs) e = ap₂ _++_ (left-same e c) (lefts-same cs (e + entriesOf c))
 
-  pub rights-same : lessOne document01 μ ≡ lessOne document01 ν → (cs : List Column) (e : ℕ)
-      → walkRights document01 μ e cs ≡ walkRights document01 ν e cs
-  unfolding walkRights
-  rights-same q [] e = refl
-  rights-same q (c ∷ cs) e = ap₂ _++_ (right-same q e c) (rights-same q cs (e + entriesOf c))
+-- at a server and on a list
+pub server-lefts : (k : ℕ) (x h : ℕ → ℕ) (cs : List Column)
+    → walkLefts document01 (atServer residues k x h) 0 cs ≡ walkLefts document01 (plain 0 x) 0 cs
+server-lefts k x h cs = lefts-same (atServer residues k x h) (plain 0 x) refl cs 0
 
--- ---- the meanings at a server and on a list
-module _ (k : ℕ) (x h : ℕ → ℕ) where
-  abbrev at : Meaning ℕ
-  at = atServer residues k x h
-
-  abbrev m : ℕ
-  m = residues ._⊗_ k 2147483646
-
-  pub server-lefts : (cs : List Column) → walkLefts document01 at 0 cs ≡ walkLefts document01 (plain 0 x) 0 cs
-  server-lefts cs = lefts-same at (plain 0 x) refl cs 0
-
-  pub server-rights : (cs : List Column) → walkRights document01 at 0 cs ≡ walkRights document01 (plain m x) 0 cs
-  unfolding lessOne
-  server-rights cs = rights-same at (plain m x) refl cs 0
-
-module _ (x : ℕ → ℕ) where
-  pub list-lefts : (cs : List Column)
-      → walkLefts document01 (onList residues x) 0 cs ≡ walkLefts document01 (plain 0 x) 0 cs
-  list-lefts cs = lefts-same (onList residues x) (plain 0 x) refl cs 0
-
-  pub list-rights : (cs : List Column)
-      → walkRights document01 (onList residues x) 0 cs ≡ walkRights document01 (plain 2147483646 x) 0 cs
-  unfolding lessOne
-  list-rights cs = rights-same (onList residues x) (plain 2147483646 x) refl cs 0
+pub list-lefts : (x : ℕ → ℕ) (cs : List Column)
+    → walkLefts document01 (onList residues x) 0 cs ≡ walkLefts document01 (plain 0 x) 0 cs
+list-lefts x cs = lefts-same (onList residues x) (plain 0 x) refl cs 0
 
 -- the bit entries of a column are the last of its entries
-pub bits-fit : (e : ℕ) (c : Column) → bitsAt e c + gatesOf c ≡ e + entriesOf c
-unfolding bitsAt gatesOf entriesOf
+pub bits-fit : (e : ℕ) (c : Column) → bitsAt e c + bitsOf c ≡ e + entriesOf c
+unfolding bitsAt bitsOf entriesOf
 bits-fit e yesNo = refl
 bits-fit e (choice n) = refl
 bits-fit e (number n) = omega arith
 bits-fit e (top n) = omega arith
+bits-fit e (point n) = omega arith

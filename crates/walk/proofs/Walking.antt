@@ -64,6 +64,10 @@ behind s c is-read here h = go (decLt (c .index) (length (columnsOf s)))
         absurd (omega (arith, p .size-some, p .size-fits))
     go (no k) = omega arith
 
+pub all-walked : (s : List ℕ) (c : Cursor) → readSheet s ≡ ok (columnsOf s) → c ≡ cursorAt s (c .index) → length s ≤ c .at
+    → take (c .index) (columnsOf s) ≡ columnsOf s
+all-walked s c is-read here h = take-all (c .index) (columnsOf s) (behind s c is-read here h)
+
 -- what a turn knows of the column that it takes
 pub record Turned (s : List ℕ) (c : Cursor) (step : Step) : Type 0 where
   pub within : c .index < length (columnsOf s)
@@ -213,8 +217,7 @@ module _ {g : ℕ → ℕ → Column → List ℕ} {of : Column → ℕ} {In : L
     pub walk-finish : {d l : List ℕ} {c : Cursor} {done : ℕ} → readSheet s ≡ ok (columnsOf s) → Walking g In s d l c done
         → length s ≤ c .at → length d ≡ In (columnsOf s) → l ≡ walked g 0 0 (columnsOf s)
     walk-finish {d} {l} {c} {done} is-read w h m =
-        let all : take (c .index) (columnsOf s) ≡ columnsOf s
-        = take-all (c .index) (columnsOf s) (behind s c is-read (w .here) h) in
+        let all : take (c .index) (columnsOf s) ≡ columnsOf s = all-walked s c is-read (w .here) h in
         let none : length d ≤ done = omega (arith, w .count, ap In all) in
         w .filled
         ∙ ap₂ (λ x y. walked g 0 0 x ++ y) all (drop-of-length-le d none)

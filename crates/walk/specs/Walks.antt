@@ -2,7 +2,7 @@
 -- Assumes nothing.
 use mathlib.Core.Path.{_≡_}
 use mathlib.Core.List.{List, [], _∷_, _++_}
-use Prim.Native.Nat.{ℕ, suc, _+_, _*_, _≤_, _<_}
+use Prim.Native.Nat.{ℕ, suc, _+_, _-_, _*_, _≤_, _<_}
 use lib.ListN.{length, getD}
 use Rattle.records.specs.Outcome.{ok}
 use Rattle.algebra.specs.Lists.{tabulate}
@@ -37,6 +37,15 @@ outputs l xs j = getD xs (l + 2 + j) 0
 abbrev pub shared : ℕ → ℕ → List ℕ → Meaning ℕ
 shared k l xs = atServer residues k (members xs) (outputs l xs)
 
+-- the tests of a number, by the place of its outputs
+abbrev pub numberTestsAt : List ℕ → ℕ → ℕ → ℕ → ℕ → List ℕ
+numberTestsAt xs first a e n =
+    tabulate (λ i. members xs (first + i)) n ++ (numberTest document01 (plain 0 (members xs)) a e n ∷ [])
+
+-- the test of a product, by its output and the entry c that it has to be
+abbrev pub productTestAt : List ℕ → ℕ → ℕ → ℕ
+productTestAt xs output c = residues ._⊕_ (members xs output) (residues ._⊗_ (members xs c) (prime - 1))
+
 -- the tests of a top n, by the place of its outputs
 abbrev pub topTests : List ℕ → ℕ → ℕ → ℕ → ℕ → List ℕ
 topTests xs first e k n =
@@ -44,6 +53,15 @@ topTests xs first e k n =
     ++ (numberTest document01 (shared k 0 xs) e (suc e) (bitLength n)
     ∷ restTest document01 (shared k 0 xs) n e (suc e + bitLength n) (bitLength n)
     ∷ [])
+
+-- the tests of the two numbers of a point n, and those of the point, by the place of its outputs
+abbrev pub twoNumberTests : List ℕ → ℕ → ℕ → ℕ → List ℕ
+twoNumberTests xs first e n = numberTestsAt xs first e (e + 4) n ++ numberTestsAt xs (first + n) (e + 2) (e + 4 + n) n
+
+abbrev pub pointTests : List ℕ → ℕ → ℕ → ℕ → List ℕ
+pointTests xs first e n =
+    twoNumberTests xs first e n
+    ++ (productTestAt xs (first + 2 * n) (e + 1) ∷ productTestAt xs (first + 2 * n + 1) (e + 3) ∷ [])
 
 -- s is a sheet that is read, and xs starts with its entries
 pub record Entries (s xs : List ℕ) : Type 0 where

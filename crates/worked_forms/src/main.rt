@@ -22,6 +22,16 @@ fn tops() {
     forms::sheet(b"sheet 20, 3 bytes:\x14\xc8\0\0");
 }
 
+fn points() {
+    forms::sheet(b"sheet 21 8:\x15\x08");
+    forms::sheet(b"sheet 21 1:\x15\x01");
+    forms::sheet(b"sheet 21 12, 20 200, 21 2:\x15\x0c\x14\xc8\0\0\0\x15\x02");
+    forms::sheet(b"sheet 21 0:\x15\0");
+    forms::sheet(b"sheet 21 13:\x15\x0d");
+    forms::sheet(b"sheet 21 cut:\x15");
+    forms::sheet(b"sheet 22 1:\x16\x01");
+}
+
 fn long_sheets() {
     printing::write(b"256 columns of 17");
     forms::counts(&[17; 256]);
@@ -61,6 +71,7 @@ fn circuits() {
 fn main() {
     sheets();
     tops();
+    points();
     long_sheets();
     values();
     written();

@@ -32,13 +32,26 @@ returns-4 c =
 returns-5 : tie.Need-returns-5
 unfolding bytesOfKind columnBody
 returns-5 c =
-    let i = c .before .before in
+    let i = c .before .before .before in
     simp (
       ne-eqb _ 17 (i .before .if1 .left),
       ne-eqb _ 18 (i .if2 .left),
-      ne-eqb _ 19 (c .before .if3 .left),
-      ne-eqb _ 20 (c .if4 .left),
+      ne-eqb _ 19 (c .before .before .if3 .left),
+      ne-eqb _ 20 (c .before .if4 .left),
+      eq-eqb _ 21 (c .if5 .taken),
+    ) refl
+
+returns-6 : tie.Need-returns-6
+unfolding bytesOfKind columnBody
+returns-6 c =
+    let i = c .before .before .before in
+    simp (
+      ne-eqb _ 17 (i .before .if1 .left),
+      ne-eqb _ 18 (i .if2 .left),
+      ne-eqb _ 19 (c .before .before .if3 .left),
+      ne-eqb _ 20 (c .before .if4 .left),
+      ne-eqb _ 21 (c .if5 .left),
     ) refl
 
 pub bytes-of-spec : {M : Type 1} → statement M
-bytes-of-spec = tie.close (tie.spec returns returns-2 returns-3 returns-4 returns-5)
+bytes-of-spec = tie.close (tie.spec returns returns-2 returns-3 returns-4 returns-5 returns-6)

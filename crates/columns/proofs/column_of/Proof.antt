@@ -19,7 +19,7 @@ returns c = rw (eq-eqb _ 17 (c .if1 .taken)) refl
 shared-slice-read-wide : tie.Need-shared-slice-read-wide
 shared-slice-read-wide c =
     let i = c .before .before in
-    omega (arith, body-some _ _ (i .if1 .left) (i .before .before .pre))
+    omega (arith, body-some _ _ (i .before .before .pre) (i .if1 .left))
 
 wide-requires : tie.Need-wide-requires
 wide-requires c κs = search needs
@@ -36,7 +36,7 @@ returns-2 c =
 shared-slice-read-wide-2 : tie.Need-shared-slice-read-wide-2
 shared-slice-read-wide-2 c =
     let i = c .before .before .before in
-    omega (arith, body-some _ _ (i .if1 .left) (i .before .before .pre))
+    omega (arith, body-some _ _ (i .before .before .pre) (i .if1 .left))
 
 wide-requires-2 : tie.Need-wide-requires-2
 wide-requires-2 c κs = search needs
@@ -57,10 +57,8 @@ returns-3 c =
     )
 
 -- the body of a top has four bytes
-four : (c : tie.Else3) → length (c .before .before .before .before .args .body .now) ≡ 4
-four c =
-    let i = c .before .before in
-    body-four _ _ (i .if1 .left) (i .before .before .pre) (c .before .if2 .left) (c .if3 .left)
+four : (c : tie.Then4) → length (c .before .before .before .before .before .args .body .now) ≡ 4
+four c = body-four _ _ (c .before .before .before .before .before .pre) (c .if4 .taken)
 
 read-u32-requires : tie.Need-read-u32-requires
 read-u32-requires c κs = omega (arith, four c)
@@ -72,14 +70,40 @@ returns-4 : tie.Need-returns-4
 unfolding columnOf
 returns-4 c =
     let o = c .before .before in
-    let i = o .before .before in
+    let i = o .before .before .before in
     rw (
       c .top-of .ensures,
       c .before .read-u32 .ensures,
       take-all 4 (i .before .before .args .body .now) (omega (arith, four o)),
       ne-eqb _ 17 (i .if1 .left),
-      ne-eqb _ 18 (o .before .if2 .left),
-      ne-eqb _ 19 (o .if3 .left),
+      ne-eqb _ 18 (o .before .before .if2 .left),
+      ne-eqb _ 19 (o .before .if3 .left),
+      eq-eqb _ 20 (o .if4 .taken),
+    )
+
+shared-slice-read-wide-3 : tie.Need-shared-slice-read-wide-3
+shared-slice-read-wide-3 c =
+    let i = c .before .before .before .before in
+    omega (arith, body-some _ _ (i .before .before .pre) (i .if1 .left))
+
+wide-requires-3 : tie.Need-wide-requires-3
+wide-requires-3 c κs = search needs
+
+point-of-requires : tie.Need-point-of-requires
+point-of-requires c κs = search needs
+
+returns-5 : tie.Need-returns-5
+unfolding columnOf
+returns-5 c =
+    let o = c .before .before .before in
+    let i = o .before .before .before in
+    rw (
+      c .point-of .ensures,
+      c .before .wide3 .ensures,
+      ne-eqb _ 17 (i .if1 .left),
+      ne-eqb _ 18 (o .before .before .if2 .left),
+      ne-eqb _ 19 (o .before .if3 .left),
+      ne-eqb _ 20 (o .if4 .left),
     )
 
 pub column-of-spec : {M : Type 1} → statement M
@@ -97,4 +121,8 @@ column-of-spec =
     returns-3
     read-u32-requires
     top-of-requires
-    returns-4)
+    returns-4
+    shared-slice-read-wide-3
+    wide-requires-3
+    point-of-requires
+    returns-5)

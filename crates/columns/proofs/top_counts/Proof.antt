@@ -4,7 +4,7 @@ use Prim.Native.Nat.{_*_}
 use native.Mathlib.Numerals.{add-one}
 use borrow.Author.Needs.{needs}
 use Rattle.rules.specs.Columns.{entriesOf, publishedOf, largestOf}
-use Rattle.rules.specs.Circuit.{constantsOf, gatesOf, testsOf}
+use Rattle.rules.specs.Circuit.{constantsOf, gatesOf, productsAt, productsOf, testsOf}
 use Rattle.columns.proofs.Taken.{counts-one}
 use Rattle.columns.proofs.top_counts.Statement.{statement}
 use Rattle.columns.proofs.top_counts.Tie as tie
@@ -25,7 +25,7 @@ add-t7 : tie.Need-add-t7
 add-t7 c = search needs
 
 returns : tie.Need-returns
-unfolding entriesOf publishedOf constantsOf gatesOf testsOf largestOf
+unfolding entriesOf publishedOf constantsOf gatesOf productsOf productsAt testsOf largestOf
 returns c = rw (counts-one _, ← c .pre .1, add-one (2 * c .args .b)) refl
 
 pub top-counts-spec : {M : Type 1} → statement M

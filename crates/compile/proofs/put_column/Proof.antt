@@ -75,6 +75,22 @@ put-top-requires c κs =
     let room = rw (g .column3 .given .1) at (a .pre .0) in
     (room, l .1, c .bit-length .ensures, few c, a .pre .2, a .pre .3)
 
+enum-known-column-4 : tie.Need-enum-known-column-4
+enum-known-column-4 c = search needs
+
+cast-put-point : tie.Need-cast-put-point
+cast-put-point c =
+    let g = c .before .before in
+    let few = rw (g .column4 .given .1) at (g .before .before .before .pre .1) in
+    omega arith
+
+put-point-requires : tie.Need-put-point-requires
+put-point-requires c κs =
+    let a = c .before .before .before .before .before in
+    let few = rw (c .before .before .column4 .given .1) at (a .pre .1) in
+    let room = rw (c .before .before .column4 .given .1) at (a .pre .0) in
+    (room, few .1, a .pre .2, a .pre .3)
+
 same-length : tie.Need-same-length
 same-length c = search needs
 
@@ -102,6 +118,12 @@ same-length-4 c = search needs
 returns-4 : tie.Need-returns-4
 returns-4 c = rw (c .before .before .before .before .before .before .column3 .given .1) (c .before .before .put-top .ensures)
 
+same-length-5 : tie.Need-same-length-5
+same-length-5 c = search needs
+
+returns-5 : tie.Need-returns-5
+returns-5 c = rw (c .before .before .before .before .before .column4 .given .1) (c .before .before .put-point .ensures)
+
 pub put-column-spec : {M : Type 1} → statement M
 put-column-spec =
     tie.close
@@ -118,6 +140,9 @@ put-column-spec =
     bit-length-requires
     cast-put-top
     put-top-requires
+    enum-known-column-4
+    cast-put-point
+    put-point-requires
     same-length
     returns
     same-length-2
@@ -125,4 +150,6 @@ put-column-spec =
     same-length-3
     returns-3
     same-length-4
-    returns-4)
+    returns-4
+    same-length-5
+    returns-5)

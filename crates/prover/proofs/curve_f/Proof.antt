@@ -22,7 +22,7 @@ scale-requires c κs =
     let some : 0 < length (s .args .fs .now) = omega (arith, s .pre .1 .1, s .pre .0 .2) in (
       (
         subst (λ (k : ℕ). Weights k (s .args .weights .now)) (last-point (s .pre .1 .1 ∙ s .pre .0 .2)) (s .pre .1 .0),
-        subst Elements (sym (w .ensures)) (f-elements (s .args .x .now) _ (s .pre .0 .1) (s .pre .0 .0 .elements)),
+        subst Elements (sym (w .ensures .0)) (f-elements (s .args .x .now) _ (s .pre .0 .1) (s .pre .0 .0 .elements)),
       ),
       (w .kept .1 .1 .1 .0 ∙ sym (s .pre .1 .1), some),
     )
@@ -37,12 +37,13 @@ returns : tie.Need-returns
 returns c =
     let s = c .before .before .before .before .before .before .before .before .before .before .before .before .before .before in
     let w = c .before .before .before .before .before .before .before .fill-f in (
-      w .ensures,
+      w .ensures .0,
       record {
         size = w .kept .1 .1 .1 .0 ∙ s .pre .0 .2;
-        elements = subst Elements (sym (w .ensures)) (f-elements (s .args .x .now) _ (s .pre .0 .1) (s .pre .0 .0 .elements));
+        elements = subst Elements (sym (w .ensures .0)) (f-elements (s .args .x .now) _ (s .pre .0 .1) (s .pre .0 .0 .elements));
         scaled-are = c .before .before .scale .ensures ∙ scaled-from (w .last .1 .1 .1 .0) _ _ (s .pre .1 .1 ∙ s .pre .0 .2);
       },
+      w .ensures .1,
     )
 
 pub curve-f-spec : {M : Type 1} → statement M

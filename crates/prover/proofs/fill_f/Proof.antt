@@ -33,7 +33,7 @@ returns : tie.Need-returns
 returns c =
     let s = c .before .before .before .before .before .before .before in
     let w = c .before .before .fill-lefts in
-    behind-first (s .args .out .now) _ (s .pre .1) (w .last .1 .1 .0) (w .kept .1 .1 .0) (w .ensures)
+    (behind-first (s .args .out .now) _ (s .pre .1) (w .last .1 .1 .0) (w .kept .1 .1 .0) (w .ensures .0), w .ensures .1)
 
 pub fill-f-spec : {M : Type 1} → statement M
 fill-f-spec =

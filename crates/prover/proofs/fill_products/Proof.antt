@@ -1,4 +1,5 @@
--- `prover::fill_products` meets its contract: its loop fills the buffer by the rule of its products. Assumes nothing.
+-- `prover::fill_products` meets its contract: its loop fills the buffer by the rule of its products, each from the value that stands
+-- there (`unfilled`). Assumes nothing.
 use mathlib.Core.Path.{ap₂, _∙_}
 use Prim.Native.Nat.{_-_}
 use native.Mathlib.Nat.{mod-lt}
@@ -6,44 +7,47 @@ use native.Mathlib.Omega.{arith}
 use lib.Dec.{lit<}
 use lib.ListN.{length}
 use Rattle.field.specs.Residues.{residues}
-use Rattle.interpolation.proofs.Through.{interpolate-below}
+use Rattle.field.proofs.Below.{member-below}
+use Rattle.walk.specs.Walks.{members}
 use Rattle.walk.proofs.Filling.{Filling, start, turn, finish}
-use Rattle.prover.specs.Curves.{valueAt, shiftAt}
+use Rattle.prover.specs.Curves.{productOf}
+use Rattle.prover.proofs.InPlace.{unfilled}
 use Rattle.prover.proofs.Shifts.{shift-below}
 use borrow.Author.Needs.{needs}
 use Rattle.prover.proofs.fill_products.Statement.{statement}
 use Rattle.prover.proofs.fill_products.Tie as tie
 
 abbrev Inv-loop : tie.InvT-loop
-Inv-loop f fs d k falls back out₀ j₀ out j =
-    Filling
-    (λ j. residues ._⊗_ (valueAt (length falls) f j)
-    (residues ._⊕_ (valueAt (length falls) f j) (shiftAt (length falls) d j)))
-    out₀ out j
+Inv-loop d k falls back out₀ j₀ out j = Filling (λ j. productOf (length falls) (members out₀ j) d j) out₀ out j
 
 abbrev μ-loop : tie.MeasureT-loop
-μ-loop f fs d k falls back out₀ j₀ out j = length out₀ - j
+μ-loop d k falls back out₀ j₀ out j = length out₀ - j
 
 loop-holds : tie.Need-loop-holds Inv-loop μ-loop
 loop-holds c = start _ _
 
-value-requires : tie.Need-value-requires Inv-loop μ-loop
-value-requires c κs =
-    let s = c .before .before .before .before .before .before .before in
-    (s .pre .0 .0, s .pre .1 .0, omega (arith, s .pre .1 .1, c .before .loop .inv .same))
+mul-y : tie.Need-mul-y Inv-loop μ-loop
+mul-y c = search needs
+
+slice-read-y : tie.Need-slice-read-y Inv-loop μ-loop
+slice-read-y c = search needs
 
 shift-requires : tie.Need-shift-requires Inv-loop μ-loop
 shift-requires c κs =
-    let s = c .before .before .before .before .before .before .before .before in
-    (s .pre .0 .1, s .pre .0 .2, s .pre .1 .0, omega (arith, s .pre .1 .1, c .before .before .loop .inv .same))
+    let s = c .before .before .before .before .before .before in
+    (s .pre .0 .0, s .pre .0 .1, s .pre .0 .2, omega (arith, s .pre .1 .1, c .before .before .loop .inv .same))
 
 add-requires : tie.Need-add-requires Inv-loop μ-loop
 add-requires c κs =
-    (rw (c .before .value .ensures) (interpolate-below _ _ _), rw (c .shift .ensures) (shift-below _ _ _))
+    let s = c .before .before .before .before .before .before .before in
+    let l = c .before .before .before .loop in
+    (rw (unfilled _ (l .inv)) (member-below _ _ (s .pre .1 .0)), rw (c .shift .ensures) (shift-below _ _ _))
 
 mul-requires : tie.Need-mul-requires Inv-loop μ-loop
 mul-requires c κs =
-    (rw (c .before .before .value .ensures) (interpolate-below _ _ _), rw (c .add .ensures) (mod-lt _ (lit< tt)))
+    let s = c .before .before .before .before .before .before .before .before in
+    let l = c .before .before .before .before .loop in
+    (rw (unfilled _ (l .inv)) (member-below _ _ (s .pre .1 .0)), rw (c .add .ensures) (mod-lt _ (lit< tt)))
 
 mul-out : tie.Need-mul-out Inv-loop μ-loop
 mul-out c = search needs
@@ -60,7 +64,7 @@ loop-less c = search needs
 loop-again : tie.Need-loop-again Inv-loop μ-loop
 loop-again c =
     let l = c .before .before .before .before .before .loop in
-    let y = c .before .before .before .value .ensures in
+    let y = unfilled _ (l .inv) in
     turn _ (c .mul .result) (l .inv) (omega (arith, l .inv .same))
     (c .mul .ensures
     ∙ ap₂ (residues ._⊗_) y (c .before .add .ensures ∙ ap₂ (residues ._⊕_) y (c .before .before .shift .ensures)))
@@ -78,7 +82,8 @@ fill-products-spec =
     Inv-loop
     μ-loop
     loop-holds
-    value-requires
+    mul-y
+    slice-read-y
     shift-requires
     add-requires
     mul-requires

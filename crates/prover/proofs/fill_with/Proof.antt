@@ -1,5 +1,5 @@
--- `prover::fill_with` meets its contract: f by its values, g by its difference from f, then the products. Assumes nothing.
-use mathlib.Core.Path.{_≡_, sym, ap, _∙_, subst}
+-- `prover::fill_with` meets its contract: f by its values, then the products with g, which is f, corrected. Assumes nothing.
+use mathlib.Core.Path.{_≡_, sym, _∙_, subst}
 use Prim.Native.Nat.{ℕ, suc, _+_, _≤_}
 use native.Mathlib.Nat.{mod-lt}
 use native.Mathlib.Omega.{arith}
@@ -8,9 +8,8 @@ use lib.ListN.{length, length-append}
 use lib.Seq.{length-take-le, take-at}
 use Rattle.rules.specs.Columns.{columnsOf}
 use Rattle.rules.specs.Circuit.{gatesIn}
-use Rattle.prover.specs.Curves.{scaledShift, Weights, Curve}
+use Rattle.prover.specs.Curves.{Weights, Curve}
 use Rattle.prover.proofs.Inputs.{h-from}
-use Rattle.prover.proofs.Weighted.{last-point, weights-long}
 use borrow.Author.Needs.{needs}
 use Rattle.prover.proofs.fill_with.Statement.{statement}
 use Rattle.prover.proofs.fill_with.Tie as tie
@@ -51,27 +50,18 @@ curve-f-requires c κs =
 sub-requires : tie.Need-sub-requires
 sub-requires c κs = search needs
 
-scaled-shift-requires : tie.Need-scaled-shift-requires
-scaled-shift-requires c κs =
-    let s = c .before .before .before .before .before .before .before .before .before .before .before .before in
-    let many = weights-long (s .pre .1 .0) in (
-      subst (λ (k : ℕ). Weights k (s .args .weights .now)) (last-point many) (s .pre .1 .0),
-      omega (arith, many),
-      rw (c .sub .ensures) (mod-lt _ (lit< tt)),
-    )
-
 array-share-prefix-f : tie.Need-array-share-prefix-f
 array-share-prefix-f c =
-    let p = c .before .before .before .before in
+    let p = c .before .before .before in
     let f = p .curve-f in
     let s = p .before .before .before .before .before .before .before .before .before in
     let few : length (s .args .falls .now) + 1 ≤ 257 = omega (arith, s .pre .1 .1 .few) in
     let n = length-take-le _ _ few in
     rw (length-append, f .kept .1 .1 .1 .1 .0 ∙ n) (omega arith)
 
-slice-aggregate-fill-products : tie.Need-slice-aggregate-fill-products
-slice-aggregate-fill-products c =
-    let p = c .before .before .before .before .before in
+slice-aggregate-fill-from : tie.Need-slice-aggregate-fill-from
+slice-aggregate-fill-from c =
+    let p = c .before .before .before .before in
     let f = p .curve-f in
     let s = p .before .before .before .before .before .before .before .before .before in
     let few : length (s .args .falls .now) + 1 ≤ 257 = omega (arith, s .pre .1 .1 .few) in
@@ -81,16 +71,16 @@ slice-aggregate-fill-products c =
 
 array-share-prefix-fs : tie.Need-array-share-prefix-fs
 array-share-prefix-fs c =
-    let p = c .before .before .before .before .before in
+    let p = c .before .before .before .before in
     let f = p .curve-f in
     let s = p .before .before .before .before .before .before .before .before .before in
     let few : length (s .args .falls .now) + 1 ≤ 257 = omega (arith, s .pre .1 .1 .few) in
     let n = length-take-le _ _ few in
     rw (length-append, f .kept .1 .1 .1 .1 .1 .0 ∙ n) (omega arith)
 
-slice-aggregate-fill-products-2 : tie.Need-slice-aggregate-fill-products-2
-slice-aggregate-fill-products-2 c =
-    let p = c .before .before .before .before .before .before in
+slice-aggregate-fill-from-2 : tie.Need-slice-aggregate-fill-from-2
+slice-aggregate-fill-from-2 c =
+    let p = c .before .before .before .before .before in
     let f = p .curve-f in
     let s = p .before .before .before .before .before .before .before .before .before in
     let few : length (s .args .falls .now) + 1 ≤ 257 = omega (arith, s .pre .1 .1 .few) in
@@ -98,9 +88,9 @@ slice-aggregate-fill-products-2 c =
     let l = f .kept .1 .1 .1 .1 .1 .0 ∙ n in
     rw (take-at _ _ _ l) (sym l)
 
-fill-products-requires : tie.Need-fill-products-requires
-fill-products-requires c κs =
-    let p = c .before .before .before .before .before .before .before in
+fill-from-requires : tie.Need-fill-from-requires
+fill-from-requires c κs =
+    let p = c .before .before .before .before .before .before in
     let f = p .curve-f in
     let s = p .before .before .before .before .before .before .before .before .before in
     let few : length (s .args .falls .now) + 1 ≤ 257 = omega (arith, s .pre .1 .1 .few) in
@@ -109,14 +99,13 @@ fill-products-requires c κs =
       take-at (f .last .1 .1 .1 .1 .0) _ _ (f .kept .1 .1 .1 .1 .0 ∙ n),
       take-at (f .last .1 .1 .1 .1 .1 .0) _ _ (f .kept .1 .1 .1 .1 .1 .0 ∙ n),
     ) (
+      (s .pre .0 .0, f .ensures .2, rw (c .before .before .before .sub .ensures) (mod-lt _ (lit< tt)), s .pre .0 .3),
       (
         subst (λ (k : ℕ). Curve k (f .last .1 .1 .1 .1 .0) (f .last .1 .1 .1 .1 .1 .0)) (sym (s .pre .0 .3)) (f .ensures .1),
-        rw (c .before .before .before .before .sub .ensures) (mod-lt _ (lit< tt)),
-        c .before .before .before .scaled-shift .ensures
-            ∙ ap (λ (k : ℕ). scaledShift k (c .before .before .before .before .sub .result))
-            (sym (last-point (weights-long (s .pre .1 .0)))),
+        s .pre .1 .0,
+        s .pre .1 .1,
+        omega (arith, s .pre .1 .2),
       ),
-      (s .pre .1 .1, omega (arith, s .pre .1 .2)),
     )
 
 same-length : tie.Need-same-length
@@ -124,7 +113,7 @@ same-length c = search needs
 
 returns : tie.Need-returns
 returns c =
-    let p = c .before .before .before .before .before .before .before .before .before .before in
+    let p = c .before .before .before .before .before .before .before .before .before in
     let f = p .curve-f in
     let s = p .before .before .before .before .before .before .before .before .before in
     let few : length (s .args .falls .now) + 1 ≤ 257 = omega (arith, s .pre .1 .1 .few) in
@@ -132,9 +121,9 @@ returns c =
     let n = length-take-le _ _ few in
     h-from (s .args .x .now) (columnsOf (s .args .sheet .now)) (s .args .u) (s .args .v)
     most (s .pre .0 .1) (s .pre .0 .2) (s .pre .0 .0 .elements)
-    (c .before .before .fill-products .ensures) (s .pre .0 .3) (s .pre .1 .2)
+    (c .before .before .fill-from .ensures) (s .pre .0 .3) (s .pre .1 .2)
     (take-at (f .last .1 .1 .1 .1 .0) _ _ (f .kept .1 .1 .1 .1 .0 ∙ n)) (f .ensures .0)
-    (c .before .before .before .before .before .before .before .sub .ensures)
+    (c .before .before .before .before .before .before .sub .ensures)
 
 pub fill-with-spec : {M : Type 1} → statement M
 fill-with-spec =
@@ -147,11 +136,10 @@ fill-with-spec =
     slice-aggregate-curve-f-2
     curve-f-requires
     sub-requires
-    scaled-shift-requires
     array-share-prefix-f
-    slice-aggregate-fill-products
+    slice-aggregate-fill-from
     array-share-prefix-fs
-    slice-aggregate-fill-products-2
-    fill-products-requires
+    slice-aggregate-fill-from-2
+    fill-from-requires
     same-length
     returns)

@@ -48,6 +48,14 @@ module _ (c : Column) (after : List Column) where
       ∙ encoding-tail d all v vs (entriesIn before + i)
       ∙ entry-behind i l before vs (legal-tail d all v vs h)
 
+  pub entry-within : (i : ℕ) → i < entriesOf c → (before : List Column)
+      → entriesIn before + i < entriesIn (before ++ (c ∷ after))
+  unfolding entriesIn
+  entry-within i l [] = omega arith
+  entry-within i l (d ∷ before) =
+      let h : entriesIn before + i < entriesIn (before ++ (c ∷ after)) = entry-within i l before in
+      omega arith
+
   -- its published entries
   pub published-behind : (i : ℕ) → i < publishedOf c → (before : List Column) (a : ℕ)
       → getD (publishedFrom a (before ++ (c ∷ after))) (publishedIn before + i) 0 ≡ a + (entriesIn before + i)

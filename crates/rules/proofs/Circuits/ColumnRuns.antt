@@ -1,21 +1,21 @@
 -- The run of one column's steps: it adds the column's own inputs and tests, and leaves wire 0 as it was. By the kinds of
--- columns, each a run of bit checks and then its sums. Assumes nothing.
-use mathlib.Core.Path.{_≡_, refl, _∙_, ap}
+-- columns, each a run of bit checks and then its sums; numbers and points are in NumberRuns. Assumes nothing.
+use mathlib.Core.Path.{_≡_, refl, sym, _∙_, ap}
 use mathlib.Core.List.{List, [], _∷_, _++_, append-nil}
 use Prim.Native.Nat.{ℕ, suc, _+_, _-_, _*_, _^_, _≤_, _<_}
 use native.Mathlib.Omega.{arith}
 use lib.ListN.{length}
 use Rattle.algebra.specs.Lists.{tabulate}
 use Rattle.rules.specs.Settings.{Setting}
-use Rattle.rules.specs.Columns.{Column, yesNo, choice, number, top, bitLength}
-use Rattle.rules.specs.Circuit.{Step, constant, add, scale, test, bitChecks, optionSum, optionAdds, bitSum}
-use Rattle.rules.specs.Circuit.{topSums, topSteps, columnSteps}
-use Rattle.rules.specs.Circuit.{wiresOf, gatesOf}
+use Rattle.rules.specs.Columns.{Column, yesNo, choice, number, top, point, bitLength}
+use Rattle.rules.specs.Circuit.{Step, constant, add, test, bitChecks, optionSum, optionAdds, bitSum}
+use Rattle.rules.specs.Circuit.{topSums, topSteps, columnSteps, wiresOf, bitsOf, productsAt}
 use Rattle.rules.specs.Run.{Meaning, Trace, makeWire, wireAt, stepRun, runFrom}
 use Rattle.rules.specs.Walk.{sumFrom, lessOne, bitsAt, columnLefts, columnRights, bitTests, weighted, numberTest}
 use Rattle.rules.specs.Walk.{restTest, columnTests}
 use Rattle.rules.proofs.Circuits.Growth.{run-append, last-wire, old-wire, more-wires, Grown, one-wire, one-test}
 use Rattle.rules.proofs.Circuits.Growth.{then, grown-is, grown-to, scale-run, test-run, add-run}
+use Rattle.rules.proofs.Circuits.NumberRuns.{number-run, point-run}
 use Rattle.rules.proofs.Circuits.Stretches.{Before, after, before-is, Bits, after-bits, bits-run, Summed, options-run, sum-run}
 
 module _ {X : Type 0} (σ : Setting) (μ : Meaning X) where
@@ -54,61 +54,6 @@ module _ {X : Type 0} (σ : Setting) (μ : Meaning X) where
       sums =
           options-run σ μ (λ i. μ .entryAt (e + i)) n s1 w q (now .minus-one) (now .wires-are) (omega arith)
           (bits .bits-wires)
-
-  number-run : (n : ℕ) (s : Trace X) (e w t : ℕ) → Before σ μ s w t
-      → Grown μ s (runFrom μ s (columnSteps σ e w (number n))) (suc (3 * n) + suc (2 * n))
-      (tabulate (λ i. μ .entryAt (suc e + i)) n)
-      (tabulate (λ i. lessOne σ μ (suc e + i)) n)
-      (columnTests σ μ e t (number n))
-  unfolding columnSteps columnTests bitTests numberTest weighted bitSum runFrom stepRun
-  number-run n s e w t b =
-      grown-to μ
-      (run-append μ (bitChecks n (suc e) (suc w)) (scale w m ∷ bitSum n (suc w) q) s1
-      ∙ ap (λ z. runFrom μ z (bitSum n (suc w) q)) (scale-run μ s2 w v-wire m))
-      (grown-is μ
-      (then μ (one-wire μ s x) (then μ (bits .bits-grown) (then μ (one-wire μ s2 y) sums)))
-      (omega arith) (append-nil _) (append-nil _) refl)
-    where
-      m : ℕ
-      m = σ .modulus - 1
-
-      q : ℕ
-      q = suc w + 3 * n
-
-      x : X
-      x = μ .entryAt e
-
-      y : X
-      y = μ .times x m
-
-      s1 : Trace X
-      s1 = makeWire x s
-
-      s2 : Trace X
-      s2 = runFrom μ s1 (bitChecks n (suc e) (suc w))
-
-      s3 : Trace X
-      s3 = makeWire y s2
-
-      first : Before σ μ s1 (suc w) t
-      first = before-is σ μ (after σ μ b (one-wire μ s x) 0 refl) (omega arith) (omega arith)
-
-      bits : Bits σ μ s1 s2 n (suc e) (suc w) t
-      bits = bits-run σ μ n s1 (suc e) (suc w) t first
-
-      now : Before σ μ s2 q (t + n)
-      now = after-bits σ μ first bits
-
-      v-wire : wireAt μ s2 w ≡ x
-      v-wire = bits .bits-grown .kept w (omega (arith, first .wires-are)) ∙ last-wire μ s x w (b .wires-are)
-
-      sums : Grown μ s3 (runFrom μ s3 (bitSum n (suc w) q)) (2 * n) [] [] (numberTest σ μ e (suc e) n ∷ [])
-      sums =
-          sum-run σ μ (λ i. μ .entryAt (suc e + i)) y n s3 (suc w) q
-          (last-wire μ s2 y q (now .wires-are))
-          (more-wires μ s2 y ∙ omega (arith, now .wires-are))
-          (omega arith)
-          (λ j l. old-wire μ s2 y (suc w + 3 * j) (omega (arith, now .wires-are)) ∙ bits .bits-wires j l)
 
   -- the two sums of a top: wire w holds v, and the wires from suc w its 2b bit entries
   tops-run : (b n : ℕ) (s : Trace X) (e w q : ℕ) → length (s .wires) ≡ q → suc w + 3 * (2 * b) ≤ q
@@ -225,11 +170,15 @@ module _ {X : Type 0} (σ : Setting) (μ : Meaning X) where
           (numberTest σ μ e (suc e) b ∷ restTest σ μ n e (suc e + b) b ∷ [])
       sums = tops-run b n s2 e w q (after-bits σ μ first bits .wires-are) (omega arith) v-wire (bits .bits-wires)
 
+  no-products : {s s' : Trace X} {n : ℕ} {ls rs ts : List X} → Grown μ s s' n ls rs ts → Grown μ s s' n (ls ++ []) (rs ++ []) ts
+  no-products g = grown-is μ g refl (sym (append-nil _)) (sym (append-nil _)) refl
+
   pub column-run : (c : Column) (s : Trace X) (e w t : ℕ) → Before σ μ s w t
       → Grown μ s (runFrom μ s (columnSteps σ e w c)) (wiresOf c)
       (columnLefts σ μ e c) (columnRights σ μ e c) (columnTests σ μ e t c)
-  unfolding columnSteps wiresOf gatesOf bitsAt columnLefts columnRights bitTests columnTests
-  column-run yesNo s e w t b = bits-run σ μ 1 s e w t b .bits-grown
-  column-run (choice n) s e w t b = choice-run n s e w t b
-  column-run (number n) s e w t b = number-run n s e w t b
-  column-run (top n) s e w t b = top-run (bitLength n) n s e w t b
+  unfolding columnSteps wiresOf bitsOf bitsAt productsAt columnLefts columnRights bitTests columnTests
+  column-run yesNo s e w t b = no-products (bits-run σ μ 1 s e w t b .bits-grown)
+  column-run (choice n) s e w t b = no-products (choice-run n s e w t b)
+  column-run (number n) s e w t b = no-products (number-run σ μ n s e w t b)
+  column-run (top n) s e w t b = no-products (top-run (bitLength n) n s e w t b)
+  column-run (point n) s e w t b = point-run σ μ n s e w t b

@@ -3,8 +3,8 @@
 use mathlib.Core.Path.{_≡_, refl, sym, _∙_, ap, ap₂}
 use mathlib.Core.Bool.{Bool, true, false, cond}
 use mathlib.Core.List.{List, [], _∷_, _++_}
-use Prim.Native.Nat.{ℕ, zero, suc, _+_, _-_, _/_, _%_, _^_, _≤_, _<_}
-use native.Mathlib.Nat.{pow-le-pow-right}
+use Prim.Native.Nat.{ℕ, zero, suc, _+_, _-_, _*_, _/_, _%_, _^_, _≤_, _<_}
+use native.Mathlib.Nat.{pow-le-pow-right, mod-lt, div-lt-iff-lt-mul, mul-le-mul}
 use native.Mathlib.Omega.{arith}
 use borrow.Author.Tests.{ltb-true}
 use lib.Dec.{ltb}
@@ -14,8 +14,8 @@ use Rattle.algebra.specs.Lists.{All, all[], all∷, tabulate}
 use Rattle.algebra.proofs.Members.{all-append, all-tabulate, and-left, and-right}
 use Rattle.algebra.proofs.Tables.{length-tabulate, getD-tabulate}
 use Rattle.rules.specs.Settings.{Setting, Facts}
-use Rattle.rules.specs.Columns.{Column, yesNo, choice, number, top, bitLength, entriesOf, valuesOf, entriesIn}
-use Rattle.rules.specs.Values.{twoNumbers, encoded, legalValues, encoding}
+use Rattle.rules.specs.Columns.{Column, yesNo, choice, number, top, point, bitLength, entriesOf, valuesOf, entriesIn}
+use Rattle.rules.specs.Values.{twoNumbers, pointEntry, encoded, legalValues, encoding}
 use Rattle.rules.proofs.Circuits.Limits.{InLimits}
 use Rattle.rules.proofs.Circuits.Digits.{one-at-below}
 
@@ -63,6 +63,34 @@ two-below b v w j = go (ltb j b)
     go true = omega arith
     go false = omega arith
 
+-- ---- the two numbers of a point
+pub power-some : (n : ℕ) → 0 < 2 ^ n
+power-some zero = omega arith
+power-some (suc n) = omega (arith, power-some n)
+
+pub x-below : (n v : ℕ) → v % 2 ^ n < 2 ^ n
+x-below n v = mod-lt v (power-some n)
+
+pub y-below : (n v : ℕ) → v < valuesOf (point n) → v / 2 ^ n < 2 ^ n
+unfolding valuesOf
+y-below n v l = div-lt-iff-lt-mul (power-some n) .1 l
+
+-- numbers below 2^12, and their products, are below 2^24
+point-below : (n x y : ℕ) → x < 4096 → y < 4096 → (i : ℕ) → pointEntry n x y i < 16777216
+unfolding pointEntry
+point-below n x y h k zero = omega arith
+point-below n x y h k (suc zero) =
+    let a : x ≤ 4095 = omega arith in
+    let m : x * x ≤ 4095 * 4095 = mul-le-mul a a in
+    omega arith
+point-below n x y h k (suc (suc zero)) = omega arith
+point-below n x y h k (suc (suc (suc zero))) =
+    let a : x ≤ 4095 = omega arith in
+    let b : y ≤ 4095 = omega arith in
+    let m : x * y ≤ 4095 * 4095 = mul-le-mul a b in
+    omega arith
+point-below n x y h k (suc (suc (suc (suc j)))) = omega (arith, two-below n x y j)
+
 encoded-below : (c : Column) → InLimits c → (v : ℕ) → v < valuesOf c → (i : ℕ) → encoded c v i < 16777216
 unfolding encoded valuesOf
 encoded-below yesNo w v l i = omega arith
@@ -71,6 +99,9 @@ encoded-below (number n) w v l zero = let most : 2 ^ n ≤ 2 ^ 24 = pow-le-pow-r
 encoded-below (number n) w v l (suc j) = omega arith
 encoded-below (top n) w v l zero = omega arith
 encoded-below (top n) w v l (suc j) = omega (arith, two-below (bitLength n) v (n - v) j)
+encoded-below (point n) w v l i =
+    let most : 2 ^ n ≤ 2 ^ 12 = pow-le-pow-right (omega arith) (w .1) in
+    point-below n (v % 2 ^ n) (v / 2 ^ n) (omega (arith, x-below n v)) (omega (arith, y-below n v l)) i
 
 pub encoding-below : (cs : List Column) (vs : List ℕ) → All InLimits cs → legalValues cs vs ≡ true
     → All (λ a. a < 16777216) (encoding cs vs)

@@ -27,6 +27,7 @@ use Rattle.rules.specs.Values.{encoded, legalValues, encoding, Encodes}
 use Rattle.rules.proofs.Circuits.Natural.{run-map, list-keeps}
 use Rattle.rules.proofs.Circuits.Walk.{walk-is-run}
 use Rattle.rules.proofs.Circuits.Limits.{InLimits, limits}
+use Rattle.rules.proofs.Circuits.FieldTests.{Known}
 use Rattle.rules.proofs.Circuits.ColumnTests.{column-encoded, encoded-column}
 use Rattle.rules.proofs.Circuits.Encoding.{not-legal, legal-head, legal-tail, encoding-head, encoding-tail}
 
@@ -53,8 +54,7 @@ module _ (O : Ops) (x : ℕ → O .F) (e : ℕ) (c : Column) (cs : List Column) 
           ∙ ap (O .ι) (sym (ap (λ k. getD (encoding (c ∷ cs) (v ∷ q .values)) k 0) place ∙ encoding-tail c cs v (q .values) j))
 
 module _
-    (𝓕 : Field) (σ : Setting) (large : 33554432 < σ .modulus) (minus-one : 𝓕 .ops .ι (σ .modulus - 1) ≡ 𝓕 .ops .neg (𝓕 .ops .𝟙))
-    (small : (a b : ℕ) → a < 33554432 → b < 33554432 → 𝓕 .ops .ι a ≡ 𝓕 .ops .ι b → a ≡ b) (x : ℕ → 𝓕 .ops .F)
+    (𝓕 : Field) (σ : Setting) (known : Known 𝓕 σ) (x : ℕ → 𝓕 .ops .F)
   where
     open Ops (𝓕 .ops) using (F, 𝟘, ι)
 
@@ -70,7 +70,7 @@ module _
     walk-encodes [] w e t z = record { values = []; legal = refl; entries-are = λ i l. absurd (omega arith) }
     walk-encodes (c ∷ cs) (all∷ w ws) e t z =
         let rest = walkTests σ μ (e + entriesOf c) (t + gatesOf c) cs in
-        let r = column-encoded 𝓕 σ large minus-one small x c w e t (all-left (columnTests σ μ e t c) rest z) in
+        let r = column-encoded 𝓕 σ known x c w e t (all-left (columnTests σ μ e t c) rest z) in
         front-encodes (𝓕 .ops) x e c cs (r .value) (r .value-below) (r .column-is)
         (walk-encodes cs ws (e + entriesOf c) (t + gatesOf c) (all-right (columnTests σ μ e t c) rest z))
 
@@ -81,7 +81,7 @@ module _
     values-walk (c ∷ cs) [] w h e t at = absurd (not-legal false refl h)
     values-walk (c ∷ cs) (v ∷ vs) (all∷ w ws) h e t at =
         all-append
-        (encoded-column 𝓕 σ large minus-one small x c w e t
+        (encoded-column 𝓕 σ known x c w e t
         (record { value = v; value-below = legal-head c cs v vs h; column-is = here }))
         (values-walk cs vs ws (legal-tail c cs v vs h) (e + entriesOf c) (t + gatesOf c) there)
       where
@@ -179,7 +179,9 @@ module _ (σ : Setting) (facts : Facts σ) where
         (λ z. encodes-lifts .1 (says .0 (valid-lifts .0 z)), λ r. valid-lifts .1 (says .1 (encodes-lifts .0 r)))
       where
         says : Valid R σ cs lifted ↔ Encodes R cs lifted
-        says = field-says-legal 𝓡 σ (facts .large) (minus-one-is p (facts .prime)) few-same lifted cs w
+        says =
+            field-says-legal 𝓡 σ
+            (record { large = facts .large; minus-one = minus-one-is p (facts .prime); small = few-same }) lifted cs w
 
     -- from a sheet's bytes
     pub sheet-tests-say-legal : (s : List ℕ) → readSheet s ≡ ok cs

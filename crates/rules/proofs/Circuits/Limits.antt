@@ -15,11 +15,11 @@ use Rattle.words.specs.Bytes.{valueOf}
 use Rattle.records.specs.Outcome.{Outcome, ok, refused}
 use Rattle.records.specs.Records.{readFrom, Says, nothing, more}
 use Rattle.records.proofs.Runs.{says-of-read}
-use Rattle.rules.specs.Columns.{Column, yesNo, choice, number, top, within, limitedColumn, columnBody, columnOf}
+use Rattle.rules.specs.Columns.{Column, yesNo, choice, number, top, point, within, limitedColumn, columnBody, columnOf}
 use Rattle.rules.specs.Columns.{recordSize}
 use Rattle.rules.specs.Columns.{columnFormat, entriesOf, publishedOf, entriesIn, publishedIn, publishedFrom, sheetLimits}
 use Rattle.rules.specs.Columns.{limitedSheet, readSheet}
-use Rattle.rules.specs.Circuit.{wiresOf, gatesOf, testsOf, wiresIn, gatesIn, testsIn}
+use Rattle.rules.specs.Circuit.{wiresOf, gatesOf, bitsOf, Product, productsAt, testsOf, wiresIn, gatesIn, testsIn}
 use Rattle.rules.specs.Judging.{shareSize}
 use Rattle.rules.proofs.Circuits.BitLength.{bit-length}
 
@@ -29,6 +29,7 @@ InLimits yesNo = Unit {0}
 InLimits (choice n) = (2 ≤ n) × (n ≤ 64)
 InLimits (number n) = (1 ≤ n) × (n ≤ 24)
 InLimits (top n) = (1 ≤ n) × (n ≤ 16777215)
+InLimits (point n) = (1 ≤ n) × (n ≤ 12)
 
 -- what holds where the sheet s is read as the columns cs
 pub record Limits (s : List ℕ) (cs : List Column) : Type 0 where
@@ -49,13 +50,14 @@ pub record Limits (s : List ℕ) (cs : List Column) : Type 0 where
   pub published-below : All (λ e. e < entriesIn cs) (publishedFrom 0 cs)
 
 -- ---- counts of columns within their limits
--- how many columns are of kinds 19 and 20
+-- how many columns are of kinds 19, 20 and 21
 unfoldable pub numbersIn : List Column → ℕ
 numbersIn [] = 0
 numbersIn (yesNo ∷ cs) = numbersIn cs
 numbersIn (choice n ∷ cs) = numbersIn cs
 numbersIn (number n ∷ cs) = suc (numbersIn cs)
 numbersIn (top n ∷ cs) = suc (numbersIn cs)
+numbersIn (point n ∷ cs) = suc (numbersIn cs)
 
 pub record Bounds (cs : List Column) : Type 0 where
   pub columns-few : length cs ≤ entriesIn cs
@@ -76,6 +78,7 @@ bounds (yesNo ∷ cs) (all∷ h hs) = let r = bounds cs hs in search arith
 bounds (choice n ∷ cs) (all∷ h hs) = let r = bounds cs hs in search arith
 bounds (number n ∷ cs) (all∷ h hs) = let r = bounds cs hs in search arith
 bounds (top n ∷ cs) (all∷ h hs) = let r = bounds cs hs in let b = bit-length n (h .0) (h .1) in search arith
+bounds (point n ∷ cs) (all∷ h hs) = let r = bounds cs hs in search arith
 
 -- ---- published entries
 pub count-length : (a n : ℕ) → length (countFrom a n) ≡ n
@@ -96,6 +99,7 @@ published-few-of yesNo = omega arith
 published-few-of (choice n) = omega arith
 published-few-of (number n) = omega arith
 published-few-of (top n) = omega arith
+published-few-of (point n) = omega arith
 
 published-low : (cs : List Column) (e : ℕ) → All (λ j. j < e + entriesIn cs) (publishedFrom e cs)
 unfolding publishedFrom entriesIn
@@ -105,6 +109,32 @@ published-low (c ∷ cs) e =
     (in-all (countFrom e (publishedOf c))
     (λ j h. let l = in-count e (publishedOf c) j h in omega (arith, published-few-of c)))
     (all-map (λ j h. omega arith) (published-low cs (e + entriesOf c)))
+
+-- ---- products: as many as there are multiplications that check no bit, of entries of the column
+pub products-many : (c : Column) (e : ℕ) → bitsOf c + length (productsAt e c) ≡ gatesOf c
+unfolding bitsOf gatesOf productsAt
+products-many yesNo e = refl
+products-many (choice n) e = omega arith
+products-many (number n) e = omega arith
+products-many (top n) e = omega arith
+products-many (point n) e = refl
+
+pub record InColumn (e n : ℕ) (p : Product) : Type 0 where
+  pub left-from : e ≤ p .left
+  pub left-below : p .left < e + n
+  pub right-from : e ≤ p .right
+  pub right-below : p .right < e + n
+
+pub products-in : (c : Column) (e : ℕ) → All (InColumn e (entriesOf c)) (productsAt e c)
+unfolding productsAt entriesOf
+products-in yesNo e = all[]
+products-in (choice n) e = all[]
+products-in (number n) e = all[]
+products-in (top n) e = all[]
+products-in (point n) e =
+    let square : InColumn e (4 + 2 * n) (record { left = e; right = e }) = search arith in
+    let other : InColumn e (4 + 2 * n) (record { left = e; right = e + 2 }) = search arith in
+    all∷ square (all∷ other all[])
 
 -- ---- what reading takes
 pub within-both : (low high n : ℕ) → within low high n ≡ true → (low ≤ n) × (n ≤ high)
@@ -133,7 +163,7 @@ said-unknown false c h = two none
 
 said : (k : ℕ) (body : List ℕ) → Said (columnBody k) (columnOf k body)
 unfolding columnBody columnOf recordSize
-said k body = by-kind (eqb k 17) (eqb k 18) (eqb k 19) (eqb k 20)
+said k body = by-kind (eqb k 17) (eqb k 18) (eqb k 19) (eqb k 20) (eqb k 21)
   where
     x : ℕ
     x = getD body 0 0
@@ -141,16 +171,18 @@ said k body = by-kind (eqb k 17) (eqb k 18) (eqb k 19) (eqb k 20)
     y : ℕ
     y = valueOf body
 
-    by-kind : (a b d f : Bool)
-        → Said (cond a (some 0) (cond b (some 1) (cond d (some 1) (cond f (some 4) none))))
+    by-kind : (a b d f g : Bool)
+        → Said (cond a (some 0) (cond b (some 1) (cond d (some 1) (cond f (some 4) (cond g (some 1) none)))))
         (cond a (ok yesNo)
         (cond b (limitedColumn (within 2 64 x) (choice x))
-        (cond d (limitedColumn (within 1 24 x) (number x)) (limitedColumn (within 1 16777215 y) (top y)))))
-    by-kind true b d f = column 0 yesNo tt refl
-    by-kind false true d f = said-limited (within 2 64 x) 1 (choice x) (within-both 2 64 x) refl
-    by-kind false false true f = said-limited (within 1 24 x) 1 (number x) (within-both 1 24 x) refl
-    by-kind false false false true = said-limited (within 1 16777215 y) 4 (top y) (within-both 1 16777215 y) refl
-    by-kind false false false false = said-unknown (within 1 16777215 y) (top y) (within-both 1 16777215 y)
+        (cond d (limitedColumn (within 1 24 x) (number x))
+        (cond f (limitedColumn (within 1 16777215 y) (top y)) (limitedColumn (within 1 12 x) (point x))))))
+    by-kind true b d f g = column 0 yesNo tt refl
+    by-kind false true d f g = said-limited (within 2 64 x) 1 (choice x) (within-both 2 64 x) refl
+    by-kind false false true f g = said-limited (within 1 24 x) 1 (number x) (within-both 1 24 x) refl
+    by-kind false false false true g = said-limited (within 1 16777215 y) 4 (top y) (within-both 1 16777215 y) refl
+    by-kind false false false false true = said-limited (within 1 12 x) 1 (point x) (within-both 1 12 x) refl
+    by-kind false false false false false = said-unknown (within 1 12 x) (point x) (within-both 1 12 x)
 
 pub column-limited : (k : ℕ) (body : List ℕ) (c : Column) → columnOf k body ≡ ok c → InLimits c
 column-limited k body c = by (said k body)
@@ -187,6 +219,7 @@ record-few yesNo w = omega arith
 record-few (choice n) w = omega arith
 record-few (number n) w = omega arith
 record-few (top n) w = let b = bit-length n (w .0) (w .1) in omega arith
+record-few (point n) w = omega arith
 
 entries-append : (a b : List Column) → entriesIn (a ++ b) ≡ entriesIn a + entriesIn b
 unfolding entriesIn

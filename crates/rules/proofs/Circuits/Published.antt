@@ -1,13 +1,13 @@
 -- Published entries. Those of legal values are at most their column's largest value, so that n of them stay below p where
--- the totals fit. They are every entry of kinds 17 and 18 and v of kinds 19 and 20, and no bit entry: by the columns in
--- front.
+-- the totals fit. They are every entry of kinds 17 and 18, v of kinds 19 and 20 and the first four of kind 21, and no bit entry:
+-- by the columns in front.
 -- Assumes nothing.
 use mathlib.Core.Path.{_≡_, refl, sym, _∙_, ap, subst}
 use mathlib.Core.Logic.{⊎-elim, inl, inr}
 use mathlib.Core.Bool.{true, false}
 use mathlib.Core.List.{List, [], _∷_, _++_}
-use Prim.Native.Nat.{ℕ, zero, suc, _+_, _-_, _*_, _≤_, _<_}
-use native.Mathlib.Nat.{mul-le-mul-right, mul-comm, zero-add, add-zero}
+use Prim.Native.Nat.{ℕ, zero, suc, _+_, _-_, _*_, _/_, _%_, _^_, _≤_, _<_}
+use native.Mathlib.Nat.{mul-le-mul, mul-le-mul-right, mul-comm, zero-add, add-zero}
 use native.Mathlib.Omega.{arith}
 use borrow.Author.Tests.{ltb-true}
 use lib.Dec.{ltb}
@@ -15,12 +15,24 @@ use lib.ListN.{getD}
 use Rattle.algebra.specs.Lists.{In, every, countFrom}
 use Rattle.algebra.proofs.Members.{and-left, and-right, in-append, append-in, in-count, count-in}
 use Rattle.rules.specs.Settings.{Setting}
-use Rattle.rules.specs.Columns.{Column, yesNo, choice, number, top, bitLength, entriesOf, publishedOf, valuesOf, largestOf, entriesIn}
-use Rattle.rules.specs.Columns.{publishedFrom, totalsFit}
-use Rattle.rules.specs.Values.{encoded, legalValues, encoding}
+use Rattle.rules.specs.Columns.{Column, yesNo, choice, number, top, point, bitLength, entriesOf, publishedOf, valuesOf}
+use Rattle.rules.specs.Columns.{largestOf, entriesIn, publishedFrom, totalsFit}
+use Rattle.rules.specs.Values.{pointEntry, encoded, legalValues, encoding}
 use Rattle.rules.proofs.Circuits.Limits.{published-few-of}
 use Rattle.rules.proofs.Circuits.Digits.{one-at-below}
-use Rattle.rules.proofs.Circuits.Encoding.{not-legal, legal-head, legal-tail, encoding-head, encoding-tail}
+use Rattle.rules.proofs.Circuits.Encoding.{x-below, y-below, not-legal, legal-head, legal-tail, encoding-head, encoding-tail}
+
+below-square : (m a : ℕ) → a ≤ m → a ≤ m * m
+below-square zero a h = omega arith
+below-square (suc m) a h = omega arith
+
+point-largest : (n x y m : ℕ) → x ≤ m → y ≤ m → (i : ℕ) → i < 4 → pointEntry n x y i ≤ m * m
+unfolding pointEntry
+point-largest n x y m h k zero l = below-square m x h
+point-largest n x y m h k (suc zero) l = mul-le-mul h h
+point-largest n x y m h k (suc (suc zero)) l = below-square m y k
+point-largest n x y m h k (suc (suc (suc zero))) l = mul-le-mul h k
+point-largest n x y m h k (suc (suc (suc (suc j)))) l = absurd (omega arith)
 
 encoded-largest : (c : Column) (v : ℕ) → v < valuesOf c → (i : ℕ) → i < publishedOf c → encoded c v i ≤ largestOf c
 unfolding encoded valuesOf largestOf publishedOf
@@ -30,6 +42,8 @@ encoded-largest (number n) v l zero h = omega arith
 encoded-largest (number n) v l (suc j) h = absurd (omega arith)
 encoded-largest (top n) v l zero h = omega arith
 encoded-largest (top n) v l (suc j) h = absurd (omega arith)
+encoded-largest (point n) v l i h =
+    point-largest n (v % 2 ^ n) (v / 2 ^ n) (2 ^ n - 1) (omega (arith, x-below n v)) (omega (arith, y-below n v l)) i h
 
 published-from : (a e : ℕ) (cs : List Column) → In e (publishedFrom a cs) → a ≤ e
 unfolding publishedFrom
@@ -135,6 +149,11 @@ module _ (before after : List Column) where
   unfolding publishedOf
   top-published n = from-start (top n) 0 _ (omega arith) (add-zero _)
 
+  -- "The first four entries are published"
+  pub point-published : (n i : ℕ) → i < 4 → In (entriesIn before + i) (publishedFrom 0 (before ++ (point n ∷ after)))
+  unfolding publishedOf
+  point-published n i l = from-start (point n) i _ l refl
+
   -- "Bit entries are never published": no entry of a column behind its published ones is
   not-published : (c : Column) (j : ℕ) → publishedOf c ≤ j → j < entriesOf c
       → In (entriesIn before + j) (publishedFrom 0 (before ++ (c ∷ after))) → ⊥
@@ -151,3 +170,8 @@ module _ (before after : List Column) where
       → In (entriesIn before + suc j) (publishedFrom 0 (before ++ (top n ∷ after))) → ⊥
   unfolding publishedOf entriesOf
   top-bits-not-published n j l k = not-published (top n) (suc j) (omega arith) (omega arith) k
+
+  pub point-bits-not-published : (n j : ℕ) → j < 2 * n
+      → In (entriesIn before + (4 + j)) (publishedFrom 0 (before ++ (point n ∷ after))) → ⊥
+  unfolding publishedOf entriesOf
+  point-bits-not-published n j l k = not-published (point n) (4 + j) (omega arith) (omega arith) k

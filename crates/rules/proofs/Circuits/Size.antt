@@ -11,10 +11,11 @@ use Rattle.algebra.specs.Lists.{All, all[], all∷}
 use Rattle.words.proofs.Numbers.{length-bytes}
 use Rattle.records.specs.Outcome.{ok}
 use Rattle.rules.specs.Settings.{Setting, Facts}
-use Rattle.rules.specs.Columns.{Column, yesNo, choice, number, top, bitLength, entriesOf, entriesIn, readSheet}
+use Rattle.rules.specs.Columns.{Column, yesNo, choice, number, top, point, bitLength, entriesOf, entriesIn, readSheet}
 use Rattle.rules.specs.Circuit.{Step, constant, entry, add, scale, multiply, test, stepBytes, circuitBytes, bitCheck}
-use Rattle.rules.specs.Circuit.{bitChecks, optionAdds, bitAdds, bitSum, topSums, topSteps, columnSteps, wiresOf, circuitFrom}
-use Rattle.rules.specs.Circuit.{circuitOf, constantsOf, addsOf, scalesOf, gatesOf, testsOf}
+use Rattle.rules.specs.Circuit.{bitChecks, optionAdds, bitAdds, bitSum, topSums, topSteps}
+use Rattle.rules.specs.Circuit.{numberChecks, productCheck, pointChecks, pointSteps}
+use Rattle.rules.specs.Circuit.{columnSteps, wiresOf, circuitFrom, circuitOf, constantsOf, addsOf, scalesOf, gatesOf, testsOf}
 use Rattle.rules.specs.Circuit.{constantsIn, addsIn, scalesIn, gatesIn, testsIn}
 use Rattle.rules.specs.Sizes.{sizeByKind, columnSize, circuitSize}
 use Rattle.rules.proofs.Circuits.BitLength.{BitLength, bit-length}
@@ -77,13 +78,26 @@ module _ (σ : Setting) where
   unfolding topSteps topSums stepSize
   top-size b n e w = simp (size-append, size-next, size-none, bits-size, sum-size) (omega arith)
 
+  checks-size : (a e w n : ℕ) → size (numberChecks σ a e w n) ≡ (24 + σ .width) * n + 6 + σ .width
+  unfolding numberChecks stepSize
+  checks-size a e w n = simp (size-append, size-next, size-none, bits-size, sum-size) (omega arith)
+
+  product-size : (a b c w : ℕ) → size (productCheck σ a b c w) ≡ 16 + σ .width
+  unfolding productCheck stepSize
+  product-size a b c w = simp (size-next, size-none) (omega arith)
+
+  point-size : (n e w : ℕ) → size (pointSteps σ e w n) ≡ (48 + 2 * σ .width) * n + 56 + 4 * σ .width
+  unfolding pointSteps pointChecks stepSize
+  point-size n e w = simp (size-append, size-next, checks-size, product-size) (omega arith)
+
   -- a column's steps have the bytes that the table of body lengths tells
   pub column-size : (c : Column) (e w : ℕ) → size (columnSteps σ e w c) ≡ columnSize σ c
   unfolding columnSteps stepSize columnSize sizeByKind entriesOf constantsOf addsOf scalesOf gatesOf testsOf
   column-size yesNo e w = bits-size 1 e w ∙ omega arith
   column-size (choice n) e w = simp (size-append, size-next, size-none, bits-size, options-size) (omega arith)
-  column-size (number n) e w = simp (size-append, size-next, size-none, bits-size, weights-size) (omega arith)
+  column-size (number n) e w = simp (size-append, size-next, size-none, checks-size) (omega arith)
   column-size (top n) e w = top-size (bitLength n) n e w ∙ omega arith
+  column-size (point n) e w = point-size n e w ∙ omega arith
 
   from-size : (cs : List Column) (e w : ℕ) → size (circuitFrom σ e w cs) + suc (σ .width) ≡ circuitSize σ cs
   unfolding circuitFrom circuitSize columnSize sizeByKind entriesIn constantsIn addsIn scalesIn gatesIn testsIn
@@ -123,6 +137,11 @@ module _ (σ : Setting) where
 
       at : σ .width ≡ 4 → (48 + 2 * σ .width) * bitLength n ≡ 56 * bitLength n
       at four = ap (λ k. (48 + 2 * k) * bitLength n) four
+  column-few (point n) h = record {
+    for-all = omega arith;
+    for-four = λ four. let f : (48 + 2 * σ .width) * n ≡ 56 * n = ap (λ k. (48 + 2 * k) * n) four in omega arith;
+    for-four' = λ four. let f : (48 + 2 * σ .width) * n ≡ 56 * n = ap (λ k. (48 + 2 * k) * n) four in omega (arith, h .1);
+  }
 
   numbers-next : (c : Column) (cs : List Column) → numbersIn (c ∷ cs) ≡ numbersIn (c ∷ []) + numbersIn cs
   unfolding numbersIn
@@ -130,6 +149,7 @@ module _ (σ : Setting) where
   numbers-next (choice n) cs = omega arith
   numbers-next (number n) cs = omega arith
   numbers-next (top n) cs = omega arith
+  numbers-next (point n) cs = omega arith
 
   sheet-few : (cs : List Column) → All InLimits cs → (e w : ℕ) → Few (entriesIn cs) (numbersIn cs) (size (circuitFrom σ e w cs))
   unfolding circuitFrom entriesIn numbersIn

@@ -7,9 +7,10 @@ use native.Mathlib.Nat.{pow-le-pow-right}
 use native.Mathlib.Omega.{arith}
 use Rattle.algebra.specs.Lists.{All, all[], all∷}
 use Rattle.rules.specs.Settings.{Setting, Facts}
-use Rattle.rules.specs.Columns.{Column, yesNo, choice, number, top, bitLength, entriesOf, entriesIn}
+use Rattle.rules.specs.Columns.{Column, yesNo, choice, number, top, point, bitLength, entriesOf, entriesIn}
 use Rattle.rules.specs.Circuit.{Step, constant, entry, add, scale, multiply, test, bitCheck, bitChecks, optionSum}
-use Rattle.rules.specs.Circuit.{optionAdds, bitAdds, bitSum, topSums, topSteps, columnSteps, wiresOf, circuitFrom, circuitOf, wiresIn}
+use Rattle.rules.specs.Circuit.{optionAdds, bitAdds, bitSum, topSums, topSteps, numberChecks, productCheck, pointChecks, pointSteps}
+use Rattle.rules.specs.Circuit.{columnSteps, wiresOf, circuitFrom, circuitOf, wiresIn}
 use Rattle.rules.specs.CircuitReader.{stepWires}
 use Rattle.rules.proofs.Circuits.BitLength.{bit-length}
 use Rattle.rules.proofs.Circuits.Limits.{InLimits}
@@ -105,6 +106,37 @@ module _ (σ : Setting) (l : ℕ) where
         q : ℕ
         q = suc w + 3 * (2 * b)
 
+    checks-sound : (a e w n : ℕ) → n ≤ 24 → a < w → e + n ≤ l → Steps σ l w (numberChecks σ a e w n) (w + (5 * n + 1))
+    unfolding numberChecks stepWires
+    checks-sound a e w n few h fits =
+        steps++ (bits-sound n e w (omega arith) fits)
+        (next (scale a (σ .modulus - 1)) (omega arith, omega arith)
+        (steps-from (omega arith) (steps-to (omega arith) (sum-sound n w (w + 3 * n) (omega arith) few))))
+
+    product-sound : (a b c w : ℕ) → a < w → b < w → c < w → Steps σ l w (productCheck σ a b c w) (w + 3)
+    unfolding productCheck stepWires
+    product-sound a b c w ha hb hc =
+        next (multiply a b) (ha, hb)
+        (next (scale c (σ .modulus - 1)) (omega arith, omega arith)
+        (next (add w (suc w)) (omega arith, omega arith)
+        (next (test (suc (suc w))) (omega arith) (steps-to (omega arith) steps[]))))
+
+    point-sound : (n e w : ℕ) → n ≤ 12 → 0 < w → e + (4 + 2 * n) ≤ l → Steps σ l w (pointSteps σ e w n) (w + (10 * n + 12))
+    unfolding pointSteps pointChecks stepWires
+    point-sound n e w few some fits =
+        next (entry e) (omega arith)
+        (next (entry (e + 1)) (omega arith)
+        (next (entry (e + 2)) (omega arith)
+        (next (entry (e + 3)) (omega arith)
+        (steps-from (omega arith)
+        (steps++ (checks-sound w (e + 4) (w + 4) n (omega arith) (omega arith) (omega arith))
+        (steps++ (checks-sound (w + 2) (e + 4 + n) (w + 4 + (5 * n + 1)) n (omega arith) (omega arith) (omega arith))
+        (steps++ (product-sound w w (w + 1) q (omega arith) (omega arith) (omega arith))
+        (steps-to (omega arith) (product-sound w (w + 2) (w + 3) (q + 3) (omega arith) (omega arith) (omega arith))))))))))
+      where
+        q : ℕ
+        q = w + 4 + (5 * n + 1) + (5 * n + 1)
+
     column-sound : (c : Column) → InLimits c → (e w : ℕ) → 0 < w → e + entriesOf c ≤ l
         → Steps σ l w (columnSteps σ e w c) (w + wiresOf c)
     unfolding columnSteps entriesOf wiresOf stepWires
@@ -116,13 +148,10 @@ module _ (σ : Setting) (l : ℕ) where
     column-sound (number n) h e w some fits =
         next (entry e) (omega arith)
         (steps-from (omega arith)
-        (steps++ (bits-sound n (suc e) (suc w) (omega arith) (omega arith))
-        (next (scale w (σ .modulus - 1)) (omega arith, omega arith)
-        (steps-from (omega arith)
-        (steps++ (weights-sound n (suc w) (suc w + 3 * n) (omega arith) (h .1))
-        (next (test (suc w + 3 * n + 2 * n)) (omega arith) (steps-to (omega arith) steps[])))))))
+        (steps-to (omega arith) (checks-sound w (suc e) (suc w) n (h .1) (omega arith) (omega arith))))
     column-sound (top n) h e w some fits =
         top-sound (bitLength n) n e w (bit-length n (h .0) (h .1) .bits-most) (h .0) some fits
+    column-sound (point n) h e w some fits = point-sound n e w (h .1) some fits
 
     sheet-sound : (cs : List Column) → All InLimits cs → (e w : ℕ) → 0 < w → e + entriesIn cs ≤ l
         → Steps σ l w (circuitFrom σ e w cs) (w + wiresIn cs)

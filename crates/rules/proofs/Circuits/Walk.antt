@@ -4,16 +4,17 @@ use mathlib.Core.Path.{_≡_, refl, sym, _∙_, ap, ap₂}
 use mathlib.Core.List.{List, [], _∷_, _++_, append-nil}
 use Prim.Native.Nat.{ℕ, suc, _+_, _-_, _*_}
 use native.Mathlib.Omega.{arith}
-use lib.ListN.{length, length-append}
+use lib.ListN.{length, length-append, length-map}
+use Rattle.algebra.specs.Lists.{tabulate}
 use Rattle.algebra.proofs.Tables.{length-tabulate}
 use Rattle.rules.specs.Settings.{Setting}
-use Rattle.rules.specs.Columns.{Column, yesNo, choice, number, top, bitLength, entriesOf}
-use Rattle.rules.specs.Circuit.{columnSteps}
+use Rattle.rules.specs.Columns.{Column, yesNo, choice, number, top, point, bitLength, entriesOf}
+use Rattle.rules.specs.Circuit.{columnSteps, bitsOf, productsAt}
 use Rattle.rules.specs.Circuit.{wiresOf, gatesOf, testsOf, circuitFrom, circuitOf, wiresIn, gatesIn, testsIn}
 use Rattle.rules.specs.Run.{Meaning, Trace, nothing, makeWire, stepRun, runFrom, run}
-use Rattle.rules.specs.Walk.{columnLefts, columnRights, bitTests}
-use Rattle.rules.specs.Walk.{columnTests}
+use Rattle.rules.specs.Walk.{lessOne, bitsAt, columnLefts, columnRights, bitTests, numberTests, columnTests}
 use Rattle.rules.specs.Walk.{walkLefts, walkRights, walkTests}
+use Rattle.rules.proofs.Circuits.Limits.{products-many}
 use Rattle.rules.proofs.Circuits.Growth.{run-append, Grown, stay}
 use Rattle.rules.proofs.Circuits.Growth.{then}
 use Rattle.rules.proofs.Circuits.ColumnRuns.{column-run}
@@ -30,9 +31,20 @@ module _ {X : Type 0} (σ : Setting) (μ : Meaning X) where
     pub wires-count : length (run μ (circuitOf σ cs) .wires) ≡ suc (wiresIn cs)
 
   -- ---- a sheet
-  column-lefts : (c : Column) (e : ℕ) → length (columnLefts σ μ e c) ≡ gatesOf c
+  row-length : (f : ℕ → X) (n : ℕ) (l : List X) → length (tabulate f n ++ l) ≡ n + length l
+  row-length f n l = length-append (tabulate f n) l ∙ ap (_+ length l) (length-tabulate f n)
+
+  pub column-lefts : (c : Column) (e : ℕ) → length (columnLefts σ μ e c) ≡ gatesOf c
   unfolding columnLefts
-  column-lefts c e = length-tabulate _ (gatesOf c)
+  column-lefts c e =
+      row-length (λ i. μ .entryAt (bitsAt e c + i)) (bitsOf c) _
+      ∙ ap (bitsOf c +_) (length-map (productsAt e c) (λ p. μ .entryAt (p .left))) ∙ products-many c e
+
+  column-rights : (c : Column) (e : ℕ) → length (columnRights σ μ e c) ≡ gatesOf c
+  unfolding columnRights
+  column-rights c e =
+      row-length (λ i. lessOne σ μ (bitsAt e c + i)) (bitsOf c) _
+      ∙ ap (bitsOf c +_) (length-map (productsAt e c) (λ p. μ .entryAt (p .right))) ∙ products-many c e
 
   sheet-run : (cs : List Column) (s : Trace X) (e w t : ℕ) → Before σ μ s w t
       → Grown μ s (runFrom μ s (circuitFrom σ e w cs)) (wiresIn cs)
@@ -57,22 +69,27 @@ module _ {X : Type 0} (σ : Setting) (μ : Meaning X) where
       length-append (columnLefts σ μ e c) _ ∙ ap₂ _+_ (column-lefts c e) (length-lefts cs (e + entriesOf c))
 
   pub length-rights : (cs : List Column) (e : ℕ) → length (walkRights σ μ e cs) ≡ gatesIn cs
-  unfolding walkRights columnRights gatesIn
+  unfolding walkRights gatesIn
   length-rights [] e = refl
   length-rights (c ∷ cs) e =
-      length-append (columnRights σ μ e c) _
-      ∙ ap₂ _+_ (length-tabulate _ (gatesOf c)) (length-rights cs (e + entriesOf c))
+      length-append (columnRights σ μ e c) _ ∙ ap₂ _+_ (column-rights c e) (length-rights cs (e + entriesOf c))
 
   row-tests : (e t n : ℕ) (l : List X) → length (bitTests σ μ e t n ++ l) ≡ n + length l
   unfolding bitTests
-  row-tests e t n l = length-append (bitTests σ μ e t n) l ∙ ap (_+ length l) (length-tabulate _ n)
+  row-tests e t n l = row-length _ n l
+
+  number-tests : (a e t n : ℕ) (l : List X) → length (numberTests σ μ a e t n ++ l) ≡ n + 1 + length l
+  unfolding numberTests
+  number-tests a e t n l = length-append (numberTests σ μ a e t n) l ∙ ap (_+ length l) (row-tests e t n _)
 
   pub column-tests : (c : Column) (e t : ℕ) → length (columnTests σ μ e t c) ≡ testsOf c
-  unfolding columnTests testsOf
+  unfolding columnTests numberTests testsOf
   column-tests yesNo e t = sym (ap length (append-nil (bitTests σ μ e t 1))) ∙ row-tests e t 1 []
   column-tests (choice n) e t = row-tests e t n _
   column-tests (number n) e t = row-tests (suc e) t n _
   column-tests (top n) e t = row-tests (suc e) t (2 * bitLength n) _
+  column-tests (point n) e t =
+      number-tests e (e + 4) t n _ ∙ ap (n + 1 +_) (number-tests (e + 2) (e + 4 + n) (t + n) n _) ∙ omega arith
 
   pub length-tests : (cs : List Column) (e t : ℕ) → length (walkTests σ μ e t cs) ≡ testsIn cs
   unfolding walkTests testsIn

@@ -13,14 +13,14 @@ use Rattle.rules.specs.Columns.{limitedColumn, columnBody, columnOf, ent
 use Rattle.rules.specs.Columns.{publishedIn, publishedFrom, sheetLimits, limitedSheet, readSheet, faultIn, listIn}
 use Rattle.rules.specs.Columns.{totalsFit}
 use Rattle.rules.specs.Circuit.{stepBytes, circuitBytes, bitCheck, bitChecks, optionSum, optionAdds, bitAdds, bitSum}
-use Rattle.rules.specs.Circuit.{topSums, topSteps}
+use Rattle.rules.specs.Circuit.{topSums, topSteps, numberChecks, productCheck, pointChecks, pointSteps}
 use Rattle.rules.specs.Circuit.{columnSteps, wiresOf, gatesOf, testsOf, circuitFrom, circuitOf, wiresIn, gatesIn}
 use Rattle.rules.specs.Circuit.{testsIn}
 use Rattle.rules.specs.CircuitReader.{stepBody, stepOf, stepWires, stepGates, stepTests, stepFault, judgedStep, judgeStep}
 use Rattle.rules.specs.CircuitReader.{circuitLimits, limitedCircuit, readCircuit, circuitFault, countIn, sheetCircuit}
 use Rattle.rules.specs.CircuitReader.{sheetCircuitRefusal}
 use Rattle.rules.specs.Run.{stepRun, runFrom, run}
-use Rattle.rules.specs.Values.{twoNumbers, encoded, legalValues, encoding}
+use Rattle.rules.specs.Values.{twoNumbers, pointEntry, encoded, legalValues, encoding}
 use Rattle.rules.specs.EveryReturn.{afterEach, legalLists, listsIn, listsBytes, everyReturnBytes, everyReturnLength}
 use Rattle.rules.specs.EveryReturn.{everyReturnRefusal}
 use Rattle.rules.specs.Judging.{shareSize, firstOnly, zeroThen, folded, sigmaFrom, hOf, aOf, bOf, cOf, shareRun, fAt}
@@ -44,6 +44,8 @@ use Rattle.rules.specs.Circuit.{constantsOf, addsOf, scalesOf, constants
 use Rattle.rules.specs.Table.{openRefusal, openBytes, shareRefused, shareTable, shareBytes, oneRefused, oneTable}
 use Rattle.rules.specs.Table.{oneBytes, decidedBytes, decidedTable, addedTotals, addedBytes, twoRefused, twoVerdict}
 use Rattle.rules.specs.Table.{acceptedTable, twoTable, enterRefused, enterTable, dropRefused, dropTable, closeRefused, closeTable, closeBytes}
+use Rattle.rules.specs.Line.{determinant, slope, intercept, isZero, isPoint, namesPoint, lineSums, lineRefusal}
+use Rattle.rules.specs.Line.{sumsOf}
 use Rattle.rules.specs.Joining.{totalsSound, joinedFault, joinRefusal, joinCount, joinTotals, joinBytes}
 use Rattle.rules.specs.Recount.{decimalFrom, refusalText, lineText, optionLines, columnLines, recountRefusal}
 use Rattle.rules.specs.Recount.{recountText}
@@ -134,11 +136,12 @@ part18 = tt
 unfoldable pub part19 : Unit {0}
 unfolding under flatten stillMissing ownKept placeSound largestIn constantsOf addsOf scalesOf constantsIn addsIn scalesIn
     greatestUpTo sizesOf sizeByKind columnSize circuitSize lengthWithin bitLength bitSum topSums topSteps twoNumbers
-    firstBytes shelved shelfRefusal
+    numberChecks productCheck pointChecks pointSteps pointEntry firstBytes shelved shelfRefusal
 part19 = tt
 
 unfoldable pub part20 : Unit {0}
 unfolding afterEach legalLists listsIn listsBytes everyReturnBytes everyReturnLength everyReturnRefusal
+    determinant slope intercept isZero isPoint namesPoint lineSums lineRefusal sumsOf
 part20 = tt
 
 unfoldable pub part21 : Unit {0}

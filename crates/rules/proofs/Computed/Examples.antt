@@ -5,6 +5,7 @@ use Rattle.algebra.specs.Lists.{every}
 use Rattle.rules.specs.Examples.{marked, unmarked, circuits, taus}
 use Rattle.rules.specs.CallExamples.{sizes, shelves, smallSheets}
 use Rattle.rules.specs.TopExamples.{tops}
+use Rattle.rules.specs.PointExamples.{points, lines}
 use Rattle.rules.proofs.Computed.Computing.{everything}
 
 pub marked-hold : every (λ row. row .holds) marked ≡ true
@@ -38,3 +39,11 @@ small-sheets-hold = refl
 pub tops-hold : every (λ row. row .holds) tops ≡ true
 unfolding everything tops
 tops-hold = refl
+
+pub points-hold : every (λ row. row .holds) points ≡ true
+unfolding everything points
+points-hold = refl
+
+pub lines-hold : every (λ row. row .holds) lines ≡ true
+unfolding everything lines
+lines-hold = refl

@@ -4,7 +4,7 @@ use mathlib.Core.Path.{_≡_, ap, _∙_}
 use mathlib.Core.Bool.{true}
 use mathlib.Core.List.{List, [], _∷_}
 use Prim.Native.Nat.{ℕ, _*_, _^_, _≤_, _<_}
-use native.Mathlib.Nat.{pow-le-pow-right}
+use native.Mathlib.Nat.{pow-le-pow-right, mul-le-mul}
 use native.Mathlib.Omega.{arith}
 use borrow.Author.Tests.{ltb-true, eq-eqb}
 use lib.Dec.{ltb}
@@ -13,7 +13,7 @@ use Rattle.algebra.specs.Lists.{All, all[], all∷}
 use Rattle.algebra.proofs.Members.{all-in, and-left, and-right}
 use Rattle.words.specs.Bytes.{bytesOfAll, elementsOf}
 use Rattle.words.proofs.Elements.{length-bytes-all, elements-bytes}
-use Rattle.rules.specs.Columns.{Column, yesNo, choice, number, top, valuesOf, columnsOf}
+use Rattle.rules.specs.Columns.{Column, yesNo, choice, number, top, point, valuesOf, columnsOf}
 use Rattle.rules.specs.Values.{legalValues}
 use Rattle.rules.specs.Making.{valuesFault}
 use Rattle.rules.specs.EveryReturn.{legalLists, ListsTaken}
@@ -27,6 +27,10 @@ unfolding valuesOf
 values-most yesNo h = omega arith
 values-most (choice n) h = omega (arith, h .1)
 values-most (top n) h = omega (arith, h .1)
+values-most (point n) h =
+    let low : 2 ^ n ≤ 2 ^ 12 = pow-le-pow-right (omega arith) (h .1) in
+    let most : 2 ^ n * 2 ^ n ≤ 2 ^ 12 * 2 ^ 12 = mul-le-mul low low in
+    omega arith
 values-most (number n) h = let most : 2 ^ n ≤ 2 ^ 24 = pow-le-pow-right (omega arith) (h .1) in omega arith
 
 values-low : (cs : List Column) → All InLimits cs → (vs : List ℕ) → legalValues cs vs ≡ true → All (λ x. x < 256 ^ 4) vs

@@ -72,7 +72,8 @@ module _ (𝓕 : Field) where
     rights-are : shareRun O σ cs 𝟙 w .rights ≡ list .rights
     unfolding shareRun lessOne
     rights-are =
-        inputs-right σ server (onList O x) cs (λ k l u. ap₂ _⊕_ (parts .entry-is k u) (one-mul 𝓕 (ι (σ .modulus - 1))))
+        inputs-right σ server (onList O x) cs (λ k l u. parts .entry-is k u)
+        (λ k l u. ap₂ _⊕_ (parts .entry-is k u) (one-mul 𝓕 (ι (σ .modulus - 1))))
 
     -- so f and g are those of making, and h is their product
     pub f-is : (r : F) → fAt O σ cs 𝟙 w r ≡ fOf O σ cs x u₀ r

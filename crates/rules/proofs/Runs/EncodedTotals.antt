@@ -16,7 +16,7 @@ use Rattle.algebra.proofs.Sums.{sum-ext}
 use Rattle.algebra.proofs.Rearrangement.{rearranged-sym, rearranged-sum, sum-cong}
 use Rattle.words.proofs.Below.{all-of-below}
 use Rattle.rules.specs.Settings.{Setting, Facts}
-use Rattle.rules.specs.Columns.{Column, yesNo, choice, number, publishedOf, valuesOf, entriesIn, publishedIn}
+use Rattle.rules.specs.Columns.{Column, yesNo, choice, number, point, publishedOf, valuesOf, entriesIn, publishedIn}
 use Rattle.rules.specs.Columns.{publishedFrom}
 use Rattle.rules.specs.Values.{encoded, legalValues, encoding}
 use Rattle.rules.specs.Judging.{addedUp}
@@ -156,6 +156,7 @@ module _ (σ : Setting) (facts : Facts σ) (𝓟 : Pool σ) (closed : Closed σ 
     number-total = λ before after n is.
         ap (λ k. getD (joinedTotals σ 𝓟) k 0) (sym (add-zero (publishedIn before)))
         ∙ column-total before after (number n) 0 is (omega arith);
+    point-total = λ before after n k is low. column-total before after (point n) k is low;
   }
 
 -- under the conditions, when all servers have closed

@@ -8,7 +8,8 @@ use native.Mathlib.Omega.{arith}
 use Rattle.algebra.specs.Lists.{sumOver}
 use Rattle.records.specs.Outcome.{ok, orElse}
 use Rattle.rules.specs.Settings.{Setting, Facts}
-use Rattle.rules.specs.Columns.{Column, yesNo, choice, number, top, entriesOf, entriesIn, faultIn, listIn, readSheet, sheetFault}
+use Rattle.rules.specs.Columns.{Column, yesNo, choice, number, top, point, entriesOf}
+use Rattle.rules.specs.Columns.{entriesIn, faultIn, listIn, readSheet, sheetFault}
 use Rattle.rules.specs.Columns.{columnsOf, serversFault, ownFault, leastFits, mostReturns, within, totalsFit}
 use Rattle.rules.specs.Circuit.{Step, wiresOf, constantsOf, addsOf, scalesOf, gatesOf, wiresIn, circuitOf}
 use Rattle.rules.specs.Circuit.{constantsIn, addsIn, scalesIn, gatesIn}
@@ -33,6 +34,7 @@ column-wires yesNo = refl
 column-wires (choice n) = omega arith
 column-wires (number n) = omega arith
 column-wires (top n) = omega arith
+column-wires (point n) = omega arith
 
 wires-by-kind : (cs : List Column) → wiresIn cs ≡ constantsIn cs + entriesIn cs + addsIn cs + scalesIn cs + gatesIn cs
 unfolding wiresIn entriesIn constantsIn addsIn scalesIn gatesIn

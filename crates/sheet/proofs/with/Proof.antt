@@ -26,7 +26,14 @@ add-t7 : tie.Need-add-t7
 add-t7 c = search needs
 
 add-t8 : tie.Need-add-t8
-add-t8 c = omega (arith, c .before .before .before .before .before .before .before .before .before .before .before .before .pre)
+add-t8 c =
+    let i = c .before .before .before .before .before .before .before .before .before .before in
+    omega (arith, i .before .before .pre)
+
+add-t9 : tie.Need-add-t9
+add-t9 c =
+    let i = c .before .before .before .before .before .before .before .before .before .before .before .before in
+    omega (arith, i .before .before .pre)
 
 larger-requires : tie.Need-larger-requires
 larger-requires c κs = search needs
@@ -34,11 +41,11 @@ larger-requires c κs = search needs
 returns-2 : tie.Need-returns-2
 unfolding more
 returns-2 c =
-    let i = c .before .before .before .before .before .before .before .before .before .before .before in
+    let i = c .before .before .before .before .before .before .before .before .before .before .before .before .before in
     let a = i .before .before in
     let e : a .args .c .entries ≤ 256 = i .if1 .left in
     (rw (le-leb (a .args .c .entries) 256 e, c .larger .ensures) refl, omega (arith, a .pre))
 
 pub with-spec : {M : Type 1} → statement M
 with-spec =
-    tie.close (tie.spec returns add-t4 add-t5 add-t6 add-t7 add-t8 larger-requires returns-2)
+    tie.close (tie.spec returns add-t4 add-t5 add-t6 add-t7 add-t8 add-t9 larger-requires returns-2)

@@ -1,4 +1,5 @@
--- `sizes::adds` meets its contract: each column has a test. Assumes nothing.
+-- `sizes::adds` meets its contract: columns and products are no more than tests, products no more than multiplications.
+-- Assumes nothing.
 use mathlib.Core.Path.{refl}
 use native.Mathlib.Omega.{arith}
 use borrow.Author.Needs.{needs}
@@ -12,9 +13,15 @@ add-result c = search needs
 sub-result : tie.Need-sub-result
 sub-result c = search needs
 
+mul-result : tie.Need-mul-result
+mul-result c = search needs
+
+sub-result-2 : tie.Need-sub-result-2
+sub-result-2 c = omega (arith, c .before .before .before .pre)
+
 returns : tie.Need-returns
 unfolding addsMade
-returns c = (refl, omega (arith, c .before .before .pre))
+returns c = (refl, omega (arith, c .before .before .before .pre))
 
 pub adds-spec : {M : Type 1} → statement M
-adds-spec = tie.close (tie.spec add-result sub-result returns)
+adds-spec = tie.close (tie.spec add-result sub-result mul-result sub-result-2 returns)

@@ -9,6 +9,9 @@ use Rattle.sizes.proofs.scales.Tie as tie
 mul-result : tie.Need-mul-result
 mul-result c = search needs
 
+add-result : tie.Need-add-result
+add-result c = search needs
+
 sub-result : tie.Need-sub-result
 sub-result c = search needs
 
@@ -17,7 +20,7 @@ sub-result-2 c = search needs
 
 returns : tie.Need-returns
 unfolding scalesMade
-returns c = (refl, omega (arith, c .before .before .before .pre))
+returns c = (refl, omega (arith, c .before .before .before .before .pre))
 
 pub scales-spec : {M : Type 1} → statement M
-scales-spec = tie.close (tie.spec mul-result sub-result sub-result-2 returns)
+scales-spec = tie.close (tie.spec mul-result add-result sub-result sub-result-2 returns)

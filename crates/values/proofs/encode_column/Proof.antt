@@ -76,6 +76,14 @@ write-top-requires c κs =
     let z = c .before .before .before .before .before in
     room (z .args .column) _ (z .args .at) (z .args .out .now) (ap fromCode (c .before .before .column3 .given .1)) (z .pre)
 
+enum-known-column-4 : tie.Need-enum-known-column-4
+enum-known-column-4 c = search needs
+
+write-point-requires : tie.Need-write-point-requires
+write-point-requires c κs =
+    let z = c .before .before .before .before .before in
+    room (z .args .column) _ (z .args .at) (z .args .out .now) (ap fromCode (c .before .before .column4 .given .1)) (z .pre)
+
 same-length : tie.Need-same-length
 same-length c = search needs
 
@@ -116,6 +124,16 @@ returns-4 c =
     put-known (z .args .column) _ (z .args .v) (z .args .out .now) (z .args .at) _ (ap fromCode (k .column3 .given .1))
     (c .before .before .write-top .ensures)
 
+same-length-5 : tie.Need-same-length-5
+same-length-5 c = search needs
+
+returns-5 : tie.Need-returns-5
+returns-5 c =
+    let k = c .before .before .before .before .before in
+    let z = k .before .before .before in
+    put-known (z .args .column) _ (z .args .v) (z .args .out .now) (z .args .at) _ (ap fromCode (k .column4 .given .1))
+    (c .before .before .write-point .ensures)
+
 pub encode-column-spec : {M : Type 1} → statement M
 encode-column-spec =
     tie.close
@@ -129,6 +147,8 @@ encode-column-spec =
     write-number-requires
     enum-known-column-3
     write-top-requires
+    enum-known-column-4
+    write-point-requires
     same-length
     returns
     same-length-2
@@ -136,4 +156,6 @@ encode-column-spec =
     same-length-3
     returns-3
     same-length-4
-    returns-4)
+    returns-4
+    same-length-5
+    returns-5)

@@ -1,4 +1,7 @@
 -- `values::values_of` meets its contract: each arm is one case of the definition. Assumes nothing.
+use mathlib.Core.Path.{ap}
+use Prim.Native.Nat.{ℕ, _*_, _^_, _≤_}
+use native.Mathlib.Nat.{pow-le-pow-right, mul-le-mul}
 use native.Mathlib.Numerals.{add-one}
 use native.Mathlib.Omega.{arith}
 use borrow.Author.Needs.{needs}
@@ -31,6 +34,23 @@ add-result c =
     let few = rw (c .before .column3 .given .1) at (c .before .before .before .pre) in
     omega arith
 
+enum-known-column-4 : tie.Need-enum-known-column-4
+enum-known-column-4 c = search needs
+
+-- the bits of a point's numbers
+bits : (c : tie.After-column4) → c .column4 .given .0 .0 ≤ 12
+bits c = (rw (c .column4 .given .1) at (c .before .before .pre)) .1
+
+power-requires-2 : tie.Need-power-requires-2
+power-requires-2 c κs = omega (arith, bits (c .before))
+
+mul-result : tie.Need-mul-result
+mul-result c =
+    let g = c .before .before in
+    let p : 2 ^ g .column4 .given .0 .0 ≤ 2 ^ 12 = pow-le-pow-right (omega arith) (bits g) in
+    let m : c .power2 .result ≤ 4096 = omega (arith, c .power2 .ensures) in
+    omega (arith, mul-le-mul m m)
+
 returns : tie.Need-returns
 unfolding valuesOf
 returns c = rw (c .enum-told .given .1)
@@ -47,6 +67,10 @@ returns-4 : tie.Need-returns-4
 unfolding valuesOf
 returns-4 c = rw (c .before .column3 .given .1) (add-one _)
 
+returns-5 : tie.Need-returns-5
+unfolding valuesOf
+returns-5 c = rw (c .before .before .column4 .given .1) (ap (λ (x : ℕ). x * x) (c .power2 .ensures))
+
 pub values-of-spec : {M : Type 1} → statement M
 values-of-spec =
     tie.close
@@ -58,7 +82,11 @@ values-of-spec =
     power-requires
     enum-known-column-3
     add-result
+    enum-known-column-4
+    power-requires-2
+    mul-result
     returns
     returns-2
     returns-3
-    returns-4)
+    returns-4
+    returns-5)

@@ -1,4 +1,5 @@
--- `walk::column_lefts` meets its contract: by the kinds of columns, the entries from the first bit on. Assumes nothing.
+-- `walk::column_lefts` meets its contract: by the kinds of columns, the entries from the first bit on, and behind those of a point
+-- its two products. Assumes nothing.
 use borrow.Author.Needs.{needs}
 use mathlib.Core.Path.{_≡_, sym, ap, ap₂, _∙_}
 use mathlib.Core.List.{List}
@@ -9,13 +10,14 @@ use native.Mathlib.Omega.{arith}
 use Rattle.algebra.specs.Lists.{tabulate}
 use Rattle.rules.specs.Settings.{document01}
 use Rattle.rules.specs.Columns.{entriesOf}
-use Rattle.rules.specs.Circuit.{gatesOf}
+use Rattle.rules.specs.Circuit.{bitsOf, productsAt, gatesOf, productsOf}
 use Rattle.rules.specs.Walk.{bitsAt, columnLefts}
 use Rattle.columns.specs.declared.Column as code
 use Rattle.columns.specs.Kinds.{fromCode}
 use Rattle.walk.specs.Walks.{plain, members}
 use Rattle.walk.proofs.Filling.{one-place}
 use Rattle.walk.proofs.Meanings.{bits-fit}
+use Rattle.walk.proofs.BitsOnly.{all-bits, lefts-bits}
 use Rattle.walk.proofs.column_lefts.Statement.{statement}
 use Rattle.walk.proofs.column_lefts.Tie as tie
 
@@ -30,12 +32,21 @@ gates q = ap (λ (k : code.Column). gatesOf (fromCode k)) q
 entries : {a b : code.Column} → a ≡ b → entriesOf (fromCode a) ≡ entriesOf (fromCode b)
 entries q = ap (λ (k : code.Column). entriesOf (fromCode k)) q
 
--- n members from b on, once b is the first bit
-from-bits : (a : code.Column) (xs : List ℕ) (e b n : ℕ) → bitsAt e (fromCode a) ≡ b
+products : {a b : code.Column} → a ≡ b → productsOf (fromCode a) ≡ productsOf (fromCode b)
+products q = ap (λ (k : code.Column). productsOf (fromCode k)) q
+
+-- n members from b on, once b is the first bit, where all multiplications check bits
+from-bits : (a : code.Column) (xs : List ℕ) (e b n : ℕ) → productsOf (fromCode a) ≡ 0 → bitsAt e (fromCode a) ≡ b
     → n ≡ gatesOf (fromCode a)
     → tabulate (λ i. members xs (b + i)) n ≡ columnLefts document01 (plain 0 (members xs)) e (fromCode a)
-unfolding columnLefts
-from-bits a xs e b n p q = ap₂ (λ (b n : ℕ). tabulate (λ i. members xs (b + i)) n) (sym p) q
+from-bits a xs e b n none p q =
+    ap₂ (λ (b n : ℕ). tabulate (λ i. members xs (b + i)) n) (sym p) q
+    ∙ sym (lefts-bits (fromCode a) e none (plain 0 (members xs)))
+
+-- they are then the last entries
+last-bits : (a : code.Column) (e : ℕ) → productsOf (fromCode a) ≡ 0
+    → bitsAt e (fromCode a) + gatesOf (fromCode a) ≡ e + entriesOf (fromCode a)
+last-bits a e none = ap (bitsAt e (fromCode a) +_) (sym (all-bits (fromCode a) e none)) ∙ bits-fit e (fromCode a)
 
 enum-told : tie.Need-enum-told
 enum-told c = search needs
@@ -57,12 +68,12 @@ enum-told-2 : tie.Need-enum-told-2
 enum-told-2 c = search needs
 
 copy-requires : tie.Need-copy-requires
-unfolding bitsAt
+unfolding bitsAt productsOf productsAt
 copy-requires c κs =
     let z = c .before .before .before .before .before in
-    let first = bits (z .args .e) (c .before .enum-told2 .given .1) in
-    let last = bits-fit (z .args .e) (fromCode (z .args .column)) in
-    omega (arith, z .pre .0, z .pre .1, first, last)
+    let told = c .before .enum-told2 .given .1 in
+    let last = last-bits (z .args .column) (z .args .e) (products told) in
+    omega (arith, z .pre .0, z .pre .1, bits (z .args .e) told, last)
 
 enum-told-3 : tie.Need-enum-told-3
 enum-told-3 c = search needs
@@ -71,12 +82,12 @@ add-copy : tie.Need-add-copy
 add-copy c = search needs
 
 copy-requires-2 : tie.Need-copy-requires-2
-unfolding bitsAt
+unfolding bitsAt productsOf productsAt
 copy-requires-2 c κs =
     let z = c .before .before .before .before .before in
-    let first = bits (z .args .e) (c .before .enum-told3 .given .1) in
-    let last = bits-fit (z .args .e) (fromCode (z .args .column)) in
-    omega (arith, z .pre .0, z .pre .1, first, last)
+    let told = c .before .enum-told3 .given .1 in
+    let last = last-bits (z .args .column) (z .args .e) (products told) in
+    omega (arith, z .pre .0, z .pre .1, bits (z .args .e) told, last)
 
 enum-told-4 : tie.Need-enum-told-4
 enum-told-4 c = search needs
@@ -85,61 +96,115 @@ add-copy-2 : tie.Need-add-copy-2
 add-copy-2 c = search needs
 
 copy-requires-3 : tie.Need-copy-requires-3
-unfolding bitsAt
+unfolding bitsAt productsOf productsAt
 copy-requires-3 c κs =
     let z = c .before .before .before .before .before in
-    let first = bits (z .args .e) (c .before .enum-told4 .given .1) in
-    let last = bits-fit (z .args .e) (fromCode (z .args .column)) in
-    omega (arith, z .pre .0, z .pre .1, first, last)
+    let told = c .before .enum-told4 .given .1 in
+    let last = last-bits (z .args .column) (z .args .e) (products told) in
+    omega (arith, z .pre .0, z .pre .1, bits (z .args .e) told, last)
+
+enum-known-column : tie.Need-enum-known-column
+enum-known-column c = search needs
+
+add-copy-two : tie.Need-add-copy-two
+unfolding entriesOf
+add-copy-two c =
+    let z = c .before .before .before .before .before in
+    omega (arith, z .pre .0, entries (c .before .column .given .1))
+
+mul-copy-two : tie.Need-mul-copy-two
+unfolding entriesOf
+mul-copy-two c =
+    let z = c .before .before .before .before .before in
+    record { fits = omega (arith, z .pre .0, entries (c .before .column .given .1)) }
+
+mul-copy-two-2 : tie.Need-mul-copy-two-2
+mul-copy-two-2 c = search needs
+
+shared-slice-read-copy-two : tie.Need-shared-slice-read-copy-two
+unfolding entriesOf
+shared-slice-read-copy-two c =
+    let z = c .before .before .before .before .before .before in
+    omega (arith, z .pre .0, entries (c .before .before .column .given .1))
+
+mul-copy-two-3 : tie.Need-mul-copy-two-3
+mul-copy-two-3 c = search needs
+
+shared-slice-read-copy-two-2 : tie.Need-shared-slice-read-copy-two-2
+unfolding entriesOf
+shared-slice-read-copy-two-2 c =
+    let z = c .before .before .before .before .before .before .before in
+    omega (arith, z .pre .0, entries (c .before .before .before .column .given .1))
+
+copy-two-requires : tie.Need-copy-two-requires
+unfolding entriesOf gatesOf
+copy-two-requires c κs =
+    let z = c .before .before .before .before .before .before .before .before in
+    let told = c .before .before .before .before .column .given .1 in
+    (omega (arith, z .pre .0, entries told), omega (arith, z .pre .1, gates told))
 
 same-length : tie.Need-same-length
 same-length c = search needs
 
 returns : tie.Need-returns
-unfolding bitsAt gatesOf
+unfolding bitsAt gatesOf productsOf productsAt
 returns c =
     let z = c .before .before .before .before .before in
     let a = z .args in
     let told = c .before .enum-told .given .1 in
     one-place (λ i. members (a .x .now) (a .e + i)) (a .out .now) (members (a .x .now) (a .e)) (z .pre .1 ∙ gates told)
     (ap (members (a .x .now)) (sym (add-zero (a .e))))
-    ∙ from-bits (a .column) (a .x .now) (a .e) (a .e) _ (bits (a .e) told) (z .pre .1)
+    ∙ from-bits (a .column) (a .x .now) (a .e) (a .e) _ (products told) (bits (a .e) told) (z .pre .1)
 
 same-length-2 : tie.Need-same-length-2
 same-length-2 c = search needs
 
 returns-2 : tie.Need-returns-2
-unfolding bitsAt
+unfolding bitsAt productsOf productsAt
 returns-2 c =
     let z = c .before .before .before .before .before .before .before .before in
     let a = z .args in
     let told = c .before .before .before .before .enum-told2 .given .1 in
     let first = bits (a .e) told in
-    c .before .before .copy .ensures ∙ from-bits (a .column) (a .x .now) (a .e) (a .e) _ first (z .pre .1)
+    c .before .before .copy .ensures ∙ from-bits (a .column) (a .x .now) (a .e) (a .e) _ (products told) first (z .pre .1)
 
 same-length-3 : tie.Need-same-length-3
 same-length-3 c = search needs
 
 returns-3 : tie.Need-returns-3
-unfolding bitsAt
+unfolding bitsAt productsOf productsAt
 returns-3 c =
     let z = c .before .before .before .before .before .before .before .before in
     let a = z .args in
     let told = c .before .before .before .before .enum-told3 .given .1 in
     let first = bits (a .e) told ∙ sym (add-one (a .e)) in
-    c .before .before .copy2 .ensures ∙ from-bits (a .column) (a .x .now) (a .e) (a .e + 1) _ first (z .pre .1)
+    c .before .before .copy2 .ensures
+    ∙ from-bits (a .column) (a .x .now) (a .e) (a .e + 1) _ (products told) first (z .pre .1)
 
 same-length-4 : tie.Need-same-length-4
 same-length-4 c = search needs
 
 returns-4 : tie.Need-returns-4
-unfolding bitsAt
+unfolding bitsAt productsOf productsAt
 returns-4 c =
     let z = c .before .before .before .before .before .before .before .before in
     let a = z .args in
     let told = c .before .before .before .before .enum-told4 .given .1 in
     let first = bits (a .e) told ∙ sym (add-one (a .e)) in
-    c .before .before .copy3 .ensures ∙ from-bits (a .column) (a .x .now) (a .e) (a .e + 1) _ first (z .pre .1)
+    c .before .before .copy3 .ensures
+    ∙ from-bits (a .column) (a .x .now) (a .e) (a .e + 1) _ (products told) first (z .pre .1)
+
+same-length-5 : tie.Need-same-length-5
+same-length-5 c = search needs
+
+returns-5 : tie.Need-returns-5
+unfolding columnLefts bitsAt bitsOf productsAt
+returns-5 c =
+    let k = c .before .before .before .before .before .before .before in
+    let a = k .before .before .before .before .args in
+    c .before .before .copy-two .ensures
+    ∙ sym
+    (ap (λ (k : code.Column). columnLefts document01 (plain 0 (members (a .x .now))) (a .e) (fromCode k)) (k .column .given .1))
 
 pub column-lefts-spec : {M : Type 1} → statement M
 column-lefts-spec =
@@ -157,6 +222,14 @@ column-lefts-spec =
     enum-told-4
     add-copy-2
     copy-requires-3
+    enum-known-column
+    add-copy-two
+    mul-copy-two
+    mul-copy-two-2
+    shared-slice-read-copy-two
+    mul-copy-two-3
+    shared-slice-read-copy-two-2
+    copy-two-requires
     same-length
     returns
     same-length-2
@@ -164,4 +237,6 @@ column-lefts-spec =
     same-length-3
     returns-3
     same-length-4
-    returns-4)
+    returns-4
+    same-length-5
+    returns-5)

@@ -1,4 +1,4 @@
--- `walk::column_tests` meets its contract: by the kinds of columns, the outputs and then the tests of the sums.
+-- `walk::column_tests` meets its contract: by the kinds of columns, the outputs, and the tests of the sums and products.
 -- Assumes nothing.
 use borrow.Author.Needs.{needs}
 use mathlib.Core.Path.{_≡_, sym, ap, _∙_}
@@ -7,7 +7,6 @@ use native.Mathlib.Nat.{mod-lt}
 use native.Mathlib.Omega.{arith}
 use lib.Dec.{lit<}
 use lib.ListN.{length}
-use Rattle.field.proofs.Below.{member-below}
 use Rattle.rules.specs.Settings.{document01}
 use Rattle.rules.specs.Columns.{entriesOf}
 use Rattle.rules.specs.Circuit.{gatesOf, testsOf}
@@ -16,7 +15,7 @@ use Rattle.rules.specs.Walk.{columnTests}
 use Rattle.columns.specs.declared.Column as code
 use Rattle.columns.specs.Kinds.{fromCode}
 use Rattle.walk.specs.Walks.{shared}
-use Rattle.walk.proofs.ColumnTests.{yes-no-tests, choice-tests, number-tests, top-tests}
+use Rattle.walk.proofs.ColumnTests.{yes-no-tests, choice-tests, column-number, top-tests, column-point}
 use Rattle.walk.proofs.column_tests.Statement.{statement}
 use Rattle.walk.proofs.column_tests.Tie as tie
 
@@ -85,38 +84,21 @@ copy-then-requires c κs =
 enum-known-column-2 : tie.Need-enum-known-column-2
 enum-known-column-2 c = search needs
 
-add-weighted-from : tie.Need-add-weighted-from
-add-weighted-from c = search needs
+add-number-tests : tie.Need-add-number-tests
+add-number-tests c = search needs
 
-mul-mul : tie.Need-mul-mul
-mul-mul c = search needs
-
-shared-slice-read-mul : tie.Need-shared-slice-read-mul
-unfolding entriesOf
-shared-slice-read-mul c =
+number-tests-requires : tie.Need-number-tests-requires
+unfolding entriesOf gatesOf testsOf
+number-tests-requires c κs =
     let z = c .before .before .before .before .before .before in
-    omega (arith, entries-fit z (c .before .before .column2 .given .1))
-
-sub-mul-2 : tie.Need-sub-mul-2
-sub-mul-2 c = search needs
-
-mul-requires-2 : tie.Need-mul-requires-2
-mul-requires-2 c κs =
-    (member-below _ _ (c .before .before .before .before .before .before .pre .0 .elements), lit< tt)
-
-weighted-from-requires : tie.Need-weighted-from-requires
-unfolding entriesOf
-weighted-from-requires c κs =
-    let z = c .before .before .before .before .before .before .before in
-    let told = c .before .before .before .column2 .given .1 in
-    (omega (arith, entries-fit z told), z .pre .0 .elements, rw (c .mul2 .ensures) (mod-lt _ (lit< tt)))
-
-copy-then-requires-2 : tie.Need-copy-then-requires-2
-unfolding gatesOf testsOf
-copy-then-requires-2 c κs =
-    let z = c .before .before .before .before .before .before .before .before .before in
-    let told = c .before .before .before .before .before .column2 .given .1 in
-    (outputs-fit z told, omega (arith, room z told))
+    let told = c .before .before .column2 .given .1 in
+    let entry = entries-fit z told in (
+      z .pre .0 .elements,
+      outputs-fit z told,
+      omega (arith, entry),
+      omega (arith, entry),
+      omega (arith, room z told),
+    )
 
 enum-known-column-3 : tie.Need-enum-known-column-3
 enum-known-column-3 c = search needs
@@ -128,6 +110,18 @@ top-tests-requires c κs =
       (z .pre .0 .elements, z .pre .0 .factor, rw told at (z .pre .0 .in-limits)),
       (entries-fit z told, outputs-fit z told, room z told),
     )
+
+enum-known-column-4 : tie.Need-enum-known-column-4
+enum-known-column-4 c = search needs
+
+point-tests-requires : tie.Need-point-tests-requires
+unfolding entriesOf gatesOf testsOf
+point-tests-requires c κs =
+    let z = c .before .before .before .before .before .before in
+    let told = c .before .before .column4 .given .1 in
+    let entry = entries-fit z told in
+    let output = outputs-fit z told in
+    (z .pre .0 .elements, omega (arith, entry), omega (arith, output), room z told)
 
 same-length : tie.Need-same-length
 same-length c = search needs
@@ -159,13 +153,12 @@ same-length-3 c = search needs
 
 returns-3 : tie.Need-returns-3
 returns-3 c =
-    let s = c .before .before .before .before in
-    let z = s .before .before .before .before .before .before .before .before in
+    let k = c .before .before .before .before .before in
+    let z = k .before .before .before .before in
     let a = z .args in
-    let column = s .before .before .before .before .column2 .given in
-    c .before .before .copy-then2 .ensures
-    ∙ number-tests (a .x .now) (a .l) (a .e) (a .factor) (a .t) (column .0 .0) (s .weighted-from .result)
-    (s .before .mul2 .result) (s .before .mul2 .ensures) (s .weighted-from .ensures)
+    let column = k .column2 .given in
+    c .before .before .number-tests .ensures
+    ∙ column-number (a .x .now) (a .l) (a .e) (a .factor) (a .t) (column .0 .0)
     ∙ its-tests z (column .1)
 
 same-length-4 : tie.Need-same-length-4
@@ -179,6 +172,19 @@ returns-4 c =
     let column = k .column3 .given in
     c .before .before .top-tests .ensures
     ∙ top-tests (a .x .now) (a .l) (a .e) (a .factor) (a .t) (column .0 .0)
+    ∙ its-tests z (column .1)
+
+same-length-5 : tie.Need-same-length-5
+same-length-5 c = search needs
+
+returns-5 : tie.Need-returns-5
+returns-5 c =
+    let k = c .before .before .before .before .before in
+    let z = k .before .before .before .before in
+    let a = z .args in
+    let column = k .column4 .given in
+    c .before .before .point-tests .ensures
+    ∙ column-point (a .x .now) (a .l) (a .e) (a .factor) (a .t) (column .0 .0)
     ∙ its-tests z (column .1)
 
 pub column-tests-spec : {M : Type 1} → statement M
@@ -197,15 +203,12 @@ column-tests-spec =
     sum-from-requires
     copy-then-requires
     enum-known-column-2
-    add-weighted-from
-    mul-mul
-    shared-slice-read-mul
-    sub-mul-2
-    mul-requires-2
-    weighted-from-requires
-    copy-then-requires-2
+    add-number-tests
+    number-tests-requires
     enum-known-column-3
     top-tests-requires
+    enum-known-column-4
+    point-tests-requires
     same-length
     returns
     same-length-2
@@ -213,4 +216,6 @@ column-tests-spec =
     same-length-3
     returns-3
     same-length-4
-    returns-4)
+    returns-4
+    same-length-5
+    returns-5)

@@ -152,7 +152,7 @@ mul-requires-2 c κs =
     let s = c .before .before .before .before .before .before .before .before .before .before .before .before in
     let m = room (s .pre .0) in
     let i = c .before .before .before .before .before .inputs-with .ensures in
-    (s .pre .0 .r-below, rw (ap (λ (u : Inputs). u .g) i) (interpolate-below _ _ _))
+    (s .pre .0 .r-below, rw (ap (λ (u : Inputs). u .g) i) (mod-lt _ (lit< tt)))
 
 add-sub : tie.Need-add-sub
 add-sub c =
@@ -199,12 +199,14 @@ returns c =
     let factor = b .before .mul .ensures in
     let ec = factor ∙ ap (λ (t : ℕ). residues ._⊗_ t 2147483646) one in
     let n = part-length xs (a .shape .entries) (a .shape .gates) (omega (arith, m .long)) in
+    let few : gatesIn cs ≤ 256 = omega (arith, m .gates-are, m .gates-few) in
     let h = c .before .before .before .before .before .before .before .interpolated .ensures in
     let tau = c .before .before .before .before .before .before .tau-of .ensures in
     whole
     (d-from cs k xs _ _ _ (m .entries-are) (m .gates-are) ec (a .r) _ _ (ap (λ (u : Inputs). u .f) i)
     (c .before .before .before .before .sub .ensures))
-    (e-from cs k xs _ _ _ (m .entries-are) (m .gates-are) ec (a .r) _ _ _ (ap (λ (u : Inputs). u .g) i)
+    (e-from cs k xs _ _ _ (m .entries-are) (m .gates-are) ec (a .r) _ _ _ (s .pre .0 .elements) few (first-below (a .own))
+    (s .pre .0 .r-below) (ap (λ (u : Inputs). u .g) i)
     (c .before .before .before .mul2 .ensures) (c .before .sub2 .ensures))
     (h-from cs k xs _ _ _ (m .entries-are) (m .gates-are) ec (a .r) _ _ _ refl n h (c .mul3 .ensures))
     (tau-from cs k xs _ _ _ (m .entries-are) (m .gates-are) ec (a .s) _ _ one tau)

@@ -9,7 +9,7 @@ use lib.Seq.{length-take-le, take-at}
 use Rattle.field.specs.Residues.{Elements}
 use Rattle.interpolation.specs.Fractions.{sumOf}
 use Rattle.rules.specs.Columns.{columnsOf}
-use Rattle.walk.proofs.Shifted.{lefts-elements}
+use Rattle.walk.proofs.InputElements.{lefts-elements}
 use Rattle.snip.proofs.judging.lefts_sum.Statement.{statement}
 use Rattle.snip.proofs.judging.lefts_sum.Tie as tie
 
@@ -42,7 +42,7 @@ sum-requires c κs =
     let l = w .kept .1 .1 .0 ∙ length-take-le _ _ (s .pre .4) in
     let elements = lefts-elements (s .args .x .now) (s .pre .0 .elements) (columnsOf (s .args .sheet .now)) 0 in
     rw (take-at _ _ _ l)
-    (sym l, rw (w .ensures) elements, s .pre .1, s .pre .2, omega (arith, l, s .pre .4))
+    (sym l, rw (w .ensures .0) elements, s .pre .1, s .pre .2, omega (arith, l, s .pre .4))
 
 returns : tie.Need-returns
 returns c =
@@ -51,8 +51,9 @@ returns c =
     let l = w .kept .1 .1 .0 ∙ length-take-le _ _ (s .pre .4) in (
       c .sum .ensures .0
           ∙ rw (take-at _ _ _ l)
-          (ap₂ (λ (ls : List ℕ) (n : ℕ). sumOf ls (s .args .weights .now) 1 (s .args .r) n) (w .ensures) (l ∙ s .pre .3)),
+          (ap₂ (λ (ls : List ℕ) (n : ℕ). sumOf ls (s .args .weights .now) 1 (s .args .r) n) (w .ensures .0) (l ∙ s .pre .3)),
       c .sum .ensures .1,
+      w .ensures .1,
     )
 
 pub lefts-sum-spec : {M : Type 1} → statement M

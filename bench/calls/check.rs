@@ -56,6 +56,17 @@ fn stateless(count: &mut Count, x: &Setting) {
     }
 }
 
+// Every column and one past the last: lines, 18 with one return and 2 for columns that are not of points.
+fn lines(count: &mut Count, x: &Setting) {
+    for column in 0..=x.values.len() as u32 / 4 + 1 {
+        for joined in [&x.lines, &x.closings] {
+            let ours = pool::line(x.servers, &x.sheet, LIMIT, joined, column);
+            let second = fast::line(x.servers, &x.sheet, LIMIT, joined, column);
+            count.same("line", x, ours, second.map(|line| [line.determinant, line.slope, line.intercept]));
+        }
+    }
+}
+
 // What a call gives, in bytes, or the number of its refusal.
 type Answer = Result<Vec<u8>, u32>;
 
@@ -111,6 +122,7 @@ pub fn run() -> (u32, u32) {
     let mut count = Count { passed: 0, failed: 0 };
     for x in settings() {
         stateless(&mut count, &x);
+        lines(&mut count, &x);
         for own in 0..x.servers {
             at_server(&mut count, &x, own);
         }

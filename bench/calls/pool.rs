@@ -148,3 +148,12 @@ pub fn join(servers: u32, sheet: &[u8], returns: u32, joined: &[u8], out: &mut [
     };
     done(answer, (accepted, written))
 }
+
+// Determinant, slope and intercept.
+pub fn line(servers: u32, sheet: &[u8], returns: u32, joined: &[u8], column: u32) -> Result<[i64; 3], u32> {
+    let (s, j, mut out) = (sheet, joined, [0; 3]);
+    let [d, a, b] = &mut out;
+    let answer =
+        unsafe { c::pool_line(servers, s.as_ptr(), s.len(), returns, j.as_ptr(), j.len(), column, d, a, b) };
+    done(answer, out)
+}

@@ -1,7 +1,7 @@
 // What the calls are given: a sheet, S and N, one honest return, a pair, and every message of its way to the totals.
 // The second program makes all of it, so both sides get the same.
 use second::gen::{self, Rng};
-use second::{fast, field::P, Sheet};
+use second::{fast, field::P, Column, Sheet};
 
 // The returns that a series takes one after another, and the N of its tables: there is room for others that wait.
 pub const RETURNS: u32 = 64;
@@ -31,6 +31,10 @@ pub struct Setting {
     pub ones: Vec<u8>,
     pub twos: Vec<u8>,
     pub closings: Vec<u8>,
+    // the first column of points, from 1; 0 without one
+    pub points: u32,
+    // the joined messages of closing, told to be of two returns: one has no line
+    pub lines: Vec<u8>,
 }
 
 pub const ID: u32 = 7;
@@ -55,8 +59,11 @@ impl Setting {
             fast::enter(t, ID).expect("accepted");
             fast::close(t, ROOM).expect("totals")
         });
+        let closings: Vec<u8> = closings.collect();
         Setting {
-            closings: closings.collect(),
+            points: first_points(&read),
+            lines: of_two(&closings, read.closing_length()),
+            closings,
             entries: read.entries(),
             gates: read.multiplications(),
             tests: read.tests(),
@@ -97,14 +104,28 @@ impl Setting {
     }
 }
 
-// The sheets that are measured: M = 1, 24, 256, and mixtures near 256, one of them with tops.
+fn first_points(sheet: &Sheet) -> u32 {
+    let mut columns = (1..).zip(sheet.columns());
+    columns.find(|(_, column)| matches!(column, Column::Point(_))).map_or(0, |(number, _)| number)
+}
+
+// Messages of closing with 2 in the place of their counts.
+fn of_two(closings: &[u8], length: usize) -> Vec<u8> {
+    let mut messages = closings.to_vec();
+    messages.chunks_mut(length).for_each(|message| message[2] = 2);
+    messages
+}
+
+// The sheets that are measured: M = 1, 24, 26, 256, and mixtures near 256, one of them with tops, one with points.
 pub fn settings() -> Vec<Setting> {
     let sheets = [
         ("one yes/no", vec![17]),
         ("number of 24", vec![19, 24]),
+        ("point of 12", vec![21, 12]),
         ("256 yes/no", vec![17; 256]),
         ("large mixture", [17, 18, 5, 19, 9, 17, 19, 3, 18, 2].repeat(11)),
         ("mixture, tops", [17, 18, 5, 19, 9, 20, 200, 0, 0, 0, 20, 1, 0, 0, 0].repeat(7)),
+        ("with points", [17, 21, 11, 18, 5, 21, 3, 19, 9].repeat(4)),
     ];
     let with = |servers| sheets.clone().map(|(name, sheet)| Setting::new(name, sheet, servers));
     [2, 8].into_iter().flat_map(with).collect()

@@ -1,6 +1,6 @@
 // Speed of each call against the same call of the second program, all compiled for any x86-64. A call on a table has two
 // others beside it, of the fast form and of the lent form (see tables.rs). The other calls have the fast form's (the
-// plain form's where the fast one has none of its own: sheets, circuits, joining). The fast form answers with lists of
+// plain form's where the fast one has none of its own: sheets, circuits, joining, lines). The fast form answers with lists of
 // bytes that it allots; allotting and giving back counts, but for a table that is opened, which is given back
 // unmeasured. The library and the lent form write into lent buffers.
 use crate::series::{series, Call};
@@ -88,12 +88,24 @@ fn join(x: &Setting) -> [f64; 2] {
     )
 }
 
+fn line(x: &Setting) -> [f64; 2] {
+    timing::compare(
+        &mut || {
+            black_box(pool::line(x.servers, &x.sheet, LIMIT, black_box(&x.lines), x.points).expect("a line"));
+        },
+        &mut || {
+            black_box(fast::line(x.servers, &x.sheet, LIMIT, black_box(&x.lines), x.points).expect("a line"));
+        },
+    )
+}
+
 // The sizes of a sheet and its circuit know of no S: they are measured once for a sheet.
 pub fn run(settings: &[Setting]) {
     let two = settings.iter().filter(|x| x.servers == 2);
     table(two, ["ours", "fast"], &[("sizes", &sizes), ("circuit", &circuit)]);
     println!();
     table(settings.iter(), ["ours", "fast"], &[("make", &make), ("join", &join)]);
+    table(settings.iter().filter(|x| x.points > 0), ["ours", "fast"], &[("line", &line)]);
     println!();
     table(
         settings.iter(),

@@ -14,6 +14,7 @@ fn values_of(column: &[u8]) -> u32 {
         [17] => 2,
         [18, n] => n as u32,
         [20, a, b, c, d] => u32::from_le_bytes([a, b, c, d]) + 1,
+        [21, b] => 1 << (2 * b),
         _ => 1 << column[1],
     }
 }

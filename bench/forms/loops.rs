@@ -13,13 +13,13 @@ pub struct Counts {
 fn bytes_of(kind: u8) -> usize {
     match kind {
         17 => 1,
-        18 | 19 => 2,
+        18 | 19 | 21 => 2,
         20 => 5,
         _ => 0,
     }
 }
 
-// The number in the body of the column at a place: options, bits or the top.
+// The number in the body of the column at a place: options, bits (of each number of a point) or the top.
 fn body(s: &[u8], at: usize) -> u32 {
     match s[at] {
         17 => 0,
@@ -42,6 +42,9 @@ fn column(kind: u8, size: u32) -> Counts {
         20 if (1..1 << 24).contains(&n) => {
             let b = bits(size) as usize;
             Counts { columns: 1, entries: 2 * b + 1, published: 1, gates: 2 * b, tests: 2 * b + 2 }
+        }
+        21 if (1..=12).contains(&n) => {
+            Counts { columns: 1, entries: 2 * n + 4, published: 4, gates: 2 * n + 2, tests: 2 * n + 4 }
         }
         _ => Counts::default(),
     }
@@ -107,6 +110,7 @@ fn weigh(s: &[u8]) -> (usize, usize, usize) {
             17 => (3, 16, 1),
             18 => (4 * n, 21 * n + 3, 1),
             19 => (5 * n + 2, 28 * n + 13, (1 << n) - 1),
+            21 => (10 * n + 12, 56 * n + 72, ((1 << n) - 1) * ((1 << n) - 1)),
             _ => {
                 let b = bits(n as u32) as usize;
                 (10 * b + 4, 56 * b + 26, n)
@@ -208,6 +212,29 @@ fn put_top(out: &mut [u8], at: usize, top: u32, e: u32, w: u32) -> usize {
     put_sum(out, place, n, w + 1 + 3 * n, q + 2 * n + 2)
 }
 
+// Multiplies two wires as wire w, and tests that wire `claimed` is the product.
+fn put_product(out: &mut [u8], at: usize, left: u32, right: u32, claimed: u32, w: u32) -> usize {
+    let mut place = put_pair(out, at, 5, left, right);
+    place = put_scale(out, place, claimed, P_LESS_ONE);
+    place = put_pair(out, place, 3, w, w + 1);
+    put_one(out, place, 6, w + 2)
+}
+
+fn put_point(out: &mut [u8], at: usize, n: u32, e: u32, w: u32) -> usize {
+    let mut place = at;
+    for i in 0..4 {
+        place = put_one(out, place, 2, e + i);
+    }
+    for (value, i) in [(w, 0), (w + 2, 1)] {
+        let first = w + 4 + i * (5 * n + 1);
+        place = bit_checks(out, place, n, e + 4 + i * n, first);
+        place = put_scale(out, place, value, P_LESS_ONE);
+        place = put_sum(out, place, n, first, first + 3 * n);
+    }
+    place = put_product(out, place, w, w, w + 1, w + 6 + 10 * n);
+    put_product(out, place, w, w + 2, w + 3, w + 9 + 10 * n)
+}
+
 #[inline(never)]
 pub fn circuit(s: &[u8], out: &mut [u8], written: &mut usize) -> u32 {
     if let Err(refusal) = read_sheet(s) {
@@ -227,6 +254,7 @@ pub fn circuit(s: &[u8], out: &mut [u8], written: &mut usize) -> u32 {
             17 => (bit_checks(out, place, 1, e, w), 1, 3),
             18 => (put_choice(out, place, n, e, w), n, 4 * n),
             19 => (put_number(out, place, n, e, w), n + 1, 5 * n + 2),
+            21 => (put_point(out, place, n, e, w), 2 * n + 4, 10 * n + 12),
             _ => (put_top(out, place, n, e, w), 2 * bits(n) + 1, 10 * bits(n) + 4),
         };
         e += entries;

@@ -40,8 +40,11 @@ fn sheets() -> Vec<(&'static str, Vec<u8>)> {
         ("22 and 24 bits", vec![19, 22, 19, 24]),
         ("15 tops of 200", [20, 200, 0, 0, 0].repeat(15)),
         ("85 tops of 1", [20, 1, 0, 0, 0].repeat(85)),
+        ("9 points of 12", [21, 12].repeat(9)),
+        ("42 points of 1", [21, 1].repeat(42)),
         ("large mixture", [17, 18, 5, 19, 9, 17, 19, 3, 18, 2].repeat(11)),
         ("mixture, tops", [17, 18, 5, 19, 9, 20, 200, 0, 0, 0, 20, 1, 0, 0, 0].repeat(7)),
+        ("mixture, points", [17, 21, 11, 18, 5, 21, 3, 19, 9].repeat(4)),
     ]
 }
 
@@ -52,6 +55,7 @@ fn small_sheets() -> Vec<(&'static str, Vec<u8>)> {
         ("12 yes/no", vec![17; 12]),
         ("2 choices of 64", [18, 64].repeat(2)),
         ("number of 12", vec![19, 12]),
+        ("point of 6", vec![21, 6]),
         ("3,840 lists", vec![17, 18, 3, 19, 4, 18, 5, 17, 19, 2]),
     ]
 }
@@ -122,7 +126,7 @@ fn damaged(sheet: &[u8]) -> Vec<Vec<u8>> {
     let mut all = vec![sheet.to_vec()];
     all.extend((0..sheet.len()).map(|n| sheet[..n].to_vec()));
     for at in 0..sheet.len() {
-        for byte in [0, 1, 16, 17, 20, 21, 24, 25, 64, 65, 255] {
+        for byte in [0, 1, 12, 13, 16, 17, 20, 21, 22, 24, 25, 64, 65, 255] {
             let mut changed = sheet.to_vec();
             changed[at] = byte;
             all.push(changed);

@@ -152,7 +152,7 @@ fn line(name: &str, bytes: &[u8]) -> Result<String, u32> {
 }
 
 fn main() {
-    let sheets: [(&str, Vec<u8>); 6] = [
+    let sheets: [(&str, Vec<u8>); 7] = [
         ("1 yes/no", vec![17]),
         ("mixed, 51 entries", [17, 18, 4, 19, 11].repeat(3)),
         ("256 yes/no", vec![17; 256]),
@@ -162,6 +162,7 @@ fn main() {
             [19, 24].repeat(10).into_iter().chain([19, 5]).collect(),
         ),
         ("15 numbers up to 200", [20, 200, 0, 0, 0].repeat(15)),
+        ("9 points of 12 bits", [21, 12].repeat(9)),
     ];
     println!(
         "{:24} {:>4} {:>12} {:>12} {:>12} {:>12} {:>12}",

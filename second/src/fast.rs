@@ -16,6 +16,7 @@ mod plan;
 
 pub use crate::circuit::{circuit, read_circuit};
 pub use crate::joining::join;
+pub use crate::line::{line, Line};
 pub use crate::listing::{every_return, Listing};
 pub use crate::recount::recount;
 pub use crate::shelf::{shelve, unshelve};

@@ -15,7 +15,7 @@ mod rng;
 mod scripts;
 mod sheets;
 
-pub use cases::{Case, CaseAnswer, Exchange, Shelf};
+pub use cases::{Case, CaseAnswer, Exchange, Fit, Shelf};
 pub use circuits::{circuit, damaged_circuit};
 pub use hex::Hex;
 pub use returns::{added_up, lets_in, pair, Origin, Return};

@@ -24,10 +24,36 @@ pub fn join(
     joined: &[u8],
     room: usize,
 ) -> Result<Joined, u32> {
+    let sheet = pool(servers, sheet, limit)?;
+    let (count, totals) = add_up(servers, &sheet, limit, joined)?;
+    if room < field::WIDTH * totals.len() {
+        return Err(refusal::ROOM);
+    }
+    let mut bytes = Vec::with_capacity(field::WIDTH * totals.len());
+    for &total in &totals {
+        field::put(&mut bytes, total);
+    }
+    Ok(Joined {
+        count,
+        totals: bytes,
+    })
+}
+
+/// The sheet of a pool. Order of refusals: S, sheet, N, 4.
+pub(crate) fn pool(servers: u32, sheet: &[u8], limit: u32) -> Result<Sheet, u32> {
     check_servers(servers)?;
     let sheet = Sheet::read(sheet)?;
     check_limit(sheet.largest(), limit)?;
+    Ok(sheet)
+}
 
+/// The count and the totals modulo p of S closing messages (refusal 12).
+pub(crate) fn add_up(
+    servers: u32,
+    sheet: &Sheet,
+    limit: u32,
+    joined: &[u8],
+) -> Result<(u32, Vec<u64>), u32> {
     let length = sheet.closing_length();
     if joined.len() != servers as usize * length {
         return Err(refusal::JOINED);
@@ -45,17 +71,7 @@ pub fn join(
             *total = field::add(*total, element);
         }
     }
-    if room < field::WIDTH * totals.len() {
-        return Err(refusal::ROOM);
-    }
-    let mut bytes = Vec::with_capacity(field::WIDTH * totals.len());
-    for &total in &totals {
-        field::put(&mut bytes, total);
-    }
-    Ok(Joined {
-        count: count.unwrap_or(0),
-        totals: bytes,
-    })
+    Ok((count.unwrap_or(0), totals))
 }
 
 /// The count and the totals of the closing message at one place; `None` for a wrong kind

@@ -67,6 +67,7 @@ mod points;
 mod shape;
 mod slot;
 mod totals;
+mod walk;
 
 use crate::field;
 use crate::judging::{

@@ -5,7 +5,7 @@
 //!
 //! * the plain form, one module for each part of the paper: [`field`], [`sheet`],
 //!   [`mod@circuit`], [`mod@sizes`], [`limits`], [`values`], [`listing`], [`making`],
-//!   [`judging`], [`table`], [`joining`], [`mod@recount`] and [`shelf`];
+//!   [`judging`], [`table`], [`joining`], [`mod@line`], [`mod@recount`] and [`shelf`];
 //! * the fast form, [`fast`], with the same calls and the same answers;
 //! * the lent form, [`lent`], with the calls on a table in three parts that the host lends.
 //!
@@ -27,6 +27,7 @@ pub mod joining;
 pub mod judging;
 pub mod lent;
 pub mod limits;
+pub mod line;
 pub mod listing;
 pub mod making;
 pub mod recount;
@@ -39,6 +40,7 @@ pub mod values;
 
 pub use circuit::{circuit, read_circuit, Circuit, Step};
 pub use joining::{join, Joined};
+pub use line::{line, Line};
 pub use listing::{every_return, Listing};
 pub use making::make;
 pub use recount::recount;

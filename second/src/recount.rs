@@ -26,7 +26,8 @@ fn report(input: &[u8]) -> Result<String, u32> {
     let mut text = format!("accepted {count}\n");
     let mut totals = field::words(&totals);
     for (number, column) in (1..).zip(Sheet::read(sheet)?.columns()) {
-        // Options from 0; always 0 for kinds 17, 19 and 20, which publish one entry.
+        // Options from 0; always 0 for kinds 17, 19 and 20, which publish one entry, and 0 to 3
+        // for kind 21.
         for (option, total) in (0..column.published()).zip(totals.by_ref()) {
             // Writing to a string does not fail.
             let _ = writeln!(text, "{number} {option} {total}");

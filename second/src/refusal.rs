@@ -2,7 +2,7 @@
 
 /// Unknown kind or cut body.
 pub const KIND: u32 = 1;
-/// A count, constant, server number, N or Q outside its limits.
+/// A count, constant, server number, column number, N or Q outside its limits.
 pub const LIMIT: u32 = 2;
 /// A wire not yet made, or an entry not below L.
 pub const WIRE: u32 = 3;
@@ -34,5 +34,7 @@ pub const FEW: u32 = 15;
 pub const UNEQUAL: u32 = 16;
 /// More than 4,096 lists.
 pub const MANY: u32 = 17;
+/// No line: a determinant of zero.
+pub const NO_LINE: u32 = 18;
 /// A run that is not R × W bytes.
 pub const RUN: u32 = 19;

@@ -23,6 +23,8 @@ pub enum Column {
     /// Kind 20 with a top T of b bits: "the entries are v, the b bits of v, and the b bits of
     /// T - v".
     Top(u32),
+    /// Kind 21 with b bits: "entries x, x × x, y, x × y, then b bits of x and b bits of y".
+    Point(u8),
 }
 
 impl Column {
@@ -34,7 +36,8 @@ impl Column {
             [17, next @ ..] => (Column::YesNo, next),
             [18, options @ 2..=64, next @ ..] => (Column::Choice(*options), next),
             [19, bits @ 1..=24, next @ ..] => (Column::Number(*bits), next),
-            [18 | 19, _, ..] => return Err(refusal::LIMIT),
+            [21, bits @ 1..=12, next @ ..] => (Column::Point(*bits), next),
+            [18 | 19 | 21, _, ..] => return Err(refusal::LIMIT),
             // "A T out of range is refused as a count."
             [20, t0, t1, t2, t3, next @ ..] => match u32::from_le_bytes([*t0, *t1, *t2, *t3]) {
                 top @ 1..=MAX_TOP => (Column::Top(top), next),
@@ -45,11 +48,11 @@ impl Column {
         }))
     }
 
-    /// "With b the bit length of T": b of kinds 19 and 20, 0 of the others.
+    /// "With b the bit length of T": b of kinds 19, 20 and 21, 0 of the others.
     pub(crate) fn bits(self) -> u8 {
         match self {
             Column::YesNo | Column::Choice(_) => 0,
-            Column::Number(bits) => bits,
+            Column::Number(bits) | Column::Point(bits) => bits,
             Column::Top(top) => (u32::BITS - top.leading_zeros()) as u8,
         }
     }
@@ -61,35 +64,39 @@ impl Column {
             Column::Choice(options) => usize::from(options),
             Column::Number(bits) => 1 + usize::from(bits),
             Column::Top(_) => 1 + 2 * usize::from(self.bits()),
+            Column::Point(bits) => 4 + 2 * usize::from(bits),
         }
     }
 
     /// How many of its entries are published. They stand at the column's start:
-    /// every entry of kinds 17 and 18, and v of kinds 19 and 20.
+    /// every entry of kinds 17 and 18, v of kinds 19 and 20, and four entries of kind 21.
     pub fn published(self) -> usize {
         match self {
             Column::YesNo | Column::Number(_) | Column::Top(_) => 1,
             Column::Choice(options) => usize::from(options),
+            Column::Point(_) => 4,
         }
     }
 
-    /// How many multiplications its part of the circuit has: one for each bit check.
+    /// How many multiplications its part of the circuit has: one for each bit check, and
+    /// x × x and x × y of kind 21.
     pub fn multiplications(self) -> usize {
         match self {
             Column::YesNo => 1,
             Column::Choice(options) => usize::from(options),
             Column::Number(bits) => usize::from(bits),
             Column::Top(_) => 2 * usize::from(self.bits()),
+            Column::Point(bits) => 2 * usize::from(bits) + 2,
         }
     }
 
-    /// How many tests its part of the circuit has: one for each bit check, and one
-    /// for each sum: one sum of kinds 18 and 19, two of kind 20.
+    /// How many tests its part of the circuit has: one for each multiplication, and one
+    /// for each sum: one sum of kinds 18 and 19, two of kinds 20 and 21.
     pub fn tests(self) -> usize {
         match self {
             Column::YesNo => 1,
             Column::Choice(_) | Column::Number(_) => self.multiplications() + 1,
-            Column::Top(_) => self.multiplications() + 2,
+            Column::Top(_) | Column::Point(_) => self.multiplications() + 2,
         }
     }
 
@@ -101,15 +108,19 @@ impl Column {
             Column::Number(bits) => 1u32.checked_shl(u32::from(bits)).unwrap_or(u32::MAX),
             // "Legal values are 0 to T."
             Column::Top(top) => top.saturating_add(1),
+            // "Its value is the number x + 2^b × y."
+            Column::Point(bits) => 1u32.checked_shl(2 * u32::from(bits)).unwrap_or(u32::MAX),
         }
     }
 
-    /// The largest value of a published entry: 2^b - 1 for kind 19, T for kind 20, else 1.
+    /// The largest value of a published entry: 2^b - 1 for kind 19, T for kind 20, the square
+    /// of 2^b - 1 for kind 21, else 1.
     pub fn largest(self) -> u64 {
         match self {
             Column::YesNo | Column::Choice(_) => 1,
             Column::Number(_) => u64::from(self.values()) - 1,
             Column::Top(top) => u64::from(top),
+            Column::Point(bits) => ((1u64 << bits) - 1).pow(2),
         }
     }
 }
@@ -256,5 +267,25 @@ mod tests {
         assert_eq!(Column::Top((1 << 23) - 1).bits(), 23);
         assert_eq!(Column::Top(1 << 23).bits(), 24);
         assert_eq!(Column::Top(MAX_TOP).bits(), 24);
+    }
+
+    #[test]
+    fn counts_of_points() {
+        let sheet = Sheet::read(&[17, 21, 3, 19, 2, 21, 12]).unwrap();
+        let (small, large) = (Column::Point(3), Column::Point(12));
+        let columns = [Column::YesNo, small, Column::Number(2), large];
+        assert_eq!(sheet.columns(), columns);
+        assert_eq!(sheet.entries(), 1 + 10 + 3 + 28);
+        assert_eq!(sheet.published(), 1 + 4 + 1 + 4);
+        assert_eq!(sheet.multiplications(), 1 + 8 + 2 + 26);
+        assert_eq!(sheet.tests(), 1 + 10 + 3 + 28);
+        let published: Vec<usize> = sheet.published_entries().collect();
+        assert_eq!(published, [0, 1, 2, 3, 4, 11, 14, 15, 16, 17]);
+        assert_eq!((small.values(), small.largest()), (64, 49));
+        assert_eq!((large.values(), large.largest()), (1 << 24, 16_769_025));
+        assert_eq!(
+            (Column::Point(1).values(), Column::Point(1).largest()),
+            (4, 1)
+        );
     }
 }

@@ -33,6 +33,13 @@ pub fn encode(sheet: &Sheet, values: &[u8]) -> Result<Vec<u64>, u32> {
                 entries.extend(bits_of(value, column.bits()));
                 entries.extend(bits_of(top - value, column.bits()));
             }
+            // "Entries x, x × x, y, x × y, then b bits of x and b bits of y ... Its value is
+            // the number x + 2^b × y."
+            Column::Point(bits) => {
+                let (x, y) = (value % (1 << bits), value >> bits);
+                entries.extend([x, x * x, y, x * y].map(u64::from));
+                entries.extend(bits_of(x, bits).chain(bits_of(y, bits)));
+            }
         }
     }
     Ok(entries)
@@ -89,5 +96,27 @@ mod tests {
         for wrong in [6, 7, 8, 1 << 24, u32::MAX] {
             assert_eq!(encode(&sheet, &bytes(&[wrong, 1])), Err(refusal::VALUES));
         }
+    }
+
+    #[test]
+    fn points() {
+        let sheet = Sheet::read(&[21, 3, 17]).unwrap();
+        for (value, entries) in [
+            (0, [0, 0, 0, 0, 0, 0, 0, 0, 0, 0]),
+            (6, [6, 36, 0, 0, 0, 1, 1, 0, 0, 0]),
+            (8, [0, 0, 1, 0, 0, 0, 0, 1, 0, 0]),
+            (5 + 8 * 3, [5, 25, 3, 15, 1, 0, 1, 1, 1, 0]),
+            (63, [7, 49, 7, 49, 1, 1, 1, 1, 1, 1]),
+        ] {
+            let entries = [&entries[..], &[1]].concat();
+            assert_eq!(encode(&sheet, &bytes(&[value, 1])), Ok(entries));
+        }
+        for wrong in [64, 65, 512, u32::MAX] {
+            assert_eq!(encode(&sheet, &bytes(&[wrong, 1])), Err(refusal::VALUES));
+        }
+        let sheet = Sheet::read(&[21, 12]).unwrap();
+        let entries = encode(&sheet, &bytes(&[(1 << 24) - 1])).unwrap();
+        assert_eq!(entries[..4], [4_095, 16_769_025, 4_095, 16_769_025]);
+        assert_eq!(entries[4..], [1; 24]);
     }
 }

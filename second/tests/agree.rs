@@ -79,15 +79,18 @@ fn tables_agree_after_every_call() {
 /// Full-size sheets of every kind, with r at and around the points of h.
 #[test]
 fn full_sheets_agree() {
-    let sheets: [Vec<u8>; 8] = [
+    let sheets: [Vec<u8>; 11] = [
         vec![17; 256],
         vec![18, 64, 18, 64, 18, 64, 18, 64],
         [18, 2].repeat(128),
-        [19, 24].repeat(10).into_iter().chain([19, 5]).collect(),
+        [[19, 24].repeat(10), vec![19, 5]].concat(),
         [19, 1].repeat(128),
         [17, 18, 3, 19, 7].repeat(21),
         longest_sheet(),
         largest_sheet(),
+        [21, 12].repeat(9),
+        [21, 1].repeat(42),
+        [17, 21, 3, 18, 4, 21, 5, 19, 6, 20, 9, 0, 0, 0].repeat(4),
     ];
     let mut rng = Rng::new(23);
     for bytes in &sheets {

@@ -26,6 +26,12 @@ fn size(column: Column) -> (usize, usize) {
             let (first, second) = (7 + (7 + 5) * b + 3, 5 + 5 + (7 + 5) * b + 3);
             (4 + 10 * b, 3 + check * 2 * b + first + second)
         }
+        Column::Point(bits) => {
+            let b = usize::from(bits);
+            let number = check * b + 7 + (7 + 5) * b + 3;
+            let product = 5 + 7 + 5 + 3;
+            (12 + 10 * b, 4 * 3 + 2 * number + 2 * product)
+        }
     }
 }
 
@@ -60,6 +66,7 @@ fn most(count: impl Fn(Column) -> usize) -> usize {
         .chain((2..=64).map(Column::Choice))
         .chain((1..=24).map(Column::Number))
         .chain(tops().map(Column::Top))
+        .chain((1..=12).map(Column::Point))
         .collect();
     let mut best = vec![0; 257];
     for entries in 1..=256 {
@@ -77,7 +84,7 @@ fn most(count: impl Fn(Column) -> usize) -> usize {
 fn sheet_bytes(column: Column) -> usize {
     match column {
         Column::YesNo => 1,
-        Column::Choice(_) | Column::Number(_) => 2,
+        Column::Choice(_) | Column::Number(_) | Column::Point(_) => 2,
         Column::Top(_) => 5,
     }
 }
@@ -92,6 +99,7 @@ fn largest_circuit_of_a_sheet() {
     assert_eq!(most(|_| 1), 256);
     assert_eq!(most(sheet_bytes), 426);
     let elements = |column: Column| column.entries() + 2 * column.multiplications();
+    assert_eq!(most(elements) + 6, 774);
     assert_eq!(6 + 4 * (most(elements) + 6), 3_102);
     // Sheets that come to these.
     let read = Circuit::of(&Sheet::read(&largest_sheet()).unwrap());
@@ -276,6 +284,7 @@ fn valid_lists_are_the_encodings() {
         &[20, 2, 0, 0, 0],
         &[20, 3, 0, 0, 0],
         &[20, 1, 0, 0, 0, 17],
+        &[21, 1],
     ] {
         let shape = Sheet::read(sheet).unwrap();
         let checks = Circuit::of(&shape);

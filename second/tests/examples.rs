@@ -140,6 +140,7 @@ fn sheets_read_and_refused() {
     // A lone byte 20 is a cut body.
     assert_eq!(circuit(&[20], ROOM), Err(1));
     assert_eq!(circuit(&[21], ROOM), Err(1));
+    assert_eq!(circuit(&[22], ROOM), Err(1));
 }
 
 /// The input of recount in the example.
@@ -228,6 +229,23 @@ fn recount_of_a_top() {
     assert_eq!(recount(&[&most[..], &[129, 0]].concat()), "refused 4\n");
     assert_eq!(recount(&[&most[..], &[128, 0]].concat()), "refused 12\n");
     assert_eq!(recount(&[4, 0, 20, 1, 0, 0, 2, 1, 0]), "refused 1\n");
+}
+
+/// A column of points is published as four totals, options 0 to 3.
+#[test]
+fn recount_of_points() {
+    let mut input = vec![4, 0, 17, 21, 3, 17, 2, 3, 0];
+    input.extend(closing(0, 3, &[P32 - 1, 5, 1, P32 - 9, 30, 0]));
+    input.extend(closing(1, 3, &[3, 1, 13, 18, P32 - 7, 1]));
+    let text = "accepted 3\n1 0 2\n2 0 6\n2 1 14\n2 2 9\n2 3 23\n3 0 1\n";
+    assert_eq!(recount(&input), text);
+    // One total fewer, bits out of range, too many returns.
+    assert_eq!(recount(&input[..input.len() - 4]), "refused 12\n");
+    input[4] = 13;
+    assert_eq!(recount(&input), "refused 2\n");
+    assert_eq!(recount(&[2, 0, 21, 12, 2, 129, 0]), "refused 4\n");
+    assert_eq!(recount(&[2, 0, 21, 12, 2, 128, 0]), "refused 12\n");
+    assert_eq!(recount(&[1, 0, 21, 2, 1, 0]), "refused 1\n");
 }
 
 #[test]

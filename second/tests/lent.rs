@@ -89,10 +89,14 @@ fn shares_agree() {
         [17, 18, 3, 19, 7].repeat(21),
         longest_sheet(),
         largest_sheet(),
+        [21, 12].repeat(9),
+        [21, 1].repeat(42),
+        [17, 21, 3, 18, 4, 21, 5, 19, 6, 20, 9, 0, 0, 0].repeat(4),
     ];
     sheets.extend((1..70).map(|count| vec![17; count]));
     sheets.extend((2..20).map(|options| vec![18, options, 17]));
     sheets.extend((1..24).map(|bits| vec![17, 19, bits]));
+    sheets.extend((1..=12).map(|bits| vec![18, 2, 21, bits, 17]));
     sheets.extend(tops().map(|top| [vec![18, 2], top_column(top), vec![17]].concat()));
     let mut rng = Rng::new(42);
     for bytes in &sheets {

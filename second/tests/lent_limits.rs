@@ -11,12 +11,13 @@ use second::lent::Slot;
 use second::Sheet;
 
 /// Sheets of every kind, all small.
-const SHEETS: [&[u8]; 5] = [
+const SHEETS: [&[u8]; 6] = [
     &[17, 18, 3, 19, 5],
     &[17],
     &[17; 9],
     &[18, 2, 18, 4],
     &[20, 6, 0, 0, 0, 18, 2],
+    &[17, 21, 2],
 ];
 
 #[test]
@@ -26,6 +27,7 @@ fn header_and_sheet_bytes_changed() {
         (&[17], 6),
         (&[17; 9], 1024),
         (&[20, 5, 0, 0, 0, 17], 6),
+        (&[21, 1, 17], 6),
     ] {
         let Stages { tables, calls } = stages(sheet, limit);
         for (number, table) in tables.iter().enumerate() {

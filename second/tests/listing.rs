@@ -26,6 +26,9 @@ fn by_hand() {
     assert_eq!(lists(&[20, 4, 0, 0, 0]), [[0], [1], [2], [3], [4]]);
     let top = [[0, 0], [0, 1], [0, 2], [1, 0], [1, 1], [1, 2]];
     assert_eq!(lists(&[17, 20, 2, 0, 0, 0]), top);
+    assert_eq!(lists(&[21, 1]), [[0], [1], [2], [3]]);
+    let sixteen: Vec<Vec<u32>> = (0..16).map(|value| vec![value]).collect();
+    assert_eq!(lists(&[21, 2]), sixteen);
     let mixed = [[0, 0], [0, 1], [0, 2], [1, 0], [1, 1], [1, 2]];
     assert_eq!(lists(&[17, 18, 3]), mixed);
     let turned = [[0, 0], [0, 1], [1, 0], [1, 1], [2, 0], [2, 1]];
@@ -65,7 +68,7 @@ fn rising_and_legal() {
 /// A list is written exactly when making takes its values.
 #[test]
 fn all_and_no_other() {
-    let sheets: [&[u8]; 7] = [
+    let sheets: [&[u8]; 9] = [
         &[17, 17],
         &[18, 4, 17],
         &[19, 2, 18, 3],
@@ -73,6 +76,8 @@ fn all_and_no_other() {
         &[17, 19, 1, 18, 2],
         &[20, 6, 0, 0, 0],
         &[20, 1, 0, 0, 0, 17, 20, 2, 0, 0, 0],
+        &[21, 1],
+        &[17, 21, 1, 18, 2],
     ];
     for bytes in sheets {
         let sheet = Sheet::read(bytes).unwrap();
@@ -102,11 +107,14 @@ fn limits() {
         (top_column(4095), 4096),
         ([top_column(584), vec![18, 7]].concat(), 4095),
         (top_column(1).repeat(12), 4096),
+        (vec![21, 6], 4096),
+        ([21, 1].repeat(6), 4096),
+        (vec![21, 5, 18, 4], 4096),
     ] {
         assert_eq!(every_return(&sheet, ROOM).unwrap().lists, lists);
     }
     let many = [vec![18, 41, 18, 50, 17], [18, 3].repeat(8), vec![19, 13]];
-    let more = [vec![19, 24], [18, 64].repeat(4), [19, 24].repeat(10)];
+    let more = [vec![19, 24], vec![21, 7], vec![21, 12], [21, 12].repeat(9)];
     let tops = [4096, 16_777_215].map(top_column);
     let wide = [
         [top_column(2047), vec![18, 3]].concat(),

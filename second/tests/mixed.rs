@@ -206,7 +206,8 @@ fn eight_returns_mixed() {
 #[test]
 fn eight_large_returns_mixed() {
     let mut rng = Rng::new(62);
-    for sheet in [vec![17; 256], longest_sheet(), largest_sheet()] {
+    let points = [21, 1].repeat(42);
+    for sheet in [vec![17; 256], longest_sheet(), largest_sheet(), points] {
         let setting = Setting {
             servers: 2,
             own: rng.below(2) as u32,

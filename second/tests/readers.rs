@@ -8,7 +8,7 @@ use second::{read_circuit, Sheet};
 fn sheet_refusals() {
     let read = |bytes: &[u8]| Sheet::read(bytes).map(|_| ());
     // Kinds and cut bodies.
-    for kind in (0..=255).filter(|kind| !(17..=20).contains(kind)) {
+    for kind in (0..=255).filter(|kind| !(17..=21).contains(kind)) {
         assert_eq!(read(&[kind]), Err(1));
         assert_eq!(read(&[17, kind, 2, 0, 0, 0]), Err(1));
     }
@@ -81,6 +81,28 @@ fn sheet_refusals() {
     long.push(1);
     assert_eq!(read(&long), Err(2));
     assert_eq!(read(&vec![17; 1_000_000]), Err(2));
+}
+
+#[test]
+fn sheets_with_points() {
+    let read = |bytes: &[u8]| Sheet::read(bytes).map(|_| ());
+    assert_eq!(read(&[21]), Err(1));
+    assert_eq!(read(&[17, 17, 21]), Err(1));
+    for count in 0..=255 {
+        let answer = (1..=12).contains(&count).then_some(()).ok_or(2);
+        assert_eq!(read(&[21, count]), answer);
+    }
+    assert_eq!(read(&[21, 0, 99]), Err(2));
+    assert_eq!(read(&[21, 13, 21]), Err(2));
+    assert_eq!(read(&[22, 21, 13]), Err(1));
+    // 9 of 28 entries and 4 more; 42 of 6 entries and 4 more.
+    let points = [21, 12].repeat(9);
+    assert_eq!(read(&[&points[..], &[17; 4]].concat()), Ok(()));
+    assert_eq!(read(&[&points[..], &[17; 5]].concat()), Err(2));
+    let points = [21, 1].repeat(42);
+    assert_eq!(read(&[&points[..], &[17; 4]].concat()), Ok(()));
+    assert_eq!(read(&[&points[..], &[17; 5]].concat()), Err(2));
+    assert_eq!(read(&[&points[..], &[21, 1]].concat()), Err(2));
 }
 
 /// A circuit from steps in bytes.

@@ -55,6 +55,17 @@ fn opening() {
     assert_eq!(refused(2, 0, &top_column(2_097_152), 1024), Some(4));
 }
 
+/// The square of 2^b - 1 is the largest value: 128 times 16,769,025 is below p.
+#[test]
+fn opening_with_points() {
+    for (bits, most) in [(12, 128), (11, 512), (10, 1024), (1, 1024)] {
+        let refused = |limit| open(2, 0, &[17, 21, bits], limit, 1).err();
+        let more = if most == 1024 { 2 } else { 4 };
+        assert_eq!(refused(most), None);
+        assert_eq!(refused(most + 1), Some(more));
+    }
+}
+
 #[test]
 fn making() {
     let sheet = [17, 18, 3];
@@ -119,6 +130,24 @@ fn values_at_the_top() {
         ] {
             let made = make(&sheet, 2, 1, &words(&[value]), &random, ROOM);
             assert_eq!(made.err(), number, "{value} of {top}");
+        }
+    }
+}
+
+/// x + 2^b × y is below 4^b.
+#[test]
+fn values_of_points() {
+    for bits in 1..=12 {
+        let sheet = [21, bits];
+        let shape = Sheet::read(&sheet).unwrap();
+        let random = words(&vec![3; shape.share_elements() + 4]);
+        let past = 1u32 << (2 * bits);
+        for value in [0, 1, 1 << bits, past - (1 << bits), past - 1] {
+            assert!(make(&sheet, 2, 1, &words(&[value]), &random, ROOM).is_ok());
+        }
+        for value in [past, past + 1, 2 * past, u32::MAX] {
+            let made = make(&sheet, 2, 1, &words(&[value]), &random, ROOM);
+            assert_eq!(made, Err(5));
         }
     }
 }

@@ -126,7 +126,7 @@ fn entries_at_all_times() {
     let scripts: [fn(u64) -> Script; 2] = [Script::orderly, Script::wild];
     for of in scripts {
         let mut all = Met::new();
-        for seed in 0..300 {
+        for seed in 0..330 {
             play(&mut all, &of(seed));
         }
         let few = LEAST

@@ -46,6 +46,10 @@ fn by_hand() {
     assert_eq!(top(3), top(2));
     assert_eq!(top(200), [1, 17, 1, 85, 16, 18, 479, 226, 1024]);
     assert_eq!(top(16_777_215), [1, 49, 1, 245, 48, 50, 1375, 610, 128]);
+    assert_eq!(row(&[21, 1]), [1, 6, 4, 23, 4, 6, 133, 86, 1024]);
+    assert_eq!(row(&[21, 2]), [1, 8, 4, 33, 6, 8, 189, 110, 1024]);
+    assert_eq!(row(&[21, 11]), [1, 26, 4, 123, 24, 26, 693, 326, 512]);
+    assert_eq!(row(&[21, 12]), [1, 28, 4, 133, 26, 28, 749, 350, 128]);
     let mixed = [17, 18, 3, 19, 4];
     assert_eq!(row(&mixed), [3, 9, 5, 38, 8, 10, 212, 130, 1024]);
     // The largest of each count.
@@ -112,6 +116,7 @@ fn the_greatest_n() {
     let mut sheets: Vec<Vec<u8>> = (1..=24).map(|bits| vec![19, bits]).collect();
     sheets.extend([vec![17], vec![18, 64], vec![19, 3, 19, 24, 17]]);
     sheets.extend([2_097_151, 2_097_152, 8_388_608].map(top_column));
+    sheets.extend((1..=12).map(|bits| vec![17, 21, bits]));
     sheets.extend((0..12).map(|_| gen::sheet(&mut rng, 40)));
     for sheet in &sheets {
         let opening = |limit: &u32| open(2, 1, sheet, *limit, 1).is_ok();
@@ -126,5 +131,8 @@ fn the_greatest_n() {
     }
     for (bits, most) in [(24, 128), (23, 256), (22, 512), (21, 1024)] {
         assert_eq!(sizes(&[19, bits]).unwrap().greatest_limit, most);
+    }
+    for (bits, most) in [(12, 128), (11, 512), (10, 1024), (1, 1024)] {
+        assert_eq!(sizes(&[21, bits]).unwrap().greatest_limit, most);
     }
 }

@@ -13,12 +13,22 @@ fn add_values(sheet: &Sheet, values: &[u8], sums: &mut [u64]) {
     let mut at = 0;
     for (column, value) in sheet.columns().iter().zip(values.chunks(4)) {
         let value = u32::from_le_bytes(value.try_into().unwrap());
-        if let Column::Choice(options) = column {
-            sums[at + value as usize] += 1;
-            at += usize::from(*options);
-        } else {
-            sums[at] += u64::from(value);
-            at += 1;
+        match *column {
+            Column::Choice(options) => {
+                sums[at + value as usize] += 1;
+                at += usize::from(options);
+            }
+            Column::Point(bits) => {
+                let (x, y) = (u64::from(value) % (1 << bits), u64::from(value) >> bits);
+                for (sum, term) in sums[at..].iter_mut().zip([x, x * x, y, x * y]) {
+                    *sum += term;
+                }
+                at += 4;
+            }
+            _ => {
+                sums[at] += u64::from(value);
+                at += 1;
+            }
         }
     }
 }
@@ -66,6 +76,8 @@ fn true_sums() {
         [18, 2].repeat(128),
         longest_sheet(),
         largest_sheet(),
+        [21, 12].repeat(9),
+        [21, 1].repeat(42),
     ];
     for max in [1, 2, 5, 10, 20, 40, 80] {
         for _ in 0..6 {

@@ -30,6 +30,7 @@ pub enum Function {
     Drop,
     Close,
     Join,
+    Line,
     Shelve,
     Unshelve,
 }
@@ -43,6 +44,7 @@ pub struct Call {
     pub returns: u32,
     pub least: u32,
     pub entries: u32,
+    pub column: u32,
     pub id: u32,
     pub messages: u32,
     pub width: u32,
@@ -61,11 +63,12 @@ pub struct Call {
     pub elements: usize,
 }
 
-/// What a call that is done gives: its numbers, the bytes written, and the whole lent table after it; of an opened table
-/// the bytes and numbers that belong to it.
+/// What a call that is done gives: its numbers, those with a sign, the bytes written, and the whole lent table after it; of
+/// an opened table the bytes and numbers that belong to it.
 #[derive(Clone, Debug, PartialEq, Eq)]
 pub struct Done {
     pub numbers: Vec<u64>,
+    pub signed: Vec<i64>,
     pub bytes: Vec<u8>,
     pub table: Parts,
 }
@@ -75,7 +78,13 @@ pub type Outcome = Result<Done, u32>;
 
 /// A call on no table that is done.
 pub fn plain(numbers: Vec<u64>, bytes: Vec<u8>) -> Outcome {
-    Ok(Done { numbers, bytes, table: Parts::default() })
+    Ok(Done { numbers, signed: Vec::new(), bytes, table: Parts::default() })
+}
+
+/// A line that is found.
+pub fn found(determinant: i64, slope: i64, intercept: i64) -> Outcome {
+    let signed = vec![determinant, slope, intercept];
+    Ok(Done { numbers: Vec::new(), signed, bytes: Vec::new(), table: Parts::default() })
 }
 
 impl Call {
@@ -88,6 +97,7 @@ impl Call {
             returns: 0,
             least: 0,
             entries: 0,
+            column: 0,
             id: 0,
             messages: 0,
             width: 0,
@@ -126,6 +136,7 @@ impl Call {
             Function::Drop => self.by_id(rng, c::pool_drop),
             Function::Close => self.close(rng),
             Function::Join => self.join(rng),
+            Function::Line => self.line(rng),
             Function::Shelve => self.shelve(rng),
             Function::Unshelve => self.unshelve(rng),
         }

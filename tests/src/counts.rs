@@ -30,7 +30,7 @@ pub fn refusals(suite: &mut Suite) -> Verdict {
 /// Columns, L, published, wires, M, K, circuit bytes, share bytes and greatest N of some sheets, the largest among them.
 pub fn by_hand(suite: &mut Suite) -> Verdict {
     suite.seed(13);
-    let rows: [(Vec<u8>, [u64; 9]); 18] = [
+    let rows: [(Vec<u8>, [u64; 9]); 24] = [
         (vec![17], [1, 1, 1, 4, 1, 1, 21, 42, 1024]),
         (vec![18, 2], [1, 2, 2, 9, 2, 3, 50, 54, 1024]),
         (vec![18, 3], [1, 3, 3, 13, 3, 4, 71, 66, 1024]),
@@ -47,6 +47,12 @@ pub fn by_hand(suite: &mut Suite) -> Verdict {
         (top_column(200), [1, 17, 1, 85, 16, 18, 479, 226, 1024]),
         (top_column(0xFF_FFFF), [1, 49, 1, 245, 48, 50, 1375, 610, 128]),
         (vec![17, 20, 2, 0, 0, 0, 19, 4], [3, 11, 3, 50, 9, 12, 284, 146, 1024]),
+        (vec![21, 1], [1, 6, 4, 23, 4, 6, 133, 86, 1024]),
+        (vec![21, 2], [1, 8, 4, 33, 6, 8, 189, 110, 1024]),
+        (vec![21, 12], [1, 28, 4, 133, 26, 28, 749, 350, 128]),
+        (vec![17, 21, 11, 18, 3], [3, 30, 8, 138, 28, 31, 775, 374, 512]),
+        ([21, 1].repeat(42), [42, 252, 168, 925, 168, 252, 5381, 2382, 1024]),
+        ([21, 12].repeat(9), [9, 252, 36, 1189, 234, 252, 6701, 2910, 128]),
         (largest_sheet(), [6, 256, 6, 1275, 250, 262, 7161, 3054, 255]),
         (longest_sheet(), [86, 256, 86, 1194, 171, 341, 6991, 2422, 1024]),
     ];
@@ -121,7 +127,7 @@ fn shown(suite: &mut Suite, sheet: &[u8], servers: u32) -> Verdict {
     openings(suite, sheet, servers, told)
 }
 
-/// Every choice and every number by itself, and the greatest N of each number of bits; some tops.
+/// Every choice, number and point by itself, and the greatest N of each number of bits; some tops.
 pub fn columns(suite: &mut Suite) -> Verdict {
     suite.seed(14);
     shown(suite, &[17], 2)?;
@@ -134,6 +140,13 @@ pub fn columns(suite: &mut Suite) -> Verdict {
         let most = 1024 >> bits.saturating_sub(21);
         if greatest != most {
             return Err(format!("{bits} bits: the greatest N is {greatest}\nmust be {most}"));
+        }
+    }
+    for (bits, most) in (1..=12).map(|bits| (bits, [1024, 512, 128][usize::from(bits.max(10)) - 10])) {
+        shown(suite, &[21, bits], 3)?;
+        let greatest = told(suite, &[21, bits])?[8];
+        if greatest != most {
+            return Err(format!("a point of {bits} bits: the greatest N is {greatest}\nmust be {most}"));
         }
     }
     tops(suite)

@@ -6,7 +6,7 @@ mod tables;
 use second::gen::{self, Rng};
 use second::Sheet;
 
-use crate::calls::{Call, Function};
+use crate::calls::{found, Call, Function};
 use crate::layout::put_word;
 use crate::suite::{Suite, Verdict};
 pub use rounds::{round_one, round_two};
@@ -58,9 +58,11 @@ fn servers(order: u32) -> Vec<Fault> {
 
 /// Sheets that are refused 1 or 2.
 pub fn sheets(order: u32) -> Vec<Fault> {
-    let wrong: [(u32, Vec<u8>); 15] = [
+    let wrong: [(u32, Vec<u8>); 20] = [
         (1, vec![20]),
         (1, vec![21]),
+        (1, vec![22]),
+        (1, vec![17, 21]),
         (1, vec![17, 20, 200, 0, 0]),
         (1, vec![17, 18]),
         (1, vec![17, 19]),
@@ -73,6 +75,9 @@ pub fn sheets(order: u32) -> Vec<Fault> {
         (2, vec![20, 0, 0, 0, 0]),
         (2, vec![20, 0, 0, 0, 1]),
         (2, vec![20, 255, 255, 255, 255, 99]),
+        (2, vec![21, 0]),
+        (2, vec![21, 13]),
+        (2, vec![21, 255, 99]),
         (2, vec![17; 257]),
     ];
     let changed =
@@ -80,7 +85,8 @@ pub fn sheets(order: u32) -> Vec<Fault> {
     wrong.into_iter().map(changed).collect()
 }
 
-/// N outside 1 to 1,024, and N that a number of 24 bits or the greatest top does not allow: `wraps` is the order of 4.
+/// N outside 1 to 1,024, and N that a number of 24 bits, the greatest top or a point of 12 bits does not allow: `wraps` is
+/// the order of 4.
 fn returns(order: u32, wraps: u32) -> Vec<Fault> {
     let wrong = [(0, 2), (1025, 2), (65_537, 2), (u32::MAX, 2), (129, 4), (1024, 4)];
     let changed = |(returns, number): (u32, u32)| {
@@ -93,7 +99,7 @@ fn returns(order: u32, wraps: u32) -> Vec<Fault> {
 /// Sheet to circuit: the sheet, 14.
 pub fn circuit(suite: &mut Suite) -> Verdict {
     suite.seed(1);
-    let sheet = vec![17, 18, 3, 19, 4, 20, 5, 0, 0, 0];
+    let sheet = vec![17, 18, 3, 19, 4, 20, 5, 0, 0, 0, 21, 2];
     let room = second::circuit(&sheet, usize::MAX).map_or(0, |bytes| bytes.len());
     let base = Call { sheet, room, ..Call::of(Function::Circuit) };
     let mut faults = sheets(0);
@@ -101,14 +107,15 @@ pub fn circuit(suite: &mut Suite) -> Verdict {
     alone_and_in_pairs(suite, &base, &faults)
 }
 
-/// Values that are refused 5: of a sheet of a yes/no, a choice of 3, a number of 4 bits and one up to 5.
+/// Values that are refused 5: of a sheet of a yes/no, a choice of 3, a number of 4 bits, one up to 5 and a point of 2 bits.
 fn values(order: u32) -> Vec<Fault> {
     let value =
         |at: usize, wrong: u32| fault(order, 5, "values", move |call| put_word(&mut call.values, 4 * at, wrong.into()));
     let length = |length: usize| fault(order, 5, "values", move |call| call.values.resize(length, 0));
     let mut faults = vec![value(0, 2), value(0, 256), value(1, 3), value(2, 16), value(2, u32::MAX)];
     faults.extend([6, 7, 8, 261, u32::MAX].map(|wrong| value(3, wrong)));
-    faults.extend([0, 12, 15, 17, 20].map(length));
+    faults.extend([16, 17, 256, 271, u32::MAX].map(|wrong| value(4, wrong)));
+    faults.extend([0, 16, 19, 21, 24].map(length));
     faults
 }
 
@@ -125,7 +132,7 @@ fn randoms(order: u32, count: usize) -> Vec<Fault> {
 /// Making: the sheet, S, 5, 6, 14.
 pub fn make(suite: &mut Suite) -> Verdict {
     let mut rng: Rng = suite.seed(2);
-    let bytes = vec![17, 18, 3, 19, 4, 20, 5, 0, 0, 0];
+    let bytes = vec![17, 18, 3, 19, 4, 20, 5, 0, 0, 0, 21, 2];
     let sheet = Sheet::read(&bytes).map_err(|number| format!("refused {number}"))?;
     let count = 2 * sheet.share_elements() + 4;
     let base = Call {
@@ -145,7 +152,7 @@ pub fn make(suite: &mut Suite) -> Verdict {
     alone_and_in_pairs(suite, &base, &faults)
 }
 
-/// Three totals messages of the sheets 17, 18 3, 19 24 and 17, 18 3, 20 16,777,215.
+/// Three totals messages of the sheets 17, 18 3, 19 24 and 17, 18 3, 20 16,777,215 and 17, 21 12.
 fn totals(count: u32) -> Vec<u8> {
     let message = |server: u8| {
         let mut message = vec![36, server];
@@ -178,7 +185,7 @@ fn joined_totals(order: u32) -> Vec<Fault> {
 /// Joining: S, the sheet, N, 4, 12, 14.
 pub fn join(suite: &mut Suite) -> Verdict {
     suite.seed(11);
-    for sheet in [vec![17, 18, 3, 19, 24], vec![17, 18, 3, 20, 255, 255, 255, 0]] {
+    for sheet in [vec![17, 18, 3, 19, 24], vec![17, 18, 3, 20, 255, 255, 255, 0], vec![17, 21, 12]] {
         let base = Call { servers: 3, sheet, returns: 128, message: totals(3), room: 20, ..Call::of(Function::Join) };
         let mut faults = servers(0);
         faults.extend(sheets(1));
@@ -192,4 +199,36 @@ pub fn join(suite: &mut Suite) -> Verdict {
         suite.number(&Call { message: totals(0), ..base }, 0)?;
     }
     Ok(())
+}
+
+/// Columns that are none, or not of points, on a sheet of a yes/no and a point.
+fn columns(order: u32) -> Vec<Fault> {
+    let wrong = [0, 1, 3, 4, 256, 258, 65_538, u32::MAX];
+    wrong.map(|number| fault(order, 2, "column", move |call| call.column = number)).into()
+}
+
+/// A line: S, the sheet, N, 4, the column, 12, 18.
+pub fn line(suite: &mut Suite) -> Verdict {
+    suite.seed(17);
+    // n = 3 and the points (1, 1), (2, 3), (3, 5): sums 6, 14, 9, 22, of which server 0 has all but 2 each.
+    let mut message = totals(3);
+    for (at, total) in [(10, 4), (14, 12), (18, 7), (22, 20)] {
+        put_word(&mut message, at, total);
+    }
+    let (sheet, returns, column) = (vec![17, 21, 12], 128, 2);
+    let base = Call { servers: 3, sheet, returns, message, column, ..Call::of(Function::Line) };
+    suite.gives(&base, found(6, 12, -6))?;
+    let mut faults = servers(0);
+    faults.extend(sheets(1));
+    faults.extend(self::returns(2, 3));
+    faults.extend(columns(4));
+    // Sxx = 12 with Sx = 6 and n = 3.
+    faults.push(fault(6, 18, "sum", |call| put_word(&mut call.message, 14, 10)));
+    faults.extend(joined_totals(5));
+    alone_and_in_pairs(suite, &base, &faults)?;
+    let mut level = base.clone();
+    level.message = totals(129);
+    suite.number(&level, 12)?;
+    level.message = totals(3);
+    suite.number(&level, 18)
 }

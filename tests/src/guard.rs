@@ -248,6 +248,10 @@ pub fn word32(name: &'static str, rng: &mut Rng) -> Word<u32> {
     Word::holding(name, [(); 3].map(|()| rng.next_u64() as u32))
 }
 
+pub fn word_signed(name: &'static str, rng: &mut Rng) -> Word<i64> {
+    Word::holding(name, [(); 3].map(|()| rng.next_u64() as i64))
+}
+
 pub fn word_size(name: &'static str, rng: &mut Rng) -> Word<usize> {
     Word::holding(name, [(); 3].map(|()| rng.next_u64() as usize))
 }

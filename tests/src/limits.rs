@@ -14,7 +14,7 @@ use crate::tops::{longest_sheet, top_column};
 const P: u64 = 2_147_483_647;
 
 /// Tells what a sheet comes to, writes its circuit, reads the circuit, opens with it.
-fn sheet(suite: &mut Suite, sheet: &[u8], number: u32) -> Verdict {
+pub fn sheet(suite: &mut Suite, sheet: &[u8], number: u32) -> Verdict {
     let sheet = sheet.to_vec();
     suite.number(&Call { sheet: sheet.clone(), ..Call::of(Function::Sizes) }, number)?;
     let call = Call { sheet: sheet.clone(), room: 7_161, ..Call::of(Function::Circuit) };
@@ -35,7 +35,7 @@ pub fn sheets(suite: &mut Suite) -> Verdict {
     for (kind, count, number) in [(19, 0, 2), (19, 1, 0), (19, 24, 0), (19, 25, 2), (19, 255, 2)] {
         sheet(suite, &[kind, count], number)?;
     }
-    for kind in (0..=255).filter(|kind| !(17..=20).contains(kind)) {
+    for kind in (0..=255).filter(|kind| !(17..=21).contains(kind)) {
         sheet(suite, &[kind], 1)?;
         sheet(suite, &[17, kind, 17, 0, 0, 0], 1)?;
     }
@@ -63,16 +63,18 @@ fn tops(suite: &mut Suite) -> Verdict {
 /// The first column at fault counts, also after too many entries. Of two columns at fault the first is not one that the
 /// second could make whole.
 fn first_fault(suite: &mut Suite) -> Verdict {
-    let whole: [(&[u8], u32); 7] = [
+    let whole: [(&[u8], u32); 9] = [
         (&[18, 1], 2),
         (&[19, 25], 2),
         (&[99], 1),
-        (&[21], 1),
+        (&[22], 1),
+        (&[21, 0], 2),
+        (&[21, 13], 2),
         (&[20, 0, 0, 0, 0], 2),
         (&[20, 0, 0, 0, 1], 2),
         (&[20, 255, 255, 255, 255], 2),
     ];
-    let cut: [(&[u8], u32); 5] = [(&[18], 1), (&[19], 1), (&[20], 1), (&[20, 2], 1), (&[20, 0, 0, 0], 1)];
+    let cut: [(&[u8], u32); 6] = [(&[18], 1), (&[19], 1), (&[20], 1), (&[20, 2], 1), (&[20, 0, 0, 0], 1), (&[21], 1)];
     for (one, number) in whole.into_iter().chain(cut) {
         for start in [vec![], vec![17], vec![17; 256], vec![17; 300], top_column(200)] {
             sheet(suite, &[&start[..], one].concat(), number)?;
@@ -154,7 +156,7 @@ pub fn opening(suite: &mut Suite) -> Verdict {
 /// r and s at both sides, on sheets with other numbers of multiplications.
 pub fn pairs(suite: &mut Suite) -> Verdict {
     let sheets = [(vec![17], 1), (vec![18, 64], 64), (vec![19, 24, 17], 25), (vec![17; 256], 256)];
-    for (sheet, m) in sheets.into_iter().chain([(top_column(200), 16)]) {
+    for (sheet, m) in sheets.into_iter().chain([(top_column(200), 16), (vec![21, 3], 8), (vec![17, 21, 12], 27)]) {
         let fixture = Fixture::new(suite, 2, 1, &sheet, 2)?;
         let rs = [(0, 9), (1, 9), (m, 9), (m + 1, 0), (2 * m, 0), (2 * m + 1, 0), (P - 1, 0), (P, 9), (P + 1, 9)];
         let wide = [((1 << 32) + m + 1, 9), ((1 << 32) + P - 1, 9), ((1 << 63) + m + 1, 9), (u64::MAX, 9)];
@@ -196,7 +198,8 @@ pub fn ids(suite: &mut Suite) -> Verdict {
 pub fn rooms(suite: &mut Suite) -> Verdict {
     let mut rng = suite.seed(4);
     let sheets = [(2, vec![17]), (3, vec![17, 18, 3, 19, 4]), (8, vec![17; 256]), (2, [18, 64].repeat(4))];
-    for (servers, bytes) in sheets.into_iter().chain([(3, top_column(200)), (2, longest_sheet())]) {
+    for (servers, bytes) in sheets.into_iter().chain([(3, top_column(200)), (2, longest_sheet()), (3, vec![21, 5, 17])])
+    {
         let sheet = Sheet::read(&bytes).map_err(|number| format!("refused {number}"))?;
         let circuit = second::circuit(&bytes, usize::MAX).map_or(0, |bytes| bytes.len());
         room(suite, &Call { sheet: bytes.clone(), ..Call::of(Function::Circuit) }, circuit)?;
@@ -270,9 +273,10 @@ pub fn elements(suite: &mut Suite) -> Verdict {
 pub fn values(suite: &mut Suite) -> Verdict {
     let mut rng = suite.seed(9);
     let columns = [(vec![17], 1), (vec![18, 2], 1), (vec![18, 64], 63), (vec![19, 1], 1), (vec![19, 24], 0xFF_FFFF)];
+    let points = (1..=12).map(|bits| (vec![21, bits], (1 << (2 * bits)) - 1));
     // With these tops one more has as many bits, or one bit more.
     let tops = [1, 2, 5, 200, 254, 255, 256, 0x80_0000, 0xFF_FFFE, 0xFF_FFFF].map(|top| (top_column(top), top));
-    for (column, last) in columns.into_iter().chain(tops) {
+    for (column, last) in columns.into_iter().chain(tops).chain(points) {
         let bytes = [&column[..], &[17]].concat();
         let sheet = Sheet::read(&bytes).map_err(|number| format!("refused {number}"))?;
         let random = gen::elements(&mut rng, sheet.share_elements() + 4);

@@ -24,7 +24,7 @@ fn bytes_of(list: &[u64]) -> Vec<u8> {
 /// Lists told by hand: the last column moves first.
 pub fn by_hand(suite: &mut Suite) -> Verdict {
     suite.seed(1);
-    let rows: [(&[u8], &[&[u64]]); 8] = [
+    let rows: [(&[u8], &[&[u64]]); 10] = [
         (&[17], &[&[0], &[1]]),
         (&[18, 3], &[&[0], &[1], &[2]]),
         (&[19, 2], &[&[0], &[1], &[2], &[3]]),
@@ -32,6 +32,8 @@ pub fn by_hand(suite: &mut Suite) -> Verdict {
         (&[20, 4, 0, 0, 0], &[&[0], &[1], &[2], &[3], &[4]]),
         (&[17, 20, 2, 0, 0, 0], &[&[0, 0], &[0, 1], &[0, 2], &[1, 0], &[1, 1], &[1, 2]]),
         (&[17, 18, 3], &[&[0, 0], &[0, 1], &[0, 2], &[1, 0], &[1, 1], &[1, 2]]),
+        (&[21, 1], &[&[0], &[1], &[2], &[3]]),
+        (&[17, 21, 1], &[&[0, 0], &[0, 1], &[0, 2], &[0, 3], &[1, 0], &[1, 1], &[1, 2], &[1, 3]]),
         (
             &[19, 1, 17, 18, 2],
             &[&[0, 0, 0], &[0, 0, 1], &[0, 1, 0], &[0, 1, 1], &[1, 0, 0], &[1, 0, 1], &[1, 1, 0], &[1, 1, 1]],
@@ -48,22 +50,25 @@ pub fn order(suite: &mut Suite) -> Verdict {
     suite.seed(2);
     let base = Call { room: 48, ..call(&[17, 18, 3]) };
     let mut faults = sheets(0);
-    for many in [vec![17; 13], vec![19, 13], vec![17; 256], [19, 24].repeat(10), top_column(4096)] {
+    for many in [vec![17; 13], vec![19, 13], vec![17; 256], [19, 24].repeat(10), top_column(4096), vec![21, 7]] {
         faults.push(fault(1, 17, "sheet", move |call| call.sheet.clone_from(&many)));
     }
     faults.extend(rooms(2, 48));
     alone_and_in_pairs(suite, &base, &faults)?;
     // Too many lists, and then a column at fault; too many entries for a sheet.
     let start = [17; 20];
-    let ends: [(&[u8], u32); 9] = [
+    let ends: [(&[u8], u32); 12] = [
         (&[20], 1),
         (&[21], 1),
+        (&[22], 1),
         (&[20, 0, 0, 0], 1),
         (&[18], 1),
         (&[18, 1], 2),
         (&[19, 25], 2),
         (&[18, 65, 99], 2),
         (&[20, 0, 0, 0, 0], 2),
+        (&[21, 13], 2),
+        (&[21, 12], 17),
         (&[17], 17),
     ];
     for (end, number) in ends {
@@ -76,7 +81,7 @@ pub fn order(suite: &mut Suite) -> Verdict {
 /// 4,096 lists are written and no more, whatever wraps at 16, 32 or 64 bits.
 pub fn limits(suite: &mut Suite) -> Verdict {
     suite.seed(3);
-    let written: [(Vec<u8>, u64); 13] = [
+    let written: [(Vec<u8>, u64); 17] = [
         (vec![17; 12], 4096),
         (vec![19, 12], 4096),
         (vec![19, 6, 18, 64], 4096),
@@ -90,6 +95,10 @@ pub fn limits(suite: &mut Suite) -> Verdict {
         (top_column(1).repeat(12), 4096),
         ([top_column(584), vec![18, 7]].concat(), 4095),
         ([vec![17], top_column(2047)].concat(), 4096),
+        (vec![21, 6], 4096),
+        ([21, 1].repeat(6), 4096),
+        (vec![21, 5, 18, 4], 4096),
+        (vec![18, 63, 21, 3], 4032),
     ];
     for (sheet, lists) in written {
         let done = done(suite, &call(&sheet))?;
@@ -103,19 +112,24 @@ pub fn limits(suite: &mut Suite) -> Verdict {
     let wide = [[19, 24].repeat(2), [19, 16].repeat(4), [19, 24].repeat(10), [18, 2].repeat(128), [19, 1].repeat(128)];
     let tops = [4096, 8191, 65_535, 0xFF_FFFF].map(top_column);
     let high = [[vec![17], top_column(2048)].concat(), top_column(15).repeat(8), top_column(1).repeat(85)];
-    for sheet in many.iter().chain(&more).chain(&wide).chain(&tops).chain(&high) {
+    let points =
+        [vec![21, 7], vec![21, 12], vec![21, 6, 17], vec![21, 8, 21, 8], [21, 12].repeat(9), [21, 1].repeat(42)];
+    for sheet in many.iter().chain(&more).chain(&wide).chain(&tops).chain(&high).chain(&points) {
         suite.number(&call(sheet), 17)?;
     }
-    for columns in [13, 14, 16, 17, 31, 32, 33, 44, 63, 64, 65, 76, 128, 255, 256] {
-        suite.number(&call(&vec![17; columns]), 17)?;
-    }
-    Ok(())
+    many_yes_no(suite)
+}
+
+/// 2^13 lists and more.
+fn many_yes_no(suite: &mut Suite) -> Verdict {
+    let counts = [13, 14, 16, 17, 31, 32, 33, 44, 63, 64, 65, 76, 128, 255, 256];
+    counts.into_iter().try_for_each(|columns| suite.number(&call(&vec![17; columns]), 17))
 }
 
 /// The room exact, longer, one short and none.
 pub fn exact_rooms(suite: &mut Suite) -> Verdict {
     suite.seed(4);
-    for (sheet, needed) in [(vec![17], 8), (vec![17, 18, 3, 19, 4], 1152), (vec![17; 12], ROOM), (vec![19, 12], 16_384)]
+    for (sheet, needed) in [(vec![17], 8), (vec![17, 18, 3, 19, 4], 1152), (vec![17; 12], ROOM), (vec![21, 6], 16_384)]
     {
         let rooms =
             [(needed, 0), (needed + 1, 0), (needed + 100, 0), (needed - 1, 14), (needed / 2, 14), (1, 14), (0, 14)];
@@ -186,7 +200,8 @@ pub fn no_other(suite: &mut Suite) -> Verdict {
     let sheets: [&[u8]; 6] =
         [&[17], &[18, 5, 17], &[19, 2, 18, 3], &[17, 17, 17], &[19, 1, 18, 4, 17], &[18, 2, 19, 2, 18, 3]];
     let tops: [&[u8]; 3] = [&[20, 4, 0, 0, 0], &[20, 2, 0, 0, 0, 17], &[20, 1, 0, 0, 0, 18, 3, 20, 4, 0, 0, 0]];
-    for sheet in sheets.into_iter().chain(tops) {
+    let points: [&[u8]; 2] = [&[21, 1], &[17, 21, 1, 18, 2]];
+    for sheet in sheets.into_iter().chain(tops).chain(points) {
         let columns = Sheet::read(sheet).map_or(0, |sheet| sheet.columns().len());
         let lists = written(suite, &mut rng, sheet, columns)?;
         for number in 0..6u64.pow(columns as u32) {

@@ -17,11 +17,13 @@ mod hall;
 mod layout;
 mod least;
 mod limits;
+mod lines;
 mod lists;
 mod mixed;
 mod named;
 mod orders;
 mod pages;
+mod points;
 mod pools;
 mod records;
 mod recount;
@@ -54,7 +56,7 @@ const POOL_BLOCKS: (u64, u64) = (3, 30);
 const MIXED_BLOCKS: (u64, u64) = (6, 40);
 
 /// The refusals of each function, by the header.
-const REFUSALS: [(Function, &[u32]); 15] = [
+const REFUSALS: [(Function, &[u32]); 16] = [
     (Function::Sizes, &[0, 1, 2]),
     (Function::Circuit, &[0, 1, 2, 14]),
     (Function::ReadCircuit, &[0, 1, 2, 3]),
@@ -68,6 +70,7 @@ const REFUSALS: [(Function, &[u32]); 15] = [
     (Function::Drop, &[0, 11]),
     (Function::Close, &[0, 11, 14, 15]),
     (Function::Join, &[0, 1, 2, 4, 12, 14]),
+    (Function::Line, &[0, 1, 2, 4, 12, 18]),
     (Function::Shelve, &[0, 2, 14, 19]),
     (Function::Unshelve, &[0, 2, 14, 19]),
 ];
@@ -109,6 +112,7 @@ fn recounts(tally: &mut Tally) {
     };
     tally.note("recount: the example", recount::example(&program));
     tally.note("recount: columns with a top", recount::tops(&program));
+    tally.note("recount: columns of points", recount::points(&program));
     tally.note("recount: input in pieces", recount::pieces(&program));
     tally.note("recount: limits", recount::limits(&program));
     tally.note("recount: random inputs", recount::random(&program, 0));
@@ -129,7 +133,7 @@ fn fixed(tally: &mut Tally) {
     named(tally, &mut suite, "");
     let (before, met) = (suite.calls, scripts::met(&suite));
     tally.blocks(&mut suite, "whole runs", SCRIPT_BLOCKS, scripts::script);
-    tally.note("whole runs: entries, challenges that differ", scripts::often(&suite, met));
+    tally.note("whole runs: entries, challenges that differ, lines", scripts::often(&suite, met));
     tally.blocks(&mut suite, "single calls", CASE_BLOCKS, scripts::cases);
     tally.blocks(&mut suite, "pools made by the library", POOL_BLOCKS, pools::pool);
     tally.blocks(&mut suite, "mixed returns", MIXED_BLOCKS, mixed::mix);

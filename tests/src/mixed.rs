@@ -7,6 +7,7 @@ use second::Sheet;
 
 use crate::calls::{plain, Call, Function};
 use crate::layout::{read, words, Slot, AWAITS_ENTRY, SLOTS};
+use crate::lines;
 use crate::orders::shuffled;
 use crate::pools::Pool;
 use crate::reference::{ONE_BYTES, TWO_BYTES};
@@ -233,7 +234,8 @@ pub fn often(suite: &Suite) -> Verdict {
 /// Eight and more returns of the largest sheets.
 pub fn large(suite: &mut Suite) -> Verdict {
     let sheets = [(2, vec![17; 256]), (3, [18, 64].repeat(4)), (2, longest_sheet()), (2, largest_sheet())];
-    for (number, (servers, sheet)) in sheets.into_iter().enumerate() {
+    let points = [(2, [21, 1].repeat(42)), (3, vec![21, 12, 17, 21, 7])];
+    for (number, (servers, sheet)) in sheets.into_iter().chain(points).enumerate() {
         let mut rng = suite.seed(256 + number as u64);
         let mut pool = Pool::open(suite, servers, &sheet, 10)?;
         play(suite, &mut rng, &mut pool, 10, SLOTS)?;
@@ -253,5 +255,6 @@ fn ended(suite: &mut Suite, pool: &mut Pool, courses: &[Course]) -> Verdict {
     }
     let join = pool.close(suite)?;
     let bytes = totals.iter().flat_map(|&total| (total as u32).to_le_bytes()).collect();
-    suite.gives(&join, plain(vec![entered.len() as u64], bytes))
+    suite.gives(&join, plain(vec![entered.len() as u64], bytes))?;
+    lines::of_columns(suite, &join, entered.len() as u64, &totals)
 }

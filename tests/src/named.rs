@@ -2,14 +2,14 @@
 
 use crate::suite::{Suite, Verdict};
 use crate::{
-    challenges, circuits, counts, decided, entering, examples, faults, least, limits, lists, mixed, orders, pools,
-    records, shelf, sizes, stack, stopped, tables, tops, waiting,
+    challenges, circuits, counts, decided, entering, examples, faults, least, limits, lines, lists, mixed, orders,
+    points, pools, records, shelf, sizes, stack, stopped, tables, tops, waiting,
 };
 
 pub type Test = fn(&mut Suite) -> Verdict;
 
 /// In the order in which they are run.
-pub const NAMED: [(&str, Test); 120] = [
+pub const NAMED: [(&str, Test); 134] = [
     ("header: constants", sizes::constants),
     ("header: a slot", sizes::slot),
     ("header: sizes", sizes::lengths),
@@ -35,6 +35,7 @@ pub const NAMED: [(&str, Test); 120] = [
     ("faults alone and in pairs: drop", faults::drop),
     ("faults alone and in pairs: close", faults::close),
     ("faults alone and in pairs: join", faults::join),
+    ("faults alone and in pairs: line", faults::line),
     ("faults alone and in pairs: shelve", shelf::shelving),
     ("faults alone and in pairs: unshelve", shelf::unshelving),
     ("limits: sheets", limits::sheets),
@@ -114,6 +115,19 @@ pub const NAMED: [(&str, Test); 120] = [
     ("tops: values past the top", tops::past),
     ("tops: bits that are none", tops::no_bits),
     ("tops: tables of the longest sheet", tops::tables),
+    ("points: a circuit told by hand", points::circuit),
+    ("points: limits", points::limits),
+    ("points: values", points::values),
+    ("points: every claim", points::claims),
+    ("points: products that are none", points::false_products),
+    ("points: outputs that are claimed", points::forged),
+    ("points: tables", points::tables),
+    ("lines: told by hand", lines::by_hand),
+    ("lines: all x equal", lines::level),
+    ("lines: totals that keep no form", lines::formless),
+    ("lines: the named column", lines::columns),
+    ("lines: damaged totals", lines::damaged),
+    ("lines: random points", lines::random),
     ("decided: the bytes of a share", decided::bytes),
     ("decided: tables added up", decided::sums),
     ("every return: told by hand", lists::by_hand),

@@ -95,6 +95,27 @@ pub fn tops(program: &PathBuf) -> Verdict {
     Ok(())
 }
 
+/// A column of points of 12 bits between others: four totals, options 0 to 3. Cut everywhere, and with bits out of range.
+pub fn points(program: &PathBuf) -> Verdict {
+    let message =
+        |server: u8, totals: [u32; 6]| [&[36, server, 3, 0, 0, 0], &totals.map(u32::to_le_bytes).concat()[..]].concat();
+    let joined = [message(0, [5, 2_147_483_646, 7, 0, 20, 1]), message(1, [0, 7, 7, 9, 2, 0])].concat();
+    let whole = input(2, &[19, 2, 21, 12, 17], 128, &joined);
+    let text = "accepted 3\n1 0 5\n2 0 6\n2 1 14\n2 2 9\n2 3 22\n3 0 1\n";
+    if second::recount(&whole) != text {
+        return Err("the second program prints another text for a column of points".to_string());
+    }
+    for length in 0..=whole.len() {
+        check(program, &whole[..length])?;
+    }
+    for (at, byte) in [(4, 22), (5, 0), (5, 1), (5, 11), (5, 13), (5, 24), (5, 255), (8, 129)] {
+        let mut other = whole.clone();
+        other[at] = byte;
+        check(program, &other)?;
+    }
+    Ok(())
+}
+
 /// The example in pieces, whole and cut.
 pub fn pieces(program: &PathBuf) -> Verdict {
     let whole = input(2, &[17, 18, 3], 10, &example_totals());
@@ -108,7 +129,7 @@ pub fn pieces(program: &PathBuf) -> Verdict {
 /// Long sheets, S and N at their limits, and more input than any joined messages.
 pub fn limits(program: &PathBuf) -> Verdict {
     let mut long = vec![17; 65_535];
-    for last in [17, 18, 19, 20, 21, 99] {
+    for last in [17, 18, 19, 20, 21, 22, 99] {
         long[65_534] = last;
         let whole = input(2, &long, 1, &[]);
         for length in whole.len() - 4..=whole.len() {
@@ -119,6 +140,9 @@ pub fn limits(program: &PathBuf) -> Verdict {
     for servers in [0, 1, 2, 8, 9, 255] {
         for returns in [0, 1, 128, 129, 1024, 1025, 65_535] {
             for sheet in [&[19, 24][..], &[17], &[], &[20], &[18, 1], &[17; 256], &[17; 257], &[20, 255, 255, 255, 0]] {
+                check(program, &input(servers, sheet, returns, &[]))?;
+            }
+            for sheet in [&[21][..], &[22], &[21, 12], &[21, 13]] {
                 check(program, &input(servers, sheet, returns, &[]))?;
             }
         }

@@ -6,7 +6,7 @@ mod tables;
 
 use second::{fast, Sizes};
 
-use crate::calls::{plain, Call, Function, Outcome};
+use crate::calls::{found, plain, Call, Function, Outcome};
 use crate::layout::put_word;
 use crate::tell::told;
 pub use tables::own_message;
@@ -50,6 +50,7 @@ fn by_layout(call: &Call) -> Outcome {
         Function::Drop => tables::drop(call),
         Function::Close => tables::close(call),
         Function::Join => join(call),
+        Function::Line => line(call),
         Function::Shelve => plain(Vec::new(), second::shelve(call.messages, call.width, &call.message, call.room)?),
         Function::Unshelve => plain(Vec::new(), second::unshelve(call.messages, call.width, &call.message, call.room)?),
     }
@@ -82,6 +83,11 @@ fn make(call: &Call) -> Outcome {
 fn join(call: &Call) -> Outcome {
     let joined = second::join(call.servers, &call.sheet, call.returns, &call.message, call.room)?;
     plain(vec![u64::from(joined.count)], joined.totals)
+}
+
+fn line(call: &Call) -> Outcome {
+    let line = second::line(call.servers, &call.sheet, call.returns, &call.message, call.column)?;
+    found(line.determinant, line.slope, line.intercept)
 }
 
 /// A round message: kind, id, server, elements.

@@ -1,7 +1,7 @@
 //! Random runs: the second program's scripts of calls at S servers, and its single calls.
 
 use second::gen::Call as Step;
-use second::gen::{Answer, Case, CaseAnswer, Exchange, Rng, Script, Shelf};
+use second::gen::{Answer, Case, CaseAnswer, Exchange, Fit, Rng, Script, Shelf};
 use second::refusal;
 use second::Verdict::{Accepted, Rejected};
 
@@ -90,17 +90,21 @@ pub fn script(suite: &mut Suite, seed: u64) -> Verdict {
     truth(suite, &script)
 }
 
-/// What whole runs must meet, and how often at least: round ones refused 16, entries, and entries refused 11.
-const OFTEN: [(Function, u32, u64); 3] =
-    [(Function::RoundOne, refusal::UNEQUAL, 1000), (Function::Enter, 0, 5000), (Function::Enter, refusal::STAGE, 1000)];
+/// What whole runs must meet, and how often at least: round ones refused 16, entries, entries refused 11, and lines.
+const OFTEN: [(Function, u32, u64); 4] = [
+    (Function::RoundOne, refusal::UNEQUAL, 1000),
+    (Function::Enter, 0, 5000),
+    (Function::Enter, refusal::STAGE, 1000),
+    (Function::Line, 0, 60),
+];
 
 /// How often each was met so far.
-pub fn met(suite: &Suite) -> [u64; 3] {
+pub fn met(suite: &Suite) -> [u64; 4] {
     OFTEN.map(|(function, number, _)| suite.seen.get(&(function, number)).copied().unwrap_or(0))
 }
 
 /// Each was met often enough since then.
-pub fn often(suite: &Suite, before: [u64; 3]) -> Verdict {
+pub fn often(suite: &Suite, before: [u64; 4]) -> Verdict {
     for ((function, number, least), (now, before)) in OFTEN.into_iter().zip(met(suite).into_iter().zip(before)) {
         if now - before < least {
             return Err(format!("{function:?} gave the answer {number} {} times\nmust be {least}", now - before));
@@ -126,6 +130,12 @@ fn shelf_call(function: Function, shelf: Shelf) -> Call {
     Call { messages, width, message: run, room: room.min(SHELF_ROOM), ..Call::of(function) }
 }
 
+/// The line of a column.
+pub fn line_call(fit: Fit) -> Call {
+    let Fit { servers, sheet, limit, joined, column } = fit;
+    Call { servers, sheet, returns: limit, message: joined, column, ..Call::of(Function::Line) }
+}
+
 /// A single call of the second program's; `None` for recount.
 fn case_call(case: &Case) -> Option<Call> {
     Some(match case.clone() {
@@ -146,6 +156,7 @@ fn case_call(case: &Case) -> Option<Call> {
             let room = room.min(MESSAGE_ROOM);
             Call { servers, sheet, returns: limit, message: joined, room, ..Call::of(Function::Join) }
         }
+        Case::Line(fit) => line_call(fit),
         Case::Recount { .. } => return None,
         Case::Shelve(shelf) => shelf_call(Function::Shelve, shelf),
         Case::Unshelve(shelf) => shelf_call(Function::Unshelve, shelf),
@@ -168,6 +179,7 @@ fn same_case(outcome: &Outcome, answer: &CaseAnswer) -> bool {
         (Ok(Done { numbers, bytes, .. }), CaseAnswer::Joined(joined)) => {
             *numbers == [u64::from(joined.count)] && *bytes == joined.totals
         }
+        (Ok(Done { signed, .. }), CaseAnswer::Line(line)) => *signed == [line.determinant, line.slope, line.intercept],
         (Err(number), CaseAnswer::Refused(expected)) => number == expected,
         _ => false,
     }
@@ -189,7 +201,7 @@ fn exchanged(suite: &mut Suite, exchange: &Exchange) -> Verdict {
 pub fn cases(suite: &mut Suite, seed: u64) -> Verdict {
     let mut rng = suite.seed(seed);
     for _ in 0..50 {
-        let case = match rng.below(12) {
+        let case = match rng.below(14) {
             0 => Case::random_sizes(&mut rng),
             1 | 2 => Case::random_circuit(&mut rng),
             3 | 4 => Case::random_read_circuit(&mut rng),
@@ -197,6 +209,7 @@ pub fn cases(suite: &mut Suite, seed: u64) -> Verdict {
             6 | 7 => Case::random_open(&mut rng),
             8 => Case::random_shelf(&mut rng),
             9 => Case::random_every_return(&mut rng),
+            10 | 11 => Case::random_line(&mut rng),
             _ => Case::random_join(&mut rng),
         };
         let exchange = Exchange::of(case);

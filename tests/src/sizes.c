@@ -41,9 +41,9 @@ size_t sizes_constant(uint32_t number)
     static const size_t constants[] = {
         POOL_DONE, POOL_KIND, POOL_LIMIT, POOL_WIRE, POOL_WRAP, POOL_VALUE, POOL_RANDOM, POOL_SHARE,
         POOL_ELEMENT, POOL_PAIR, POOL_DECIDED, POOL_STAGE, POOL_JOINED, POOL_FULL, POOL_ROOM,
-        POOL_FEW, POOL_UNEQUAL, POOL_MANY, POOL_RUN,
+        POOL_FEW, POOL_UNEQUAL, POOL_MANY, POOL_NO_LINE, POOL_RUN,
         POOL_PRIME, POOL_MIN_SERVERS, POOL_MAX_SERVERS, POOL_MAX_RETURNS, POOL_MAX_ENTRIES,
-        POOL_YES_NO, POOL_CHOICE, POOL_NUMBER, POOL_TOP, POOL_ROUND_ONE_BYTES, POOL_ROUND_TWO_BYTES,
+        POOL_YES_NO, POOL_CHOICE, POOL_NUMBER, POOL_TOP, POOL_POINT, POOL_ROUND_ONE_BYTES, POOL_ROUND_TWO_BYTES,
         POOL_MAX_SHEET_BYTES, POOL_MAX_CIRCUIT_BYTES, POOL_MAX_SHARE_BYTES, POOL_MAX_TOTALS_BYTES,
         POOL_MAX_TABLE_BYTES, POOL_MAX_SHELF_MESSAGES, POOL_MAX_SHELF_WIDTH, POOL_MAX_SHELF_BYTES,
         POOL_MAX_LISTS, POOL_MAX_EVERY_RETURN_BYTES,
@@ -75,5 +75,7 @@ uint32_t (*const type_enter)(out, size_t, slots, size_t, number, size_t, uint32_
 uint32_t (*const type_drop)(out, size_t, slots, size_t, number, size_t, uint32_t) = pool_drop;
 uint32_t (*const type_close)(out, size_t, slots_in, size_t, numbers, size_t, out, size_t, size_t *) = pool_close;
 uint32_t (*const type_join)(uint32_t, in, size_t, uint32_t, in, size_t, out, size_t, number, size_t *) = pool_join;
+uint32_t (*const type_line)(uint32_t, in, size_t, uint32_t, in, size_t, uint32_t, int64_t *, int64_t *,
+                            int64_t *) = pool_line;
 uint32_t (*const type_shelve)(uint32_t, uint32_t, in, size_t, out, size_t, size_t *) = pool_shelve;
 uint32_t (*const type_unshelve)(uint32_t, uint32_t, in, size_t, out, size_t, size_t *) = pool_unshelve;

@@ -27,12 +27,12 @@ extern "C" {
 }
 
 /// The refusals.
-const REFUSALS: [usize; 19] = [0, 1, 2, 3, 4, 5, 6, 7, 8, 9, 10, 11, 12, 13, 14, 15, 16, 17, 19];
+const REFUSALS: [usize; 20] = [0, 1, 2, 3, 4, 5, 6, 7, 8, 9, 10, 11, 12, 13, 14, 15, 16, 17, 18, 19];
 
 /// After the refusals: p, S from and to, the most returns and entries, the column kinds, the lengths of round one and
 /// round two messages, and the largest sizes; R and W at most, and their product; lists at most, and their bytes; slots,
 /// the most numbers, and a slot's stages.
-const CONSTANTS: [usize; 27] = [
+const CONSTANTS: [usize; 28] = [
     2_147_483_647,
     2,
     8,
@@ -42,6 +42,7 @@ const CONSTANTS: [usize; 27] = [
     18,
     19,
     20,
+    21,
     22,
     14,
     426,
@@ -82,6 +83,12 @@ pub fn constants(_: &mut Suite) -> Verdict {
             "the longest sheet, circuit, table, share and run of numbers have {is:?} bytes or numbers"
         ));
     }
+    // Wires with the constant's, multiplications and tests: the limits of a circuit do not bite.
+    let count = |of: fn(&second::Sizes) -> usize| most(|sheet| second::sizes(sheet).map_or(0, |told| of(&told)));
+    let counts = [1 + count(|told| told.wires - 1), count(|told| told.multiplications), count(|told| told.tests)];
+    if counts != [1275, 256, 384] {
+        return Err(format!("the most wires, multiplications and tests of a sheet are {counts:?}"));
+    }
     Ok(())
 }
 
@@ -113,6 +120,7 @@ fn most(length: impl Fn(&[u8]) -> usize) -> usize {
     sheets.extend((2..=64).map(|options| vec![18, options]));
     sheets.extend((1..=24).map(|bits| vec![19, bits]));
     sheets.extend((0..24).map(|bits| top_column(1 << bits)));
+    sheets.extend((1..=12).map(|bits| vec![21, bits]));
     let entries = |sheet: &[u8]| second::sizes(sheet).map_or(0, |told| told.entries);
     let columns: Vec<(usize, usize)> = sheets.iter().map(|sheet| (entries(sheet), length(sheet))).collect();
     let mut most = vec![0; 257];
@@ -176,7 +184,7 @@ pub fn runs(suite: &mut Suite) -> Verdict {
 /// The lists of a sheet and the room for them have the size that the header's macro gives.
 pub fn lists(suite: &mut Suite) -> Verdict {
     suite.seed(10);
-    for (sheet, lists) in [(vec![17], 2), (vec![17, 18, 3, 19, 4], 96), (vec![19, 12], 4096), (vec![17; 12], 4096)] {
+    for (sheet, lists) in [(vec![17], 2), (vec![17, 18, 3, 19, 4], 96), (vec![21, 6], 4096), (vec![17; 12], 4096)] {
         let columns = told(suite, &sheet)?[0];
         let room = unsafe { sizes_every_return(columns, lists) };
         let call = Call { sheet, room, ..Call::of(Function::EveryReturn) };

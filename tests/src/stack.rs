@@ -40,6 +40,15 @@ fn used(suite: &mut Suite, call: &Call) -> Result<usize, String> {
     Ok(depth(top))
 }
 
+/// Joining, and the lines of the first column and of the last one of points: four yes/no stand after it.
+fn on_totals(sheet: Vec<u8>, read: &second::Sheet) -> [Call; 3] {
+    let totals = vec![1; read.closing_length() - 6];
+    let message = (0..8).flat_map(|k| [&[36, k, 0, 0, 0, 0][..], &totals].concat()).collect();
+    let join = Call { sheet, servers: 8, returns: 2, message, room: 1_024, ..Call::of(Function::Join) };
+    let line = |column: usize| Call { function: Function::Line, column: column as u32, ..join.clone() };
+    [line(1), line(read.columns().len() - 4), join]
+}
+
 /// The largest sheets: every function at its most.
 fn measure(suite: &mut Suite) -> Result<usize, String> {
     let mut rng = suite.seed(64);
@@ -49,13 +58,15 @@ fn measure(suite: &mut Suite) -> Result<usize, String> {
         let (messages, width, message, room) = (64, 4096, vec![7; 262_144], 262_144);
         most = most.max(used(suite, &Call { messages, width, message, room, ..Call::of(function) })?);
     }
-    for sheet in [vec![17; 12], vec![19, 12], top_column(4095)] {
+    for sheet in [vec![17; 12], vec![19, 12], top_column(4095), vec![21, 6], [21, 1].repeat(6)] {
         let call = Call { sheet, room: 196_608, ..Call::of(Function::EveryReturn) };
         most = most.max(used(suite, &call)?);
     }
     let mut number = [19, 24].repeat(10);
     number.extend([19, 5]);
-    for sheet in [vec![17; 256], [18, 64].repeat(4), number, longest_sheet(), largest_sheet()] {
+    let points = [[[21, 12].repeat(9), vec![17; 4]].concat(), [[21, 1].repeat(42), vec![17; 4]].concat()];
+    let sheets = [vec![17; 256], [18, 64].repeat(4), number, longest_sheet(), largest_sheet()];
+    for sheet in sheets.into_iter().chain(points) {
         let fixture = Fixture::new(suite, 8, 7, &sheet, 2)?;
         let among = Fixture::among(suite, 8, 0, &sheet, 9, 7)?;
         let read = second::Sheet::read(&sheet).map_err(|number| format!("refused {number}"))?;
@@ -69,9 +80,7 @@ fn measure(suite: &mut Suite) -> Result<usize, String> {
         let random = gen::elements(&mut rng, 7 * read.share_elements() + 4);
         calls.push(Call { sheet: sheet.clone(), servers: 8, values, random, room: 25_000, ..Call::of(Function::Make) });
         calls.push(Call::open_table(8, 0, &sheet, 2));
-        let length = read.closing_length();
-        let message = (0..8).flat_map(|k| [&[36, k][..], &vec![0; length - 2]].concat()).collect();
-        calls.push(Call { sheet, servers: 8, returns: 2, message, room: 1_024, ..Call::of(Function::Join) });
+        calls.extend(on_totals(sheet, &read));
         for call in &calls {
             most = most.max(used(suite, call)?);
         }

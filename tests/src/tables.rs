@@ -196,6 +196,11 @@ pub fn sheets(suite: &mut Suite) -> Verdict {
         for top in [0, 0x100_0000, u32::MAX] {
             changed(suite, &calls, &longer, false, |t| fresh(t, &top_column(top), 2))?;
         }
+        for (bits, returns, good) in
+            [(12, 128, true), (12, 129, false), (11, 512, true), (11, 513, false), (1, 1024, true), (13, 2, false)]
+        {
+            changed(suite, &calls, &longer, good, |t| fresh(t, &[21, bits, 17], returns))?;
+        }
     }
     Ok(())
 }

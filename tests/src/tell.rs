@@ -62,6 +62,10 @@ impl fmt::Display for Call {
                 write!(f, "pool_join servers={servers} sheet={sheet} returns={returns} ")?;
                 write!(f, "joined={message} out_len={room}")
             }
+            Function::Line => {
+                write!(f, "pool_line servers={servers} sheet={sheet} returns={returns} ")?;
+                write!(f, "joined={message} column={}", self.column)
+            }
             Function::Shelve | Function::Unshelve => {
                 let name = if self.function == Function::Shelve { "pool_shelve" } else { "pool_unshelve" };
                 write!(f, "{name} messages={} width={} run={message} out_len={room}", self.messages, self.width)
@@ -78,6 +82,9 @@ pub fn told(outcome: &Outcome) -> String {
             let mut text = String::from("done");
             if !done.numbers.is_empty() {
                 text += &format!(", numbers {:?}", done.numbers);
+            }
+            if !done.signed.is_empty() {
+                text += &format!(", signed {:?}", done.signed);
             }
             if !done.bytes.is_empty() {
                 text += &format!(", bytes {}", Hex(&done.bytes));
@@ -102,11 +109,12 @@ fn first<T: PartialEq + fmt::Debug>(what: &str, is: &[T], must: &[T]) -> Option<
 /// The first difference of two outcomes, both done.
 fn differ(is: &Done, must: &Done) -> Option<String> {
     let numbers = first("numbers", &is.numbers, &must.numbers);
+    let signed = || first("signed", &is.signed, &must.signed);
     let slots = || first("slots", &is.table.slots, &must.table.slots);
     let elements = || first("elements", &is.table.elements, &must.table.elements);
     let written = || first("bytes written", &is.bytes, &must.bytes);
     let bytes = || first("bytes of the table", &is.table.bytes, &must.table.bytes);
-    numbers.or_else(written).or_else(bytes).or_else(slots).or_else(elements)
+    numbers.or_else(signed).or_else(written).or_else(bytes).or_else(slots).or_else(elements)
 }
 
 /// What an outcome is and what it must be.

@@ -41,11 +41,7 @@ impl Builder {
             // wire times 2^j, then add the running sum and it; test the last sum."
             Column::Number(bits) => {
                 let value = self.make(Step::Entry(entry));
-                let wires: Vec<u16> = (0..u16::from(bits))
-                    .map(|bit| self.bit_check(entry + 1 + bit, minus_one))
-                    .collect();
-                let start = self.make(Step::Scale(value, P - 1));
-                self.add_bits(start, &wires);
+                self.number(value, bits, entry + 1, minus_one);
             }
             // "Entry v; 2b bit checks; the sum and test of kind 19 over the first bits; then
             // the constant p - T, add v to it, add each of the second bits times 2^j, bit by
@@ -63,7 +59,37 @@ impl Builder {
                 let start = self.make(Step::Add(minus_top, value));
                 self.add_bits(start, second);
             }
+            Column::Point(bits) => self.point(bits, entry, minus_one),
         }
+    }
+
+    /// "The four entries; the kind 19 checks for x and then for y over their own bits; multiply
+    /// x by x, add the second entry times p - 1, test; multiply x by y, add the fourth times
+    /// p - 1, test."
+    fn point(&mut self, bits: u8, entry: u16, minus_one: u16) {
+        let [x, square, y, product] =
+            [0, 1, 2, 3].map(|number| self.make(Step::Entry(entry + number)));
+        self.number(x, bits, entry + 4, minus_one);
+        self.number(y, bits, entry + 4 + u16::from(bits), minus_one);
+        self.product_check(x, x, square);
+        self.product_check(x, y, product);
+    }
+
+    /// Checks that a wire is the product of two others.
+    fn product_check(&mut self, left: u16, right: u16, claimed: u16) {
+        let product = self.make(Step::Multiply(left, right));
+        let scaled = self.make(Step::Scale(claimed, P - 1));
+        let sum = self.make(Step::Add(product, scaled));
+        self.steps.push(Step::Test(sum));
+    }
+
+    /// Kind 19's checks of a value's wire: the bits stand from an entry on.
+    fn number(&mut self, value: u16, bits: u8, first_bit: u16, minus_one: u16) {
+        let wires: Vec<u16> = (0..u16::from(bits))
+            .map(|bit| self.bit_check(first_bit + bit, minus_one))
+            .collect();
+        let start = self.make(Step::Scale(value, P - 1));
+        self.add_bits(start, &wires);
     }
 
     /// From a running sum on, "for each bit j from 0, bit wire times 2^j, then add the running

@@ -1,10 +1,11 @@
 //! Making a return in the fast form.
 
 use super::arithmetic::{dot, mul, strict};
-use super::columns::gate_entries;
+use super::columns::product_gates;
 use super::constants::{weights, TABLES};
 use crate::field::{self, P};
 use crate::making::{check, header, Order};
+use crate::sheet::Column;
 
 /// Makes a return: the S share messages one after another in server order. Order of
 /// refusals: sheet, S, 5, 6, 14.
@@ -46,6 +47,30 @@ fn split(id: u32, whole: &[u64], shares: &[u8], out: &mut Vec<u8>) {
     }
 }
 
+/// u_0 and the first inputs times their weights, backwards, so that both runs of an inner product
+/// with inverses go forwards.
+fn terms(order: &Order, u0: u64, weights: &[u64]) -> Vec<u64> {
+    let mut terms = Vec::with_capacity(weights.len());
+    terms.push(u0);
+    let mut rest = &order.entries[..];
+    for column in order.sheet.columns() {
+        let (own, next) = rest.split_at(column.entries());
+        rest = next;
+        if let Column::Point(_) = column {
+            // The bit checks, then x × x and x × y.
+            terms.extend_from_slice(&own[4..]);
+            terms.extend([own[0]; 2]);
+        } else {
+            terms.extend_from_slice(&own[own.len() - column.multiplications()..]);
+        }
+    }
+    for (term, &weight) in terms.iter_mut().zip(weights) {
+        *term = mul(*term, weight);
+    }
+    terms.reverse();
+    terms
+}
+
 /// The whole return, loose: the entries, f(0), g(0), h(0)..h(2M), a, b, c. `free` holds the
 /// bytes of u_0, v_0, a, b.
 fn whole(order: &Order, free: &[u8]) -> Vec<u64> {
@@ -53,36 +78,59 @@ fn whole(order: &Order, free: &[u8]) -> Vec<u64> {
     let mut free = field::words(free).map(u64::from);
     let [u0, v0, a, b] = std::array::from_fn(|_| free.next().unwrap_or(0));
 
-    // Multiplication t has inputs x and x - 1, where x is the entry of its bit check. So
-    // h(t) = 0 on a valid list, and for k past M
-    //   f(k) = P_k × sum over j of w_j u_j / (k - j),  P_k = k (k - 1) ... (k - M),
-    //   g(k) = f(k) - 1 + (v_0 - u_0 + 1) × P_k w_0 / k,
-    // because g + 1 and f differ at the point 0 alone.
     let weights = weights(gates);
-    let mut terms = Vec::with_capacity(gates + 1);
-    terms.push(u0);
-    terms.extend(gate_entries(&order.sheet).map(|entry| order.entries[entry]));
-    for (term, &weight) in terms.iter_mut().zip(&weights) {
-        *term = mul(*term, weight);
-    }
-    // Backwards, so that both runs of the inner product go forwards.
-    terms.reverse();
-    let shift = mul(weights[0], strict(v0 + P - u0 + 1));
-
+    let apart = |u: u64, v: u64, point: usize| mul(weights[point], strict(v + P - u + 1));
+    let mut past = Past {
+        terms: terms(order, u0, &weights),
+        at_zero: apart(u0, v0, 0),
+        others: Vec::new(),
+    };
     let mut whole = Vec::with_capacity(order.sheet.share_elements());
     whole.extend_from_slice(&order.entries);
     whole.extend([u0, v0, mul(u0, v0)]);
-    whole.resize(whole.len() + gates, 0);
-    for k in gates + 1..=2 * gates {
+    // A bit check has the output 0 on a valid list.
+    let outputs = whole.len();
+    whole.resize(outputs + gates, 0);
+    for product in product_gates(&order.sheet) {
+        let [u, v] = [product.left, product.right].map(|entry| order.entries[entry]);
+        whole[outputs + product.gate - 1] = mul(u, v);
+        let far = apart(u, v, product.gate);
+        past.others.push((product.gate, far));
+    }
+    whole.extend((gates + 1..=2 * gates).map(|k| past.h(gates, k)));
+    whole.extend([a, b, mul(a, b)]);
+    whole
+}
+
+/// What h past the points 0..M is worked out from. Multiplication t has inputs u_t and v_t, with
+/// v_t = u_t - 1 in a bit check. For k past M
+///   f(k) = P_k × sum over j of w_j u_j / (k - j),  P_k = k (k - 1) ... (k - M),
+///   g(k) = f(k) - 1 + P_k × sum over j of w_j (v_j - u_j + 1) / (k - j).
+struct Past {
+    /// w_j u_j, backwards.
+    terms: Vec<u64>,
+    /// w_j (v_j - u_j + 1) at the point 0.
+    at_zero: u64,
+    /// The same at multiplications that are no bit checks, with j; at bit checks it is 0.
+    others: Vec<(usize, u64)>,
+}
+
+impl Past {
+    /// h(k), loose.
+    #[inline(always)]
+    fn h(&self, gates: usize, k: usize) -> u64 {
         let product = mul(
             TABLES.factorials[k],
             TABLES.inverse_factorials[k - gates - 1],
         );
-        let sum = strict(dot(&terms, &TABLES.inverses[k - gates..=k]));
+        let sum = strict(dot(&self.terms, &TABLES.inverses[k - gates..=k]));
         let f = mul(product, sum);
-        let g = strict(f + P - 1 + mul(mul(product, shift), TABLES.inverses[k]));
-        whole.push(mul(f, g));
+        let mut g = f + P - 1 + mul(mul(product, self.at_zero), TABLES.inverses[k]);
+        if !self.others.is_empty() {
+            let others = self.others.iter();
+            let terms = others.map(|&(j, term)| mul(term, TABLES.inverses[k - j]));
+            g += mul(product, strict(terms.sum()));
+        }
+        mul(f, strict(g))
     }
-    whole.extend([a, b, mul(a, b)]);
-    whole
 }

@@ -1,7 +1,7 @@
 //! A server's work on a share in the fast form.
 
 use super::arithmetic::{fold, mul, negate, powers_sum, product, strict};
-use super::columns::{gate_entries, groups, test_wires, Group};
+use super::columns::{gate_entries, groups, product_gates, test_wires, Group, Product};
 use super::constants::weights;
 use crate::field::{self, P};
 use crate::judging::Findings;
@@ -19,8 +19,10 @@ pub struct Plan {
     entries: usize,
     gates: usize,
     groups: Vec<Group>,
-    /// The entry of each bit check.
+    /// The entry of each multiplication's first input.
     gate_entries: Vec<u16>,
+    /// The multiplications that are no bit checks.
+    product_gates: Vec<Product>,
     published_entries: Vec<u16>,
     /// The weights of the points 0..M for f and g.
     short_weights: Vec<u64>,
@@ -30,7 +32,7 @@ pub struct Plan {
 
     /// The elements of the share.
     elements: Vec<u64>,
-    /// A zero for the point 0, then the entry of each bit check.
+    /// A zero for the point 0, then the first input of each multiplication.
     inputs: Vec<u64>,
     /// Products over the points of the half that stand before and after each point.
     low_before: Vec<u64>,
@@ -50,7 +52,8 @@ impl Form for Plan {
             entries: sheet.entries(),
             gates,
             groups: groups(sheet),
-            gate_entries: gate_entries(sheet).map(|entry| entry as u16).collect(),
+            gate_entries: gate_entries(sheet).iter().map(|&e| e as u16).collect(),
+            product_gates: product_gates(sheet),
             published_entries: sheet.published_entries().map(|e| e as u16).collect(),
             short_weights: weights(gates),
             low_weights,
@@ -97,12 +100,13 @@ impl Plan {
         let (inputs_sum, low_sum) = self.low_sums(low_h);
         let high_sum = self.high_sum(high_h);
 
-        // The basis at 0, of f and g. Multiplication t has inputs x and x - 1, with the
-        // constant at server 0 only, and the basis adds up to 1.
+        // The basis at 0, of f and g. A bit check has inputs x and x - 1, with the constant at
+        // server 0 only, and the basis adds up to 1. Other multiplications differ from that.
         let at_zero = mul(self.low_after[0], self.short_weights[0]);
         let f = strict(inputs_sum + mul(at_zero, f0));
         let constants = if first { 1 + negate(at_zero) } else { 0 };
-        let g = strict(inputs_sum + mul(at_zero, g0) + P - constants);
+        let apart = self.apart(first, entries);
+        let g = strict(inputs_sum + mul(at_zero, g0) + apart + P - constants);
         let h = strict(mul(high, strict(low_sum)) + mul(low, strict(high_sum)));
 
         test_wires(&mut self.tests, &self.groups, first, entries, &low_h[1..]);
@@ -115,6 +119,24 @@ impl Plan {
             c,
             tau: strict(powers_sum(&self.tests, s, |wire| wire)),
         }
+    }
+
+    /// What the second inputs of multiplications that are no bit checks add to g: basis times
+    /// how far they are from the first input and the constant.
+    fn apart(&self, first: bool, entries: &[u64]) -> u64 {
+        let one = u64::from(first);
+        let terms = self.product_gates.iter().map(|product| {
+            let j = product.gate;
+            let basis = mul(
+                mul(self.low_before[j], self.low_after[j]),
+                self.short_weights[j],
+            );
+            mul(
+                basis,
+                strict(entries[product.right] + P - entries[product.left] + one),
+            )
+        });
+        terms.sum()
     }
 
     /// The sums over the low points for the inputs and for h, without the high half's product.

@@ -9,15 +9,15 @@ pub(super) fn any_sheet(rng: &mut Rng, max: usize, percent_damaged: u64) -> Vec<
         return sheets::damaged_sheet(rng);
     }
     let mut sheet = sheets::sheet(rng, max);
-    // Sometimes a wide number or a high top, which is what refusal 4 is about.
+    // Sometimes a wide number, a high top or a wide point, which is what refusal 4 is about.
     if sheet.len() < 10 && max > 30 && rng.chance(30) {
         let bits = rng.between(21, 24);
         sheet.truncate(0);
         sheet.extend(rng.pick([&[17][..], &[], &[18, 3]]));
-        if rng.chance(50) {
-            sheet.extend([19, bits as u8]);
-        } else {
-            sheet.extend(sheets::top_column(sheets::top(rng, bits)));
+        match rng.below(3) {
+            0 => sheet.extend([19, bits as u8]),
+            1 => sheet.extend(sheets::top_column(sheets::top(rng, bits))),
+            _ => sheet.extend([21, bits as u8 / 2]),
         }
     }
     sheet

@@ -1,10 +1,11 @@
 //! Single calls that no table takes part in: sizes, sheet to circuit, reading a circuit,
-//! every return, making, opening, joining, recount and the shelf.
+//! every return, making, opening, joining, lines, recount and the shelf.
 
 mod random;
 
 use crate::circuit::{circuit, read_circuit, Circuit};
 use crate::joining::{join, Joined};
+use crate::line::{line, Line};
 use crate::listing::{every_return, Listing};
 use crate::recount::recount;
 use crate::shelf::{shelve, unshelve};
@@ -48,12 +49,25 @@ pub enum Case {
         joined: Vec<u8>,
         room: usize,
     },
+    /// The line of a column.
+    Line(Fit),
     /// The text of recount.
     Recount { input: Vec<u8> },
     /// Messages stored by place.
     Shelve(Shelf),
     /// Messages brought back.
     Unshelve(Shelf),
+}
+
+/// The arguments of the line of a column.
+#[derive(Clone, Debug, PartialEq, Eq)]
+#[allow(missing_docs)]
+pub struct Fit {
+    pub servers: u32,
+    pub sheet: Vec<u8>,
+    pub limit: u32,
+    pub joined: Vec<u8>,
+    pub column: u32,
 }
 
 /// The arguments of both calls at the shelf.
@@ -86,6 +100,8 @@ pub enum CaseAnswer {
     Opened,
     /// Totals were joined.
     Joined(Joined),
+    /// The line of a column.
+    Line(Line),
     /// What recount prints.
     Text(String),
     /// The refusal's number.
@@ -138,8 +154,8 @@ impl Case {
             Case::Sizes { sheet } => sizes(sheet).map(CaseAnswer::Sizes),
             Case::Circuit { sheet, room } => circuit(sheet, *room).map(CaseAnswer::Bytes),
             Case::ReadCircuit { entries, bytes } => read_circuit(*entries, bytes).map(counts),
-            Case::EveryReturn { sheet, room } => {
-                every_return(sheet, *room).map(CaseAnswer::Listing)
+            Case::EveryReturn { sheet, room: r } => {
+                every_return(sheet, *r).map(CaseAnswer::Listing)
             }
             Case::Make {
                 sheet,
@@ -163,6 +179,9 @@ impl Case {
                 joined,
                 room,
             } => join(*servers, sheet, *limit, joined, *room).map(CaseAnswer::Joined),
+            Case::Line(x) => {
+                line(x.servers, &x.sheet, x.limit, &x.joined, x.column).map(CaseAnswer::Line)
+            }
             Case::Recount { input } => Ok(CaseAnswer::Text(recount(input))),
             Case::Shelve(x) => shelve(x.messages, x.width, &x.run, x.room).map(CaseAnswer::Bytes),
             Case::Unshelve(x) => {

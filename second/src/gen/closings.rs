@@ -1,7 +1,8 @@
 //! Closing messages, faults in them, and the input of recount.
 
 use super::{sheets, Rng};
-use crate::field;
+use crate::field::{self, P};
+use crate::sheet::{Column, Sheet};
 use crate::table::CLOSING;
 
 /// A closing message with random totals.
@@ -10,6 +11,54 @@ pub(super) fn closing(rng: &mut Rng, server: u32, count: u32, published: usize) 
     message.extend(count.to_le_bytes());
     message.extend(sheets::elements(rng, published));
     message
+}
+
+/// The closing messages of S servers whose totals add up to these modulo p.
+pub(super) fn split_totals(rng: &mut Rng, servers: u32, count: u32, totals: &[u64]) -> Vec<u8> {
+    let mut remains = totals.to_vec();
+    let mut joined = Vec::new();
+    for server in 1..servers {
+        let message = closing(rng, server, count, totals.len());
+        for (rest, element) in remains.iter_mut().zip(field::words(&message[6..])) {
+            *rest = field::sub(*rest, u64::from(element));
+        }
+        joined.extend(message);
+    }
+    let mut first = vec![CLOSING, 0];
+    first.extend(count.to_le_bytes());
+    first.extend(remains.into_iter().flat_map(field::bytes));
+    [first, joined].concat()
+}
+
+/// Published totals of a sheet, with the sums of a column of kind 21 of interest: those of points
+/// of its bits, of points with the same x, or elements that keep no form, often at the edges.
+pub(super) fn line_totals(rng: &mut Rng, sheet: &Sheet, column: u32, count: u32) -> Vec<u64> {
+    let mut totals: Vec<u64> = (0..sheet.published()).map(|_| rng.element()).collect();
+    let before = (column as usize).saturating_sub(1);
+    let Some(Column::Point(bits)) = sheet.columns().get(before) else {
+        return totals;
+    };
+    let first: usize = sheet.columns()[..before]
+        .iter()
+        .map(|c| c.published())
+        .sum();
+    let own = &mut totals[first..first + 4];
+    match rng.below(6) {
+        0..=2 => {
+            let alike = rng.chance(35).then(|| rng.below(1 << bits));
+            own.fill(0);
+            for _ in 0..count {
+                let (x, y) = (rng.below(1 << bits), rng.below(1 << bits));
+                let x = alike.unwrap_or(x);
+                for (total, term) in own.iter_mut().zip([x, x * x, y, x * y]) {
+                    *total = field::add(*total, term);
+                }
+            }
+        }
+        3 => own.fill_with(|| rng.pick([0, 1, P - 2, P - 1])),
+        _ => {}
+    }
+    totals
 }
 
 /// The input of recount. S and N that do not fit their bytes are cut.

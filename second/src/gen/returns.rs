@@ -1,11 +1,14 @@
 //! Returns, honest and not, and what they come to.
 
-use super::{sheets, Rng};
+mod entries;
+
+use super::Rng;
 use crate::circuit::Circuit;
 use crate::field::{self, P};
 use crate::judging::{basis, Parts};
 use crate::making::{self, combine, points};
 use crate::sheet::{Column, Sheet};
+use entries::{false_bits, false_entries, true_entries};
 
 /// Where a return comes from.
 #[derive(Clone, Copy, Debug, PartialEq, Eq)]
@@ -16,7 +19,8 @@ pub enum Origin {
     Altered,
     /// False entries, with the polynomials that belong to them: the tests tell.
     FalseEntries,
-    /// False entries with every gate output claimed 0: h is not f × g.
+    /// False entries with every gate output claimed to be what the tests ask for: h is not
+    /// f × g.
     Forged,
     /// The same, with h bent so that it meets f × g at the r that will be drawn.
     Lucky,
@@ -96,7 +100,7 @@ impl Return {
         let (r, s) = pair(rng, sheet.multiplications());
         let free = [(); 4].map(|()| rng.element());
         let mut whole = making::whole(&circuit, entries, &free);
-        falsify(rng, &circuit, origin, &mut whole, r);
+        falsify(rng, sheet, &circuit, origin, &mut whole, r);
         let random: Vec<u64> = (whole.len()..servers as usize * whole.len())
             .map(|_| rng.element())
             .collect();
@@ -119,12 +123,19 @@ impl Return {
 }
 
 /// Puts the origin's fault into a whole return that will meet r.
-fn falsify(rng: &mut Rng, circuit: &Circuit, origin: Origin, whole: &mut [u64], r: u64) {
+fn falsify(
+    rng: &mut Rng,
+    sheet: &Sheet,
+    circuit: &Circuit,
+    origin: Origin,
+    whole: &mut [u64],
+    r: u64,
+) {
     match origin {
         Origin::Honest | Origin::Altered | Origin::FalseEntries => {}
-        Origin::Forged => claim_zero(circuit, whole),
+        Origin::Forged => claim_valid(sheet, whole),
         Origin::Lucky => {
-            claim_zero(circuit, whole);
+            claim_valid(sheet, whole);
             bend(rng, circuit, whole, r);
         }
         Origin::FalseTriple | Origin::LuckyTriple => {
@@ -151,91 +162,28 @@ fn alter(rng: &mut Rng, shares: &mut [Vec<u8>], elements: usize) {
     }
 }
 
-/// The entries of random values.
-fn true_entries(rng: &mut Rng, sheet: &Sheet) -> Vec<u64> {
-    let values = sheets::values(rng, sheet);
-    // Values made for the sheet are not refused.
-    crate::values::encode(sheet, &values).unwrap_or_else(|_| vec![0; sheet.entries()])
-}
-
-/// A valid list with an entry or more changed.
-fn false_entries(rng: &mut Rng, sheet: &Sheet) -> Vec<u64> {
-    let mut entries = true_entries(rng, sheet);
-    if let Some(number) = sheets::with_gap(rng, sheet).filter(|_| rng.chance(50)) {
-        past_top(rng, sheet, &mut entries, number);
-        return entries;
-    }
-    for _ in 0..rng.between(1, 3) {
-        let at = rng.index(entries.len());
-        entries[at] = match rng.below(3) {
-            0 => field::sub(1, entries[at]),
-            1 => 2,
-            _ => rng.element(),
-        };
-    }
-    entries
-}
-
-/// Puts a value past its top, in as many bits, into a column: the bits of v are right, the
-/// others any bits, so that only the test of the second sum can tell.
-fn past_top(rng: &mut Rng, sheet: &Sheet, entries: &mut [u64], number: usize) {
-    let (before, column) = (&sheet.columns()[..number], sheet.columns()[number]);
-    let start: usize = before.iter().map(|column| column.entries()).sum();
-    let own = &mut entries[start..start + column.entries()];
-    let bits = usize::from(column.bits());
-    let first = u64::from(column.values());
-    let any = rng.between(first, (1 << bits) - 1);
-    let value = rng.pick([first, any, (1 << bits) - 1]);
-    own[0] = value;
-    for j in 0..bits {
-        own[1 + j] = value >> j & 1;
-        own[1 + bits + j] = rng.below(2);
-    }
-}
-
-/// A list whose sums are right but whose bits are not all bits.
-fn false_bits(rng: &mut Rng, sheet: &Sheet) -> Vec<u64> {
-    let mut entries = true_entries(rng, sheet);
-    let mut start = 0;
-    let target = rng.index(sheet.columns().len());
-    for (number, column) in sheet.columns().iter().enumerate() {
-        let end = start + column.entries();
-        if number == target {
-            let own = &mut entries[start..end];
-            let delta = rng.between(2, P - 2);
-            match column {
-                Column::YesNo => own[0] = delta,
-                Column::Choice(_) => {
-                    own[0] = field::add(own[0], delta);
-                    own[1] = field::sub(own[1], delta);
-                }
-                Column::Number(_) => {
-                    own[0] = field::add(own[0], delta);
-                    own[1] = field::add(own[1], delta);
-                }
-                // The second sum starts with v, so that its bits take off what v has more.
-                Column::Top(_) => {
-                    let second = 1 + usize::from(column.bits());
-                    own[0] = field::add(own[0], delta);
-                    own[1] = field::add(own[1], delta);
-                    own[second] = field::sub(own[second], delta);
-                }
-            }
-        }
-        start = end;
-    }
-    entries
-}
-
 /// Where h(0) stands in a whole return.
 fn h_start(circuit: &Circuit) -> usize {
     circuit.entries() + 2
 }
 
-/// Claims 0 for h(1)..h(M).
-fn claim_zero(circuit: &Circuit, whole: &mut [u64]) {
-    let first = h_start(circuit) + 1;
-    whole[first..first + circuit.multiplications()].fill(0);
+/// Claims for h(1)..h(M) what the tests ask for: the entries for x × x and x × y, else 0.
+fn claim_valid(sheet: &Sheet, whole: &mut [u64]) {
+    let (entries, rest) = whole.split_at_mut(sheet.entries());
+    let mut outputs = rest[3..].iter_mut();
+    let mut start = 0;
+    for column in sheet.columns() {
+        let products = match column {
+            Column::Point(_) => vec![entries[start + 1], entries[start + 3]],
+            _ => Vec::new(),
+        };
+        let checks = column.multiplications() - products.len();
+        let claims = std::iter::repeat_n(0, checks).chain(products);
+        for (claim, output) in claims.zip(outputs.by_ref()) {
+            *output = claim;
+        }
+        start += column.entries();
+    }
 }
 
 /// Changes one of h(M + 1)..h(2M) so that sigma's sum is 0 at r.

@@ -34,7 +34,7 @@ pub struct Script {
     pub returns: Vec<Return>,
     /// The calls in order. Only the order at each server matters.
     pub steps: Vec<Step>,
-    /// Joins and recounts. In an orderly script that is closed the first is the join of the
+    /// Joins, recounts and lines. In an orderly script that is closed the first is the join of the
     /// closing messages, unaltered and with enough room.
     pub joins: Vec<Exchange>,
     /// For an orderly script that is closed, the count and the totals that must come out, summed

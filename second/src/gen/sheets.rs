@@ -15,13 +15,13 @@ pub fn sheet(rng: &mut Rng, max_entries: usize) -> Vec<u8> {
         2 => rng.between(1, max),
         _ => max,
     };
-    // One of the four kinds, or all of them.
-    let only = rng.below(8).checked_sub(4).map(|kind| 17 + kind);
+    // One of the five kinds, or all of them.
+    let only = rng.below(10).checked_sub(5).map(|kind| 17 + kind);
     let widest = rng.pick([2, 5, 64]);
     let mut left = target;
     let mut bytes = Vec::new();
     while left > 0 {
-        let kind = only.unwrap_or_else(|| rng.between(17, 20));
+        let kind = only.unwrap_or_else(|| rng.between(17, 21));
         let (column, entries) = column(rng, kind, left, widest);
         bytes.extend(column);
         left -= entries;
@@ -51,6 +51,10 @@ fn column(rng: &mut Rng, kind: u64, left: u64, widest: u64) -> (Vec<u8>, u64) {
             let bits = rng.between(1, ((left - 1) / 2).min(24).min(widest));
             (top_column(top(rng, bits)), 1 + 2 * bits)
         }
+        21 if left >= 6 => {
+            let bits = rng.between(1, ((left - 4) / 2).min(12).min(widest));
+            (vec![21, bits as u8], 4 + 2 * bits)
+        }
         _ => (vec![17], 1),
     }
 }
@@ -75,10 +79,11 @@ pub fn small_sheet(rng: &mut Rng) -> Vec<u8> {
     while left >= 2 {
         let options = rng.between(2, left.min(64));
         let bits = rng.between(1, u64::from(left.ilog2()));
-        let (column, values) = match rng.below(4) {
+        let (column, values) = match rng.below(5) {
             0 => (vec![17], 2),
             1 => (vec![18, options as u8], options),
             2 => (vec![19, bits as u8], 1 << bits),
+            3 if bits >= 2 => (vec![21, bits as u8 / 2], 1 << (bits / 2 * 2)),
             _ => {
                 let few = rng.between(1, left.min(9) - 1);
                 let any = rng.between(1, left - 1);
@@ -96,7 +101,7 @@ pub fn small_sheet(rng: &mut Rng) -> Vec<u8> {
 }
 
 /// Columns with a count outside its limits.
-const OUTSIDE: [&[u8]; 11] = [
+const OUTSIDE: [&[u8]; 14] = [
     &[18, 0],
     &[18, 1],
     &[18, 65],
@@ -108,10 +113,13 @@ const OUTSIDE: [&[u8]; 11] = [
     &[20, 0, 0, 0, 1],
     &[20, 1, 0, 0, 1],
     &[20, 255, 255, 255, 255],
+    &[21, 0],
+    &[21, 13],
+    &[21, 255],
 ];
 
 /// Columns whose body is cut.
-const CUT: [&[u8]; 7] = [
+const CUT: [&[u8]; 8] = [
     &[18],
     &[19],
     &[20],
@@ -119,6 +127,7 @@ const CUT: [&[u8]; 7] = [
     &[20, 200, 0],
     &[20, 0, 0, 0],
     &[20, 255, 255, 255],
+    &[21],
 ];
 
 /// A sheet that is meant to be refused, 1 or 2. (A few that were only touched in one byte
@@ -133,7 +142,7 @@ pub fn damaged_sheet(rng: &mut Rng) -> Vec<u8> {
         0 => return Vec::new(),
         // An unknown kind, last or with more behind it.
         1 => {
-            bytes.push(rng.pick([0, 1, 16, 21, 33, 255]));
+            bytes.push(rng.pick([0, 1, 16, 22, 33, 255]));
             if rng.chance(50) {
                 bytes.extend(sheet(rng, 5));
             }
@@ -165,7 +174,8 @@ pub fn damaged_sheet(rng: &mut Rng) -> Vec<u8> {
             [19, 25, 17, 18],
             [19, 0, 20, 20],
             [20, 19, 0, 18],
-            [21, 18, 1, 17],
+            [21, 13, 22, 17],
+            [22, 18, 1, 17],
         ])),
         7 => {
             let length = rng.between(1, 20) as usize;
@@ -176,7 +186,9 @@ pub fn damaged_sheet(rng: &mut Rng) -> Vec<u8> {
                 bytes.push(17);
             }
             let at = rng.index(bytes.len());
-            bytes[at] = rng.pick([0, 1, 2, 16, 17, 18, 19, 20, 21, 24, 25, 64, 65, 255]);
+            bytes[at] = rng.pick([
+                0, 1, 2, 12, 13, 16, 17, 18, 19, 20, 21, 22, 24, 25, 64, 65, 255,
+            ]);
         }
     }
     bytes
@@ -216,6 +228,14 @@ pub(super) fn with_gap(rng: &mut Rng, sheet: &Sheet) -> Option<usize> {
     });
     let gaps: Vec<usize> = gaps.map(|(number, _)| number).collect();
     (!gaps.is_empty()).then(|| gaps[rng.index(gaps.len())])
+}
+
+/// A column of kind 21, by its number; `None` where there is none.
+pub(super) fn with_point(rng: &mut Rng, sheet: &Sheet) -> Option<usize> {
+    let columns = sheet.columns().iter().enumerate();
+    let points = columns.filter(|(_, column)| matches!(column, Column::Point(_)));
+    let points: Vec<usize> = points.map(|(number, _)| number).collect();
+    (!points.is_empty()).then(|| points[rng.index(points.len())])
 }
 
 /// Values that are refused 5.

@@ -3,10 +3,11 @@
 use super::layout::{value, Word};
 use super::points::{signed, Run, CONSTANTS};
 use super::shape::Shape;
+use super::walk::Walk;
 use crate::fast::arithmetic::{fold, mul, negate, powers_sum, strict};
 use crate::field::P;
 use crate::judging::Findings;
-use crate::sheet::{Column, MAX_MULTIPLICATIONS, MAX_TESTS};
+use crate::sheet::MAX_MULTIPLICATIONS;
 
 /// What the server finds on L + 2M + 6 elements below p; r is from M + 1 to p - 1 and s below
 /// p.
@@ -27,22 +28,56 @@ pub(super) fn find(
         entries,
         outputs,
     };
-    let mut gathered;
-    let (inputs, tau) = if shape.entries == shape.gates {
+    let mut gathered = [[0; 4]; MAX_MULTIPLICATIONS as usize];
+    if shape.points {
+        let mut apart = gathered;
+        let tau = walk.gather_points(shape, s, &mut gathered, &mut apart);
+        let left = &gathered[..shape.gates];
+        let apart = Some(&apart[..shape.gates]);
+        return find_with(shape.gates, first, Inputs { left, apart }, rest, r, tau);
+    }
+    let (left, tau) = if shape.entries == shape.gates {
         // Without numbers, each entry is an input. With yes/no columns alone, each output is a
         // test and there are no others.
         let tau = if shape.tests == shape.gates {
             powers_sum(outputs, s, value)
         } else {
-            walk.tau(shape, s, |_, _| {})
+            walk.tau::<false>(shape, s, |_, _| {})
         };
         (entries, tau)
     } else {
-        gathered = [[0; 4]; MAX_MULTIPLICATIONS as usize];
         let tau = walk.gather(shape, s, &mut gathered);
         (&gathered[..shape.gates], tau)
     };
-    find_with(shape.gates, first, inputs, rest, r, tau)
+    let apart = None;
+    find_with(shape.gates, first, Inputs { left, apart }, rest, r, tau)
+}
+
+/// The inputs of the multiplications.
+#[derive(Clone, Copy)]
+struct Inputs<'a> {
+    /// The first inputs.
+    left: &'a [Word],
+    /// How far the second inputs are from those of bit checks, which are the first inputs and
+    /// wire 0; `None` where all are bit checks.
+    apart: Option<&'a [Word]>,
+}
+
+impl Inputs<'_> {
+    /// The sums over the points 1..M for the first inputs, for the outputs and for how far the
+    /// second inputs are, and the product of r - 1, ..., r - M.
+    #[inline(always)]
+    fn low_sums(self, r: u64, outputs: &[Word]) -> ([u64; 3], u64) {
+        let gates = outputs.len();
+        match self.apart {
+            None => {
+                let degrees = [gates, 2 * gates];
+                let ([inputs, outputs], others) = low_points(r, [self.left, outputs], degrees);
+                ([inputs, outputs, 0], others)
+            }
+            Some(apart) => low_points(r, [self.left, outputs, apart], [gates, 2 * gates, gates]),
+        }
+    }
 }
 
 /// The same once the inputs and tau are known. `rest` holds f(0), g(0), h(0)..h(2M), a, b, c.
@@ -50,7 +85,7 @@ pub(super) fn find(
 fn find_with(
     gates: usize,
     first: bool,
-    inputs: &[Word],
+    inputs: Inputs,
     rest: &[Word],
     r: u64,
     tau: u64,
@@ -58,14 +93,14 @@ fn find_with(
     let (h_values, triple) = rest[2..].split_at(2 * gates + 1);
     let [f0, g0] = std::array::from_fn(|i| value(rest[i]));
     let [a, b, c] = std::array::from_fn(|i| value(triple[i]));
-    let ([inputs_sum, low_sum], others) = low_points(r, inputs, &h_values[1..=gates]);
+    let ([inputs_sum, low_sum, apart_sum], others) = inputs.low_sums(r, &h_values[1..=gates]);
 
-    // The basis at 0, of f and g. Multiplication t has inputs x and x - 1, with the constant
-    // at server 0 only, and the basis adds up to 1.
+    // The basis at 0, of f and g. A bit check has inputs x and x - 1, with the constant at
+    // server 0 only, and the basis adds up to 1.
     let at_zero = mul(others, signed(gates)[0]);
     let f = inputs_sum + mul(at_zero, f0);
     let constants = if first { 1 + negate(at_zero) } else { 0 };
-    let g = strict(inputs_sum + mul(at_zero, g0) + P - constants);
+    let g = strict(inputs_sum + apart_sum + mul(at_zero, g0) + P - constants);
     let h = match h_values.get(r as usize) {
         // r is one of the points of h.
         Some(&h) => value(h),
@@ -85,12 +120,17 @@ fn find_with(
     }
 }
 
-/// The points 1..M: the sums for the inputs (degree M) and the outputs (degree 2M) among the
-/// points 0..M, and the product of r - 1, ..., r - M.
-fn low_points(r: u64, inputs: &[Word], outputs: &[Word]) -> ([u64; 2], u64) {
-    let gates = inputs.len();
-    let weights = [signed(gates - 1), signed(2 * gates - 1)];
-    let (sums, product) = Run::over(r, 1, [inputs, outputs], weights);
+/// The points 1..M: the sums for runs of values of such degrees (M for inputs, 2M for outputs)
+/// among the points 0..M, and the product of r - 1, ..., r - M.
+#[inline(always)]
+fn low_points<const N: usize>(
+    r: u64,
+    values: [&[Word]; N],
+    degrees: [usize; N],
+) -> ([u64; N], u64) {
+    let gates = values[0].len();
+    let weights = degrees.map(|degree| signed(degree - 1));
+    let (sums, product) = Run::over(r, 1, values, weights);
     let unscale = CONSTANTS.inverse_products[gates];
     let sums = sums.map(|sum| mul(mul(sum, unscale), r));
     (sums, mul(product, unscale))
@@ -107,99 +147,4 @@ fn with_high(r: u64, values: &[Word], low_sum: u64, low_product: u64) -> u64 {
     );
     let joined = mul(fold(low_sum), product) + mul(low_product, sum);
     mul(fold(joined), mul(above, below))
-}
-
-/// So many tests need less room.
-const SMALL: usize = 32;
-
-/// A share's columns, those that are still to come.
-struct Walk<'a> {
-    sheet: &'a [u8],
-    /// p - 1 at server 0, else 0.
-    minus_one: u64,
-    entries: &'a [Word],
-    /// Their part of h(1)..h(M).
-    outputs: &'a [Word],
-}
-
-/// Takes so many words off the start.
-fn take<'a>(words: &mut &'a [Word], count: usize) -> &'a [Word] {
-    let (taken, rest) = words.split_at(count);
-    *words = rest;
-    taken
-}
-
-impl Walk<'_> {
-    /// tau, loose. Notes the inputs.
-    fn gather(&mut self, shape: &Shape, s: u64, inputs: &mut [Word]) -> u64 {
-        let mut checked = 0;
-        self.tau(shape, s, |column, entries| {
-            // The first entry of a number, or of a column with a top, is no input: the next one
-            // overwrites it. The other kinds' entries are inputs.
-            let lead = column.entries() - column.multiplications();
-            for (i, &entry) in entries.iter().enumerate() {
-                inputs[checked] = entry;
-                checked += usize::from(i >= lead);
-            }
-        })
-    }
-
-    /// tau, loose. Shows each column with its entries.
-    fn tau(&mut self, shape: &Shape, s: u64, show: impl FnMut(Column, &[Word])) -> u64 {
-        if shape.tests <= SMALL {
-            self.tau_within::<SMALL>(s, show)
-        } else {
-            self.tau_within::<{ MAX_TESTS as usize }>(s, show)
-        }
-    }
-
-    fn tau_within<const N: usize>(&mut self, s: u64, mut show: impl FnMut(Column, &[Word])) -> u64 {
-        let mut tests = [0; N];
-        let mut count = 0;
-        while let Ok(Some((column, next))) = Column::read(self.sheet) {
-            self.sheet = next;
-            let entries = take(&mut self.entries, column.entries());
-            let outputs = take(&mut self.outputs, column.multiplications());
-            for (place, &output) in tests[count..].iter_mut().zip(outputs) {
-                *place = value(output);
-            }
-            count += column.tests();
-            self.sum_tests(column, entries, &mut tests[..count]);
-            show(column, entries);
-        }
-        powers_sum(&tests[..count], s, |wire| wire)
-    }
-
-    /// Notes the tests of a column's sums, which are the last of its tests. The sums are below
-    /// 2^32 + 2^55 before the reduction.
-    #[inline(always)]
-    fn sum_tests(&self, column: Column, entries: &[Word], tests: &mut [u64]) {
-        match (column, tests) {
-            (Column::Choice(_), [.., last]) => {
-                let options = entries.iter().map(|&entry| value(entry));
-                *last = strict(options.sum::<u64>() + self.minus_one);
-            }
-            (Column::Number(_), [.., last]) => {
-                *last = strict(weighed(&entries[1..]) + P - value(entries[0]));
-            }
-            (Column::Top(top), [.., first, second]) => {
-                let (low, high) = entries[1..].split_at(usize::from(column.bits()));
-                // The constant p - T counts at server 0 only.
-                let minus_top = if self.minus_one == 0 {
-                    0
-                } else {
-                    P - u64::from(top)
-                };
-                *first = strict(weighed(low) + P - value(entries[0]));
-                *second = strict(weighed(high) + value(entries[0]) + minus_top);
-            }
-            _ => {}
-        }
-    }
-}
-
-/// The sum of 2^j times bit j.
-fn weighed(bits: &[Word]) -> u64 {
-    let terms = bits.iter().zip(0u32..);
-    terms.map(|(&bit, j)| value(bit) << j).sum()
 }

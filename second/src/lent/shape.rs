@@ -16,6 +16,8 @@ pub(super) struct Shape {
     pub gates: usize,
     /// K.
     pub tests: usize,
+    /// Whether there are columns of kind 21.
+    pub points: bool,
     /// The largest value of a published entry.
     pub largest: u64,
 }
@@ -37,6 +39,7 @@ impl Shape {
             published: 0,
             gates: 0,
             tests: 0,
+            points: false,
             largest: 0,
         };
         let mut rest = sheet;
@@ -65,6 +68,7 @@ impl Shape {
         self.published += times * column.published();
         self.gates += times * column.multiplications();
         self.tests += times * column.tests();
+        self.points |= matches!(column, Column::Point(_));
         self.largest = self.largest.max(column.largest());
     }
 
@@ -114,6 +118,10 @@ mod tests {
             published: sheet.published(),
             gates: sheet.multiplications(),
             tests: sheet.tests(),
+            points: {
+                let mut columns = sheet.columns().iter();
+                columns.any(|column| matches!(column, Column::Point(_)))
+            },
             largest: sheet.largest(),
         });
         assert_eq!(Shape::read(bytes), expected, "{bytes:?}");
@@ -132,7 +140,7 @@ mod tests {
         }
         for count in 0..300 {
             check(&vec![17; count]);
-            for last in [16, 18, 19, 20, 21] {
+            for last in [16, 18, 19, 20, 21, 22] {
                 let mut bytes = vec![17; count];
                 bytes.push(last);
                 check(&bytes);

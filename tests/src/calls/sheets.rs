@@ -1,10 +1,10 @@
-//! Carrying out the calls on a sheet or a circuit, and joining.
+//! Carrying out the calls on a sheet or a circuit, joining, and lines.
 
 use second::gen::Rng;
 
-use super::{numbers, wrote, Call, Outcome};
+use super::{found, numbers, wrote, Call, Outcome};
 use crate::c;
-use crate::guard::{word32, word_size, Lent, Word};
+use crate::guard::{word32, word_signed, word_size, Lent, Word};
 
 /// What a sheet comes to, by the header's names and in its order.
 const SIZES: [&str; 9] = [
@@ -113,5 +113,21 @@ impl Call {
         sheet.kept()?;
         joined.kept()?;
         wrote(answer, &out, &written, &[accepted])
+    }
+
+    pub(super) fn line(&self, rng: &mut Rng) -> Result<Outcome, String> {
+        let sheet = Lent::of("sheet", &self.sheet, rng);
+        let joined = Lent::of("joined", &self.message, rng);
+        let mut words = ["determinant", "slope", "intercept"].map(|name| word_signed(name, rng));
+        let [p0, p1, p2] = words.each_mut().map(Word::pointer);
+        let (from, length) = (sheet.pointer(), sheet.length());
+        let (messages, total) = (joined.pointer(), joined.length());
+        let answer =
+            unsafe { c::pool_line(self.servers, from, length, self.returns, messages, total, self.column, p0, p1, p2) };
+        sheet.kept()?;
+        joined.kept()?;
+        words.iter().try_for_each(|word| word.kept(answer != 0))?;
+        let [determinant, slope, intercept] = words.map(|word| word.value());
+        Ok(if answer == 0 { found(determinant, slope, intercept) } else { Err(answer) })
     }
 }

@@ -46,7 +46,8 @@ pub fn open(suite: &mut Suite) -> Verdict {
     suite.seed(3);
     let number = (vec![17, 18, 3, 19, 24], 14 + 5 + 20 + 4 * 128, 8 * (29 + 2 * 28 + 8), 1);
     let top = (vec![17, 18, 3, 20, 255, 255, 255, 0], 14 + 8 + 20 + 4 * 128, 8 * (53 + 2 * 52 + 8), 128);
-    for (sheet, room, elements, least) in [number, top] {
+    let point = (vec![17, 21, 12], 14 + 3 + 20 + 4 * 128, 8 * (29 + 2 * 27 + 8), 64);
+    for (sheet, room, elements, least) in [number, top, point] {
         let base = Call { room, elements, least, ..Call::open_table(3, 2, &sheet, 128) };
         let mut faults = servers(0);
         faults.push(fault(1, 2, "servers", |call| call.servers = 2));

@@ -7,6 +7,7 @@ use super::Pool;
 use crate::calls::{plain, Call, Function};
 use crate::challenges;
 use crate::layout::{put_word, word};
+use crate::lines;
 use crate::orders::shuffled;
 use crate::reference::ONE_BYTES;
 use crate::suite::{Suite, Verdict};
@@ -19,6 +20,10 @@ fn add_values(sheet: &Sheet, values: &[u8], totals: &mut [u64]) {
         let value = word(values, 4 * k);
         match column {
             Column::Choice(_) => totals[at + value as usize] += 1,
+            Column::Point(bits) => {
+                let (x, y) = (value % (1 << bits), value >> bits);
+                totals[at..].iter_mut().zip([x, x * x, y, x * y]).for_each(|(total, term)| *total += term);
+            }
             _ => totals[at] += value,
         }
         at += column.published();
@@ -111,7 +116,8 @@ fn honest(suite: &mut Suite, rng: &mut Rng, pool: &mut Pool, count: u32) -> Verd
     }
     let join = pool.close(suite)?;
     let bytes = entries.totals.iter().flat_map(|&total| (total as u32).to_le_bytes()).collect();
-    suite.gives(&join, plain(vec![entries.entered], bytes))
+    suite.gives(&join, plain(vec![entries.entered], bytes))?;
+    lines::of_columns(suite, &join, entries.entered, &entries.totals)
 }
 
 /// A pool by its seed: sheets of all sizes, 2 to 8 servers, Q often as many as come.
@@ -134,7 +140,8 @@ pub fn large(suite: &mut Suite) -> Verdict {
     let mut number = [19, 24].repeat(10);
     number.extend([19, 5]);
     let others = [vec![17; 256], [18, 64].repeat(4), [18, 2].repeat(128), [19, 1].repeat(128), number];
-    for bytes in others.into_iter().chain([longest_sheet(), largest_sheet()]) {
+    let points = [[21, 12].repeat(9), [21, 1].repeat(42)];
+    for bytes in others.into_iter().chain([longest_sheet(), largest_sheet()]).chain(points) {
         for servers in [2, 8] {
             let mut rng = suite.seed(u64::from(servers));
             let mut pool = Pool::open(suite, servers, &bytes, 3)?;
@@ -194,9 +201,11 @@ fn used(suite: &mut Suite, pool: &Pool, share: &[u8]) -> Verdict {
     Ok(())
 }
 
-/// The largest totals that open: 128 times 2^24 - 1 does not wrap, for a number and for a top.
+/// The largest totals that open: 128 times 2^24 - 1 does not wrap, for a number and for a top; nor does 128 times 4,095^2.
 pub fn highest(suite: &mut Suite) -> Verdict {
-    for sheet in [&[19, 24][..], &[20, 255, 255, 255, 0]] {
+    let one = vec![2_147_483_520];
+    let four = [524_160, 2_146_435_200].repeat(2);
+    for (sheet, totals) in [(&[19, 24][..], &one), (&[20, 255, 255, 255, 0], &one), (&[21, 12], &four)] {
         let mut rng = suite.seed(128);
         let mut pool = Pool::open(suite, 2, sheet, 128)?;
         for id in 0..128 {
@@ -204,7 +213,9 @@ pub fn highest(suite: &mut Suite) -> Verdict {
             pool.admit(suite, &shares, 1_000_000 + u64::from(id), 77)?;
         }
         let join = pool.close(suite)?;
-        suite.gives(&join, plain(vec![128], 2_147_483_520u32.to_le_bytes().to_vec()))?;
+        let bytes = totals.iter().flat_map(|&total: &u64| (total as u32).to_le_bytes()).collect();
+        suite.gives(&join, plain(vec![128], bytes))?;
+        lines::of_columns(suite, &join, 128, totals)?;
     }
     Ok(())
 }

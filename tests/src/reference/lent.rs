@@ -32,7 +32,8 @@ fn open(call: &Call) -> Outcome {
     let length = lent::open(servers, own, &call.sheet, returns, least, &mut bytes, &mut slots, &mut elements)?;
     bytes.truncate(length);
     elements.truncate(lent::run_length(&call.sheet)?);
-    Ok(Done { numbers: Vec::new(), bytes: Vec::new(), table: Parts { bytes, slots: ours(&slots), elements } })
+    let table = Parts { bytes, slots: ours(&slots), elements };
+    Ok(Done { numbers: Vec::new(), signed: Vec::new(), bytes: Vec::new(), table })
 }
 
 fn on_table(call: &Call) -> Outcome {
@@ -53,5 +54,6 @@ fn on_table(call: &Call) -> Outcome {
         _ => (Vec::new(), lent::close(t, s, e, &mut out)?),
     };
     out.truncate(written);
-    Ok(Done { numbers, bytes: out, table: Parts { bytes, slots: ours(&slots), elements } })
+    let table = Parts { bytes, slots: ours(&slots), elements };
+    Ok(Done { numbers, signed: Vec::new(), bytes: out, table })
 }

@@ -10,7 +10,7 @@ use crate::layout::{self, id_of, put_short, put_word, word, Parts, Slot, Table};
 
 /// A call on a table that is done.
 fn done(numbers: Vec<u64>, bytes: Vec<u8>, table: Parts) -> Outcome {
-    Ok(Done { numbers, bytes, table })
+    Ok(Done { numbers, signed: Vec::new(), bytes, table })
 }
 
 pub fn open(call: &Call) -> Outcome {

@@ -1,19 +1,19 @@
 //! Random cases.
 
-use super::{Case, Shelf};
+use super::{Case, Fit, Shelf};
 use crate::circuit::circuit;
 use crate::gen::any::{
     any_id, any_least, any_limit, any_messages, any_room, any_servers, any_sheet, any_width,
 };
-use crate::gen::closings::{closing, damage_closings, recount_input};
+use crate::gen::closings::{closing, damage_closings, line_totals, recount_input, split_totals};
 use crate::gen::{circuits, sheets, Rng};
 use crate::listing::every_return;
-use crate::sheet::Sheet;
+use crate::sheet::{Column, Sheet};
 
 impl Case {
     /// A random case: half of them good, the rest with one fault or more.
     pub fn random(rng: &mut Rng) -> Case {
-        match rng.below(9) {
+        match rng.below(10) {
             0 => Case::random_sizes(rng),
             1 => Case::random_circuit(rng),
             2 => Case::random_read_circuit(rng),
@@ -22,6 +22,7 @@ impl Case {
             5 => Case::random_open(rng),
             6 => Case::random_join(rng),
             7 => Case::random_recount(rng),
+            8 => Case::random_line(rng),
             _ => Case::random_shelf(rng),
         }
     }
@@ -150,6 +151,36 @@ impl Case {
         }
     }
 
+    /// The line of a column.
+    pub fn random_line(rng: &mut Rng) -> Case {
+        let mut sheet = any_sheet(rng, 60, 8);
+        if rng.chance(85) {
+            let bits = rng.between(1, 12) as u8;
+            sheet.extend([21, bits]);
+        }
+        let servers = any_servers(rng, 8);
+        let limit = any_limit(rng, &sheet, 15);
+        let read = Sheet::read(&sheet);
+        let column = any_column(rng, read.as_ref().map_or(&[], |sheet| sheet.columns()));
+        let count = rng.between(0, u64::from(limit.min(1024))) as u32;
+        let published = read.as_ref().map_or(1, |sheet| sheet.published());
+        let totals = match &read {
+            Ok(sheet) => line_totals(rng, sheet, column, count),
+            Err(_) => vec![0; published],
+        };
+        let mut joined = split_totals(rng, servers.clamp(2, 8), count, &totals);
+        if rng.chance(25) {
+            damage_closings(rng, &mut joined, published, limit);
+        }
+        Case::Line(Fit {
+            servers,
+            sheet,
+            limit,
+            joined,
+            column,
+        })
+    }
+
     /// The text of recount.
     pub fn random_recount(rng: &mut Rng) -> Case {
         let mut input = match Case::random_join(rng) {
@@ -192,6 +223,20 @@ impl Case {
     }
 }
 
+/// The number of a column, mostly of kind 21.
+fn any_column(rng: &mut Rng, columns: &[Column]) -> u32 {
+    let last = columns.len() as u32;
+    let points: Vec<u32> = (1..=last)
+        .filter(|&number| matches!(columns[number as usize - 1], Column::Point(_)))
+        .collect();
+    if points.is_empty() || rng.chance(12) {
+        let any = rng.between(0, u64::from(last) + 1) as u32;
+        let far = rng.pick([256, 65_537, u32::MAX]);
+        return rng.pick([0, last + 1, any, any, far]);
+    }
+    points[rng.index(points.len())]
+}
+
 /// Puts a fault into the input of recount, or none.
 fn damage_input(rng: &mut Rng, input: &mut Vec<u8>) {
     match rng.below(10) {
@@ -213,7 +258,7 @@ fn damage_input(rng: &mut Rng, input: &mut Vec<u8>) {
         3 => {
             let mut sheet = vec![17; 65_535];
             if rng.chance(50) {
-                sheet[65_534] = rng.pick([18, 19, 20, 21]);
+                sheet[65_534] = rng.pick([18, 19, 20, 21, 22]);
             }
             *input = recount_input(2, &sheet, 1, &[]);
             let cut = rng.below(5) as usize;

@@ -5,7 +5,8 @@ use super::{Answer, Call, Script};
 use crate::field;
 use crate::gen::any::wrong_least;
 use crate::gen::closings::{closing, damage_closings, recount_input};
-use crate::gen::{added_up, Case, Exchange};
+use crate::gen::sheets::with_point;
+use crate::gen::{added_up, Case, Exchange, Fit};
 use crate::joining::Joined;
 use crate::table::Table;
 
@@ -61,7 +62,20 @@ impl Builder {
         }
         let input = recount_input(self.servers, &self.bytes, self.limit, &joined);
         joins.push(Exchange::of(Case::Recount { input }));
+        joins.extend(self.line(joined));
         joins
+    }
+
+    /// The line of a column of kind 21, if there is one.
+    fn line(&mut self, joined: Vec<u8>) -> Option<Exchange> {
+        let number = with_point(&mut self.rng, &self.sheet)?;
+        Some(Exchange::of(Case::Line(Fit {
+            servers: self.servers,
+            sheet: self.bytes.clone(),
+            limit: self.limit,
+            joined,
+            column: number as u32 + 1,
+        })))
     }
 
     /// The count and the totals of the returns that were entered.

@@ -5,6 +5,7 @@ use std::fmt;
 use super::{Answer, Call, Script};
 use crate::gen::{Case, CaseAnswer, Exchange, Hex};
 use crate::joining::Joined;
+use crate::line::Line;
 use crate::table::Verdict;
 
 impl fmt::Display for Call {
@@ -49,6 +50,8 @@ impl fmt::Display for Answer {
 /// = message <bytes> | accepted | rejected | entered | dropped | refused <number>
 /// join <S> <N> <room> <sheet> <joined>
 /// = joined <count> <totals> | refused <number>
+/// line <S> <N> <column> <sheet> <joined>
+/// = line <determinant> <slope> <intercept> | refused <number>
 /// ```
 impl fmt::Display for Script {
     fn fmt(&self, f: &mut fmt::Formatter) -> fmt::Result {
@@ -73,7 +76,7 @@ impl fmt::Display for Script {
     }
 }
 
-/// An opening or a join with its answer; nothing for the text of recount.
+/// An opening, a join or a line with its answer; nothing for the text of recount.
 fn tell(f: &mut fmt::Formatter, exchange: &Exchange) -> fmt::Result {
     match &exchange.case {
         Case::Open {
@@ -93,12 +96,25 @@ fn tell(f: &mut fmt::Formatter, exchange: &Exchange) -> fmt::Result {
             let (sheet, joined) = (Hex(sheet), Hex(joined));
             writeln!(f, "join {servers} {limit} {room} {sheet} {joined}")?;
         }
+        Case::Line(x) => {
+            write!(f, "line {} {} {} ", x.servers, x.limit, x.column)?;
+            writeln!(f, "{} {}", Hex(&x.sheet), Hex(&x.joined))?;
+        }
         _ => return Ok(()),
     }
-    match &exchange.answer {
+    tell_answer(f, &exchange.answer)
+}
+
+fn tell_answer(f: &mut fmt::Formatter, answer: &CaseAnswer) -> fmt::Result {
+    match answer {
         CaseAnswer::Joined(Joined { count, totals }) => {
             writeln!(f, "= joined {count} {}", Hex(totals))
         }
+        CaseAnswer::Line(Line {
+            determinant,
+            slope,
+            intercept,
+        }) => writeln!(f, "= line {determinant} {slope} {intercept}"),
         CaseAnswer::Refused(number) => writeln!(f, "= refused {number}"),
         _ => Ok(()),
     }

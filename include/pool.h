@@ -16,6 +16,7 @@
  *                       pool_drop          in place of a round or of entering, for a return that cannot be finished
  *                       pool_close ------> its totals message, at the end, when enough returns are entered
  *     anyone            pool_join -------> the count of entered returns and the totals
+ *                       pool_line -------> the line that fits the points of a column best
  *     a keeper          pool_shelve -----> share messages stored by place, and pool_unshelve brings them back
  *
  * The host sends the messages: what a server writes in a round goes to every server. It also draws the random numbers, and
@@ -156,7 +157,8 @@
  * Q. A table with N decided and fewer than Q entered never closes: its shares are refused 13 and its close 15. That is certain
  * once more than N - Q returns are rejected or dropped. Then open a new pool, for which the workshops make their returns anew
  * (a share of the old one is never judged again), and erase the old tables. Q counts returns, not workshops: who sends them,
- * and how many each, is the host's to know.
+ * and how many each, is the host's to know. The four totals of a column of points show more than the one of a number: those of
+ * two returns show both x, and both y where the x differ. So with points take a Q well above 2.
  *
  * Threads. Functions keep nothing between calls. Calls at the same time are allowed on separate buffers; calls on one table
  * come one after another, whichever returns they name. No function needs more than 64 KiB of stack; none allocates memory.
@@ -174,7 +176,7 @@ extern "C" {
 /* Refusals. */
 #define POOL_DONE 0
 #define POOL_KIND 1     /* sheet or circuit: unknown kind byte, or the body is cut off */
-#define POOL_LIMIT 2    /* a count, top, constant, S, server number, N, Q, or R or W of stored messages outside its limits */
+#define POOL_LIMIT 2    /* a count, top, constant, S, server number, N, Q, R or W outside its limits, or a column that is not of points */
 #define POOL_WIRE 3     /* circuit: a wire not yet made, or an entry that does not exist */
 #define POOL_WRAP 4     /* N returns could make a total of p or more */
 #define POOL_VALUE 5    /* not one value for each column, or a value outside its column */
@@ -190,6 +192,7 @@ extern "C" {
 #define POOL_FEW 15     /* close: fewer than Q returns are entered; take more, or, where N are decided, open a new pool */
 #define POOL_UNEQUAL 16 /* round one: r or s is not the same in all messages; drop the return everywhere (see A slip in r or s) */
 #define POOL_MANY 17    /* the sheet has more than 4,096 legal lists of values */
+#define POOL_NO_LINE 18 /* line: all x are equal, or no return is entered: no one line fits; the totals stand (see pool_line) */
 #define POOL_RUN 19     /* shelf: the run is not R messages of W bytes */
 
 /* Limits. */
@@ -210,13 +213,22 @@ extern "C" {
  *     POOL_NUMBER, b       b bits, 1 to 24; values 0 to 2^b - 1; b + 1 entries, one published
  *     POOL_TOP, T          a number with a top of its own: T in 4 bytes, 1 to 16,777,215; values 0 to T; with b the bit length
  *                          of T, 2b + 1 entries, one published
+ *     POOL_POINT, b        a point: two numbers x and y of b bits each, 1 to 12, for the line of y on x (pool_line). Its value is the
+ *                          one number x + 2^b * y: x is its lowest b bits, y those above them; values 0 to 4^b - 1, all of them legal.
+ *                          2b + 4 entries, the first four published, in this order: x, x * x, y, x * y. The servers reject a return
+ *                          in which the products are not those of x and y
  * A sheet has 1 to 256 entries. M is the number of multiplications: 1 for yes/no, B for a choice, b for a number, 2b for a
- * number with a top.
+ * number with a top, 2b + 2 for a point.
+ *
+ * N times the largest number in a published entry must stay below p, or opening is refused 4. This number is 1 for yes/no and
+ * choices, 2^b - 1 for a number, T for one with a top, and the square of 2^b - 1 for a point: points of 12 bits open with N up to
+ * 128, of 11 bits with N up to 512, and of 10 bits or fewer with every N (greatest_returns of pool_sizes tells it for a sheet).
  */
 #define POOL_YES_NO 17
 #define POOL_CHOICE 18
 #define POOL_NUMBER 19
 #define POOL_TOP 20
+#define POOL_POINT 21
 
 /*
  * A slot of a table. One that is free is all 0. For a return that waits it holds:
@@ -313,7 +325,8 @@ uint32_t pool_read_circuit(uint32_t entries, const uint8_t *circuit, size_t circ
  *               the first column weighing most: from one list to the next the last column moves first. *written is
  *               POOL_EVERY_RETURN_BYTES; a sheet with at most 4,096 lists has at most 12 columns, so that
  *               POOL_MAX_EVERY_RETURN_BYTES are enough for every sheet
- *     lists     how many there are, 1 list for each choice of a value in every column: 2, B, 2^b or T + 1 values, multiplied
+ *     lists     how many there are, 1 list for each choice of a value in every column: 2, B, 2^b, T + 1 or, for a point, 4^b values,
+ *               multiplied
  * Refusals: the sheet's, 17 for more than 4,096 lists, 14.
  */
 uint32_t pool_every_return(const uint8_t *sheet, size_t sheet_len, uint8_t *out, size_t out_len,
@@ -322,7 +335,7 @@ uint32_t pool_every_return(const uint8_t *sheet, size_t sheet_len, uint8_t *out,
 /*
  * Makes a return: writes the S share messages one after another in server order, share_bytes each: POOL_MAKE_BYTES.
  *     id        any number, given to one return only
- *     values    POOL_VALUES_BYTES: 4 bytes for each column, in the order of the sheet
+ *     values    POOL_VALUES_BYTES: 4 bytes for each column, in the order of the sheet; those of a point hold x + 2^b * y
  *     random    POOL_RANDOM_BYTES of random elements, each drawn evenly below p, never used twice
  * Refusals: the sheet's, 2 for S, 5, 6, 14.
  */
@@ -413,12 +426,37 @@ uint32_t pool_close(uint8_t *table, size_t table_len, const pool_slot *slots, si
 
 /*
  * Joins the S totals messages, in server order, of tables opened with this S, sheet and N; Q is not asked for. *accepted is the
- * count of entered returns, and the totals of the published entries are written as elements in entry order, POOL_JOIN_BYTES.
+ * count of entered returns, and the totals of the published entries are written as elements in entry order, POOL_JOIN_BYTES: one
+ * for a yes/no, a number or a number with a top, B for a choice, four for a point (the sums of x, x * x, y and x * y).
  * Refusals: 2 for S, the sheet's, 2 for N, 4, 12, for messages in another order too, 14.
  */
 uint32_t pool_join(uint32_t servers, const uint8_t *sheet, size_t sheet_len, uint32_t returns,
                    const uint8_t *joined, size_t joined_len, uint8_t *out, size_t out_len,
                    uint32_t *accepted, size_t *written);
+
+/*
+ * Fits a line to the points of one column by least squares: of all lines the one for which the squares of the distances in y add up
+ * to the least. It takes what pool_join takes, and a column number; nothing need be joined before. It gives three numbers, with n the
+ * count of entered returns and Sx, Sxx, Sy, Sxy the column's four totals, in the order in which pool_join writes them:
+ *     column       which column of the sheet, counted from 1: one of points
+ *     determinant  D = n * Sxx - Sx * Sx
+ *     slope        n * Sxy - Sx * Sy
+ *     intercept    Sxx * Sy - Sx * Sxy
+ * The line is y = intercept/D + slope/D * x. The three are whole numbers with a sign, and exact: n is at most 1,024 and a total
+ * below 2^31, so each lies between -2^62 and 2^62 and none is ever cut. The host forms the quotients: as fractions they are exact,
+ * as (double)slope / (double)determinant close. Slope and intercept can be negative. D is not 0 where the call is done, and above
+ * 0 for totals of returns that keep their form. A D below 0 comes only of totals that keep no form: a totals message was altered,
+ * or the servers did not enter the same returns. It is no refusal; the line then says nothing.
+ * Refusals: 2 for S, the sheet's, 2 for N, 4, then
+ *     2   no column has this number (it is 0, or past the last), or the one that has it is not of points
+ *     12  as in pool_join
+ *     18  D is 0: no return is entered, or all have one and the same x, as a single return has. Many lines fit equally well then.
+ *         Publish the totals (pool_join) without a line; a line needs returns with different x
+ * Refused, it leaves all three numbers as they were.
+ */
+uint32_t pool_line(uint32_t servers, const uint8_t *sheet, size_t sheet_len, uint32_t returns,
+                   const uint8_t *joined, size_t joined_len, uint32_t column,
+                   int64_t *determinant, int64_t *slope, int64_t *intercept);
 
 /*
  * Stores messages by place: the first byte of each, then the second of each, and so on. So equal places in a season's shares

@@ -169,6 +169,19 @@ extern "C" {
         written: *mut usize,
     ) -> u32;
 
+    pub fn pool_line(
+        servers: u32,
+        sheet: *const u8,
+        sheet_len: usize,
+        returns: u32,
+        joined: *const u8,
+        joined_len: usize,
+        column: u32,
+        determinant: *mut i64,
+        slope: *mut i64,
+        intercept: *mut i64,
+    ) -> u32;
+
     pub fn pool_shelve(
         messages: u32,
         width: u32,

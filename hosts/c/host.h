@@ -1,7 +1,7 @@
 /*
  * host.h: what a C host of the pool brings along: refusals in words, what a sheet comes to, a table with how many returns wait in
- * it and what for, numbers in buffers, the r and s of a message, random numbers from the system. Functions are static, so that a
- * program has only to include it.
+ * it and what for, numbers in buffers, the value of a point, the r and s of a message, random numbers from the system. Functions are
+ * static, so that a program has only to include it.
  */
 #ifndef POOL_HOST_H
 #define POOL_HOST_H
@@ -19,7 +19,7 @@ static inline const char *host_words(uint32_t refusal)
     static const char *const words[] = {
         "done",
         "sheet or circuit: an unknown kind, or its body is cut off",
-        "a count, top, constant, number of servers, server number, N, Q, or R or W of stored messages outside its limits",
+        "a count, top, constant, number of servers, server number, N, Q, R or W outside its limits, or a column that is not of points",
         "circuit: a wire not yet made, or an entry that does not exist",
         "so many returns could make a total of p or more",
         "not one value for each column, or a value outside its column",
@@ -35,9 +35,10 @@ static inline const char *host_words(uint32_t refusal)
         "fewer returns are entered than the least count: take more and close again; where N are decided, open a new pool",
         "r or s differs among the servers: see whose is wrong, drop the return at each, have it made anew under a new id, with one pair",
         "the sheet has more than 4,096 legal lists of values",
-        [POOL_RUN] = "the run is not so many messages of this length",
+        "all x are equal, or no return is entered: no one line fits best; publish the totals without a line",
+        "the run is not so many messages of this length",
     };
-    return refusal < sizeof words / sizeof words[0] && words[refusal] ? words[refusal] : "unknown refusal";
+    return refusal < sizeof words / sizeof words[0] ? words[refusal] : "unknown refusal";
 }
 
 /* Ends the program, with the answer's number and words, unless it is this one: POOL_DONE or a refusal. */
@@ -108,6 +109,12 @@ static inline void host_put_u32(uint8_t *at, uint32_t x)
 static inline uint32_t host_u32(const uint8_t *at)
 {
     return at[0] | (uint32_t)at[1] << 8 | (uint32_t)at[2] << 16 | (uint32_t)at[3] << 24;
+}
+
+/* The value of a point of so many bits. Where x or y has more bits it is one past every column, which pool_make refuses 5. */
+static inline uint32_t host_point(uint32_t bits, uint32_t x, uint32_t y)
+{
+    return x >> bits == 0 && y >> bits == 0 ? x | y << bits : UINT32_MAX;
 }
 
 /* The r and the s of a round-one message: where messages differ in them, they show which server slipped. */

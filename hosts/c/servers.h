@@ -9,23 +9,25 @@
 
 #include "host.h"
 
-enum { SERVERS = 3, LAST = SERVERS - 1, RETURNS = 16, LEAST = 7, COLUMNS = 3, PUBLISHED = 6 };
+enum { SERVERS = 3, LAST = SERVERS - 1, RETURNS = 16, LEAST = 7 };
+enum { COLUMNS = 4, SINGLE = COLUMNS - 1, POINT_BYTES = 2, POINT_BITS = 6, POINT_AT = 6, PUBLISHED = POINT_AT + 4 };
 
-/* Hours stop at 200: a top in 4 bytes, lowest byte first. */
-static const uint8_t sheet[] = {POOL_YES_NO, POOL_CHOICE, 4, POOL_TOP, 200, 0, 0, 0};
+/* Hours stop at 200: a top in 4 bytes, lowest byte first. The last column is a point: a diameter, and the hours on it. */
+static const uint8_t sheet[] = {POOL_YES_NO, POOL_CHOICE, 4, POOL_TOP, 200, 0, 0, 0, POOL_POINT, POINT_BITS};
 
 enum conduct { HONEST, CHEATS, SLIPS };
 enum { ALBERS, BRANDT, CLASEN, DORN, EBERT, FUCHS, GROSS, HARMS, IHDE, JANSEN, KRUSE, WORKSHOPS }; /* Kruse files late */
 
 static const struct workshop {
     const char *name;
-    uint32_t values[COLUMNS]; /* yes or no, the option from 0, the number */
+    uint32_t values[SINGLE]; /* yes or no, the option from 0, the number */
+    uint32_t x, y;           /* the plate's diameter in mm, and the hours on the plate */
     enum conduct conduct;
 } workshops[WORKSHOPS] = {
-    {"Albers", {1, 0, 3}, HONEST},  {"Brandt", {0, 2, 11}, HONEST}, {"Clasen", {1, 1, 6}, HONEST},
-    {"Dorn", {1, 3, 150}, CHEATS},  {"Ebert", {1, 2, 9}, HONEST},   {"Fuchs", {0, 1, 40}, HONEST},
-    {"Gross", {0, 2, 200}, HONEST}, {"Harms", {0, 1, 255}, SLIPS},  {"Ihde", {1, 0, 75}, HONEST},
-    {"Jansen", {0, 3, 14}, HONEST}, {"Kruse", {1, 1, 25}, HONEST},
+    {"Albers", {1, 0, 3}, 28, 2, HONEST},   {"Brandt", {0, 2, 11}, 34, 5, HONEST}, {"Clasen", {1, 1, 6}, 30, 3, HONEST},
+    {"Dorn", {1, 3, 150}, 36, 60, CHEATS},  {"Ebert", {1, 2, 9}, 36, 5, HONEST},   {"Fuchs", {0, 1, 40}, 32, 4, HONEST},
+    {"Gross", {0, 2, 200}, 44, 63, HONEST}, {"Harms", {0, 1, 255}, 26, 2, SLIPS},  {"Ihde", {1, 0, 75}, 42, 9, HONEST},
+    {"Jansen", {0, 3, 14}, 38, 7, HONEST},  {"Kruse", {1, 1, 25}, 40, 7, HONEST},
 };
 
 /* Orders in which the messages of a round arrive: another at each server. */
@@ -56,8 +58,9 @@ static uint32_t file(int k, uint32_t id)
     struct under_way *u = &under_way[k];
     uint8_t values[POOL_VALUES_BYTES(COLUMNS)], random[POOL_MAX_RANDOM_BYTES];
     size_t random_len = POOL_RANDOM_BYTES(SERVERS, sizes.share_bytes), written;
-    for (int n = 0; n < COLUMNS; n++)
+    for (int n = 0; n < SINGLE; n++)
         host_put_u32(values + 4 * n, workshops[k].values[n]);
+    host_put_u32(values + 4 * SINGLE, host_point(POINT_BITS, workshops[k].x, workshops[k].y));
     host_elements(random, random_len);
     uint32_t answer = pool_make(sheet, sizeof sheet, SERVERS, id, values, sizeof values, random, random_len, u->shares,
                                 sizeof u->shares, &written);
@@ -160,18 +163,21 @@ static void enter_at(size_t first, size_t end, int k)
     }
 }
 
-static void add_plain(const uint32_t values[COLUMNS])
+static void add_plain(const struct workshop *w)
 {
+    const uint32_t point[] = {w->x, w->x * w->x, w->y, w->x * w->y};
     plain_count++;
-    plain[0] += values[0];
-    plain[1 + values[1]] += 1;
-    plain[5] += values[2];
+    plain[0] += w->values[0];
+    plain[1 + w->values[1]] += 1;
+    plain[5] += w->values[2];
+    for (int n = 0; n < PUBLISHED - POINT_AT; n++)
+        plain[POINT_AT + n] += point[n];
 }
 
 static void enter(int k)
 {
     enter_at(0, SERVERS, k);
-    add_plain(workshops[k].values);
+    add_plain(&workshops[k]);
 }
 
 /* The last server stops before it enters the return, and what it has in memory is lost. The others enter it. */
@@ -179,7 +185,7 @@ static void stop(int k)
 {
     memset(&tables[LAST], 0, sizeof tables[LAST]);
     enter_at(0, LAST, k);
-    add_plain(workshops[k].values);
+    add_plain(&workshops[k]);
 }
 
 /* It goes on from its stored table, in which the return still awaits entry, and enters it too. */
@@ -195,11 +201,23 @@ static void drop(int k)
         done("pool_drop", i, pool_drop(HOST_TABLE(&tables[i]), under_way[k].id));
 }
 
+/* The line of y on x: y = intercept / determinant + slope / determinant * x. */
+struct line {
+    int64_t determinant, slope, intercept;
+};
+
+/* The line from the plain sums. */
+static struct line plain_line(void)
+{
+    int64_t n = plain_count, x = plain[POINT_AT], xx = plain[POINT_AT + 1], y = plain[POINT_AT + 2], xy = plain[POINT_AT + 3];
+    return (struct line){n * xx - x * x, n * xy - x * y, xx * y - x * xy};
+}
+
 /*
- * Closes every server and joins the totals, in server order. Says whether it did: with fewer returns entered than the least
- * count no server closes, and all go on.
+ * Closes every server and joins the totals, in server order, and fits the line of the last column. Says whether it did: with
+ * fewer returns entered than the least count no server closes, and all go on.
  */
-static int close_and_join(uint32_t totals[PUBLISHED], uint32_t *count)
+static int close_and_join(uint32_t totals[PUBLISHED], uint32_t *count, struct line *line)
 {
     uint8_t joined[SERVERS * POOL_MAX_TOTALS_BYTES], out[POOL_JOIN_BYTES(PUBLISHED)];
     size_t written, len = 0;
@@ -212,6 +230,8 @@ static int close_and_join(uint32_t totals[PUBLISHED], uint32_t *count)
     host_must("pool_join", pool_join(SERVERS, sheet, sizeof sheet, RETURNS, joined, len, out, sizeof out, count, &written));
     for (int k = 0; k < PUBLISHED; k++)
         totals[k] = host_u32(out + 4 * k);
+    host_must("pool_line", pool_line(SERVERS, sheet, sizeof sheet, RETURNS, joined, len, COLUMNS, &line->determinant, &line->slope,
+                                     &line->intercept));
     return 1;
 }
 

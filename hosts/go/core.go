@@ -25,6 +25,7 @@ const (
 	kindChoice   = C.POOL_CHOICE
 	kindNumber   = C.POOL_NUMBER
 	kindTop      = C.POOL_TOP
+	kindPoint    = C.POOL_POINT
 	elementBytes = 4
 	maxEvery     = C.POOL_MAX_EVERY_RETURN_BYTES
 	maxShelf     = C.POOL_MAX_SHELF_MESSAGES
@@ -106,6 +107,15 @@ func coreJoin(servers uint32, sheet []byte, returns uint32, joined, out []byte) 
 	to, room := lend(out)
 	answer = uint32(C.pool_join(C.uint32_t(servers), at, n, C.uint32_t(returns), j, nj, to, room, &a, &w))
 	return uint32(a), int(w), answer
+}
+
+func coreLine(servers uint32, sheet []byte, returns uint32, joined []byte, column uint32) (fit Fit, answer uint32) {
+	var determinant, slope, intercept C.int64_t
+	at, n := lend(sheet)
+	j, nj := lend(joined)
+	answer = uint32(C.pool_line(C.uint32_t(servers), at, n, C.uint32_t(returns), j, nj, C.uint32_t(column), &determinant,
+		&slope, &intercept))
+	return Fit{int64(determinant), int64(slope), int64(intercept)}, answer
 }
 
 func coreShelve(messages, width uint32, run, out []byte) (written int, answer uint32) {

@@ -29,6 +29,8 @@ func TestEveryReturnCounts(t *testing.T) {
 		{sheetOf(t, Number(2), YesNo(), Choice(5), Number(1)), []uint32{4, 2, 5, 2}},
 		{sheetOf(t, UpTo(4095)), []uint32{4096}},
 		{sheetOf(t, YesNo(), UpTo(200), UpTo(1), UpTo(4)), []uint32{2, 201, 2, 5}},
+		{sheetOf(t, Point(6)), []uint32{4096}},
+		{sheetOf(t, Point(1), Choice(3), Point(2), YesNo()), []uint32{4, 3, 16, 2}},
 	} {
 		all, err := test.sheet.EveryReturn()
 		if err != nil {
@@ -63,9 +65,9 @@ func count(digits, bases []uint32) {
 
 // Every legal return can be made.
 func TestEveryReturnIsLegal(t *testing.T) {
-	client := Client{Sheet: sheetOf(t, Choice(3), Number(2), YesNo(), UpTo(2)), Servers: 2}
+	client := Client{Sheet: sheetOf(t, Choice(3), Number(2), YesNo(), UpTo(2), Point(1)), Servers: 2}
 	all, err := client.Sheet.EveryReturn()
-	if err != nil || len(all) != 72 {
+	if err != nil || len(all) != 288 {
 		t.Errorf("%d returns, %v", len(all), err)
 	}
 	for id, values := range all {
@@ -81,7 +83,8 @@ func TestTooManyReturns(t *testing.T) {
 		many[k] = YesNo()
 	}
 	for _, columns := range [][]Column{many[:13], many, {Number(13)}, {Choice(64), Choice(64), YesNo()},
-		{YesNo(), Choice(41), Choice(50)}, {UpTo(4096)}, {UpTo(2048), YesNo()}, {UpTo(1<<24 - 1)}} {
+		{YesNo(), Choice(41), Choice(50)}, {UpTo(4096)}, {UpTo(2048), YesNo()}, {UpTo(1<<24 - 1)},
+		{Point(7)}, {Point(6), YesNo()}, {Point(12)}} {
 		_, err := sheetOf(t, columns...).EveryReturn()
 		refused(t, err, Many)
 	}

@@ -8,7 +8,7 @@ import (
 // Line is one published total.
 type Line struct {
 	Column int // from 1
-	Option int // from 0; always 0 for yes/no and numbers, with a top or without
+	Option int // from 0; always 0 for yes/no and numbers, with a top or without; for a point 0 x, 1 x * x, 2 y, 3 x * y
 	Total  uint32
 }
 

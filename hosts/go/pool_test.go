@@ -148,11 +148,11 @@ func refused(t *testing.T, err error, want Refusal) {
 }
 
 func TestSheet(t *testing.T) {
-	sheet, err := ReadSheet([]byte{17, 18, 3, 20, 200, 1, 2, 0, 19, 4})
+	sheet, err := ReadSheet([]byte{17, 18, 3, 20, 200, 1, 2, 0, 21, 7, 19, 4})
 	if err != nil {
 		t.Fatal(err)
 	}
-	want := []Column{YesNo(), Choice(3), UpTo(200 + 256 + 2*65536), Number(4)}
+	want := []Column{YesNo(), Choice(3), UpTo(200 + 256 + 2*65536), Point(7), Number(4)}
 	if !reflect.DeepEqual(sheet.Columns(), want) {
 		t.Errorf("columns %v, want %v", sheet.Columns(), want)
 	}
@@ -160,7 +160,8 @@ func TestSheet(t *testing.T) {
 		sheet []byte
 		want  Refusal
 	}{{nil, Limit}, {[]byte{20}, Kind}, {[]byte{18}, Kind}, {[]byte{18, 1}, Limit}, {[]byte{18, 65}, Limit},
-		{[]byte{19, 0}, Limit}, {[]byte{19, 25}, Limit}, {bytes.Repeat([]byte{17}, 257), Limit}, {[]byte{21}, Kind},
+		{[]byte{19, 0}, Limit}, {[]byte{19, 25}, Limit}, {bytes.Repeat([]byte{17}, 257), Limit}, {[]byte{22}, Kind},
+		{[]byte{21}, Kind}, {[]byte{21, 0}, Limit}, {[]byte{21, 13}, Limit}, {[]byte{17, 21}, Kind}, {[]byte{16, 12}, Kind},
 		{[]byte{20, 200, 0, 0}, Kind}, {[]byte{20, 0, 0, 0, 0}, Limit}, {[]byte{20, 0, 0, 0, 1}, Limit}} {
 		_, err := ReadSheet(test.sheet)
 		refused(t, err, test.want)
@@ -193,12 +194,12 @@ func TestRefusalInWords(t *testing.T) {
 	if got := Refusal(99).Error(); got != "refused 99: unknown refusal" {
 		t.Errorf("got %s", got)
 	}
-	for k := Kind; k <= Many; k++ {
+	for k := Kind; k <= Run; k++ {
 		if words[k] == "" {
 			t.Errorf("no words for %d", uint32(k))
 		}
 	}
-	for _, k := range []Refusal{0, Many + 1} {
+	for _, k := range []Refusal{0, Run + 1} {
 		if got, want := k.Error(), fmt.Sprintf("refused %d: unknown refusal", uint32(k)); got != want {
 			t.Errorf("got %s, want %s", got, want)
 		}
@@ -213,6 +214,9 @@ func TestRefusalInWords(t *testing.T) {
 		if got := Unequal.Error(); !strings.Contains(got, says) {
 			t.Errorf("got %s, which does not say %q", got, says)
 		}
+	}
+	if got := NoLine.Error(); !strings.HasPrefix(got, "refused 18: all x are equal, or no return is entered") {
+		t.Errorf("got %s", got)
 	}
 	if got := Run.Error(); !strings.HasPrefix(got, "refused 19: not so many messages") {
 		t.Errorf("got %s", got)
@@ -248,14 +252,18 @@ func addPlain(plain, values []uint32) {
 	plain[7+values[3]]++
 	plain[9] += values[4]
 	plain[10] += values[5]
+	x, y := values[6]%32, values[6]/32
+	for k, sum := range []uint32{x, x * x, y, x * y} {
+		plain[11+k] += sum
+	}
 }
 
 // Random pools of every number of servers: the totals are the plain sums.
 func TestPools(t *testing.T) {
 	random := rand.New(rand.NewSource(1))
 	for n := uint32(2); n <= 8; n++ {
-		sheet := sheetOf(t, YesNo(), Choice(5), Number(10), Choice(2), Number(1), UpTo(200))
-		limits := []uint32{2, 5, 1024, 2, 2, 201}
+		sheet := sheetOf(t, YesNo(), Choice(5), Number(10), Choice(2), Number(1), UpTo(200), Point(5))
+		limits := []uint32{2, 5, 1024, 2, 2, 201, 1024}
 		client := Client{Sheet: sheet, Servers: n}
 		all := openAll(t, n, sheet, 6)
 		plain := make([]uint32, sheet.Sizes().Published)
@@ -283,6 +291,9 @@ func TestPools(t *testing.T) {
 			}
 		}
 		if last := totals.Lines[8]; last.Column != 4 || last.Option != 1 {
+			t.Errorf("place of a total: %+v", last)
+		}
+		if last := totals.Lines[14]; last.Column != 7 || last.Option != 3 || len(totals.Lines) != 15 {
 			t.Errorf("place of a total: %+v", last)
 		}
 	}

@@ -15,7 +15,7 @@ type Refusal uint32
 // The refusals, with their numbers.
 const (
 	Kind    Refusal = 1  // sheet or circuit: unknown kind, or its body is cut off
-	Limit   Refusal = 2  // a count, top, constant, S, server number, N, Q, or R or W of stored messages outside its limits
+	Limit   Refusal = 2  // a count, top, constant, S, server number, N, Q, R or W outside its limits, or a column that is not of points
 	Wire    Refusal = 3  // circuit: a wire not yet made, or an entry that does not exist
 	Wrap    Refusal = 4  // N returns could make a total of p or more
 	Value   Refusal = 5  // not one value for each column, or a value outside its column
@@ -31,12 +31,13 @@ const (
 	Few     Refusal = 15 // close: fewer returns are entered than the least count Q
 	Unequal Refusal = 16 // round one: the servers took their shares of the return with different pairs r, s
 	Many    Refusal = 17 // the sheet has more than 4,096 legal returns
+	NoLine  Refusal = 18 // line: all x are equal, or no return is entered
 	Run     Refusal = 19 // messages that are not of one length, or a stored run of another length
 )
 
 var words = [...]string{
 	Kind:    "sheet or circuit: an unknown kind, or its body is cut off",
-	Limit:   "a count, top, constant, S, server number, N, Q, or number or length of stored messages outside its limits",
+	Limit:   "a count, top, constant, S, server number, N, Q, number or length of stored messages outside its limits, or no column of points",
 	Wire:    "circuit: a wire not yet made, or an entry that does not exist",
 	Wrap:    "so many returns could make a total of p or more",
 	Value:   "not one value for each column, or a value outside its column",
@@ -52,6 +53,7 @@ var words = [...]string{
 	Few:     "fewer returns are entered than the least count: take more and close again; where N are decided, open a new pool",
 	Unequal: "the pairs r, s differ: see whose is wrong, drop the return at every server, have it made anew under a new id, with one pair",
 	Many:    "more than 4,096 legal returns: take fewer columns, options or bits, or lower tops",
+	NoLine:  "all x are equal, or no return is entered: no one line fits best; publish the totals without a line",
 	Run:     "not so many messages of one length: give whole messages, and the number and length that were stored",
 }
 

@@ -25,6 +25,34 @@ func Number(bits byte) Column { return Column{kindNumber, uint32(bits)} }
 // servers.
 func UpTo(top uint32) Column { return Column{kindTop, top} }
 
+// Point is a question with two numbers of 1 to 12 bits each, x and y, for the line of y on x (FitLine). Its value is the one
+// number x + 2^bits * y (PointValue). Four totals are published: of x, x * x, y and x * y (Totals.PointSums). With 12 bits a pool takes
+// at most 128 returns, with 11 bits 512.
+func Point(bits byte) Column { return Column{kindPoint, uint32(bits)} }
+
+// maxPointBits is the most that x and y of a point can have.
+const maxPointBits = 12
+
+// IsPoint says whether the column is one of points.
+func (c Column) IsPoint() bool { return c.kind == kindPoint }
+
+// PointValue gives the value of a point, for Client.Make. An x or y that does not fit into the column's bits is refused (Value), and so
+// is a column that is not of points.
+func (c Column) PointValue(x, y uint32) (uint32, error) {
+	if !c.IsPoint() || c.size > maxPointBits || x>>c.size != 0 || y>>c.size != 0 {
+		return 0, answer("point value", uint32(Value))
+	}
+	return x | y<<c.size, nil
+}
+
+// PointXY gives the x and y of a value of a point, as EveryReturn has them. It refuses what PointValue gives for none (Value).
+func (c Column) PointXY(value uint32) (x, y uint32, err error) {
+	if !c.IsPoint() || c.size > maxPointBits || value>>(2*c.size) != 0 {
+		return 0, 0, answer("point", uint32(Value))
+	}
+	return value & (1<<c.size - 1), value >> c.size, nil
+}
+
 // String names the column in words.
 func (c Column) String() string {
 	switch c.kind {
@@ -34,6 +62,8 @@ func (c Column) String() string {
 		return fmt.Sprintf("choice of %d", c.size)
 	case kindTop:
 		return fmt.Sprintf("number up to %d", c.size)
+	case kindPoint:
+		return fmt.Sprintf("point of %d bits", c.size)
 	default:
 		return fmt.Sprintf("number of %d bits", c.size)
 	}
@@ -65,10 +95,14 @@ func firstColumn(sheet []byte) Column {
 
 // published says how many totals are published for the column.
 func (c Column) published() int {
-	if c.kind == kindChoice {
+	switch c.kind {
+	case kindChoice:
 		return int(c.size)
+	case kindPoint:
+		return pointTotals
+	default:
+		return 1
 	}
-	return 1
 }
 
 // Sheet is a list of questions that was read and found sound. It does not change.

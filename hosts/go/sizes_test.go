@@ -17,6 +17,11 @@ func TestSizes(t *testing.T) {
 		{sheetOf(t, UpTo(1<<24-1)), Sizes{1, 49, 1, 245, 48, 50, 1375, 610, 128}},
 		{sheetOf(t, UpTo(1<<23), UpTo(1<<23), UpTo(1<<23), UpTo(1<<23), UpTo(1<<23), UpTo(16)),
 			Sizes{6, 256, 6, 1275, 250, 262, 7161, 3054, 255}},
+		{sheetOf(t, Point(1)), Sizes{1, 6, 4, 23, 4, 6, 133, 86, 1024}},
+		{sheetOf(t, Point(6), YesNo()), Sizes{2, 17, 5, 76, 15, 17, 429, 218, 1024}},
+		{sheetOf(t, Point(10)), Sizes{1, 24, 4, 113, 22, 24, 637, 302, 1024}},
+		{sheetOf(t, Point(11)), Sizes{1, 26, 4, 123, 24, 26, 693, 326, 512}},
+		{sheetOf(t, Number(4), Point(12)), Sizes{2, 33, 5, 155, 30, 33, 874, 402, 128}},
 		{sheetOf(t, Choice(64), Choice(64), Choice(64), Choice(64)), Sizes{4, 256, 256, 1025, 256, 260, 5393, 3102, 1024}},
 	} {
 		if got := test.sheet.Sizes(); got != test.want {

@@ -6,8 +6,9 @@
 // Server 0 awaits server 1 at the address -peer. Both take shares of workshops at -workshops; server 0 says which
 // return is next. Up to eight returns are under way at a time. Each tells the other its verdict on a return, and both enter what
 // both have accepted. After -handle returns they close, exchange totals messages and print the joined totals, each line with
-// column, option and total. With fewer than -least entered they say so and take more returns; once so many can not be entered
-// any more, they end without totals.
+// column, option and total; after them for each column of points the line that fits best, with column, determinant, slope and
+// intercept, or that there is none. With fewer than -least entered they say so and take more returns; once so many can not be
+// entered any more, they end without totals.
 //
 // With -table FILE a server stores its table there after each call, before it tells the other anything. Where one stops, the other
 // does too; started again with the same file, they agree on what waits: what both have accepted is entered, the rest is dropped. The
@@ -109,14 +110,13 @@ func run(o options) error {
 	defer conn.Close()
 	s.peer, s.shares = newPeer(conn, o.distance), shares
 	totals, err := s.run()
-	if err != nil {
+	if err == nil {
+		err = s.publish(os.Stdout, totals)
+	}
+	if err != nil || o.table == "" {
 		return err
 	}
-	publish(totals)
-	if o.table != "" {
-		return os.Remove(o.table)
-	}
-	return nil
+	return os.Remove(o.table)
 }
 
 // meet connects the two servers: server 0 listens, server 1 calls.
@@ -131,11 +131,4 @@ func meet(own uint, address string) (net.Conn, error) {
 	defer listener.Close()
 	fmt.Println("peer", listener.Addr())
 	return listener.Accept()
-}
-
-func publish(totals pool.Totals) {
-	fmt.Fprintln(os.Stdout, "accepted", totals.Accepted)
-	for _, line := range totals.Lines {
-		fmt.Fprintln(os.Stdout, line.Column, line.Option, line.Total)
-	}
 }

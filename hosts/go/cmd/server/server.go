@@ -34,6 +34,7 @@ type server struct {
 	decided      int                // in the own table
 	entered      []uint32           // ids, in the own table
 	totals       []byte             // the own totals message; empty until the table is closed
+	joined       [][]byte           // both totals messages, in server order, once they are joined
 	courses      map[uint32]*course // under way, by number
 	late         chan uint32        // numbers of returns that have waited for their share
 }
@@ -212,9 +213,9 @@ func (s *server) join() (pool.Totals, error) {
 	if !more || theirs.step != totals {
 		return pool.Totals{}, fmt.Errorf("no totals of the other server (%v)", s.peer.err)
 	}
-	messages := [][]byte{s.totals, theirs.body}
+	s.joined = [][]byte{s.totals, theirs.body}
 	if s.own == 1 {
-		messages = [][]byte{theirs.body, s.totals}
+		s.joined = [][]byte{theirs.body, s.totals}
 	}
-	return pool.Join(servers, s.sheet, uint32(s.returns), messages)
+	return pool.Join(servers, s.sheet, uint32(s.returns), s.joined)
 }

@@ -2,8 +2,8 @@
 //
 //	workshop -sheet '17 19 8' -id 7 -values '1 40' 127.0.0.1:7000 127.0.0.1:7001
 //
-// The servers' addresses stand in server order. The example sends shares in the clear, on one machine: a pool encrypts
-// them.
+// The servers' addresses stand in server order. The value of a point is written as x:y, say 34:5. The example sends shares in the
+// clear, on one machine: a pool encrypts them.
 package main
 
 import (
@@ -11,6 +11,7 @@ import (
 	"fmt"
 	"log"
 	"net"
+	"strings"
 
 	"yimakohe.example/pool"
 	"yimakohe.example/pool/internal/frame"
@@ -22,7 +23,7 @@ func main() {
 	sheetText := flag.String("sheet", "", "the sheet's bytes, in decimal")
 	var id frame.Number
 	flag.Var(&id, "id", "the return's id, given to no other return")
-	valueText := flag.String("values", "", "one value for each column")
+	valueText := flag.String("values", "", "one value for each column; x:y for a point")
 	flag.Parse()
 	if err := run(*sheetText, uint32(id), *valueText, flag.Args()); err != nil {
 		log.Fatal(err)
@@ -38,7 +39,7 @@ func run(sheetText string, id uint32, valueText string, servers []string) error 
 	if err != nil {
 		return err
 	}
-	values, err := frame.Numbers(valueText, 32)
+	values, err := readValues(sheet.Columns(), valueText)
 	if err != nil {
 		return err
 	}
@@ -53,6 +54,30 @@ func run(sheetText string, id uint32, valueText string, servers []string) error 
 		}
 	}
 	return nil
+}
+
+// readValues reads the values that stand in a text, x:y for a point.
+func readValues(columns []pool.Column, text string) ([]uint32, error) {
+	var values []uint32
+	for k, word := range strings.Fields(text) {
+		numbers, err := frame.Numbers(strings.Replace(word, ":", " ", 1), 32)
+		if err != nil {
+			return nil, err
+		}
+		if !strings.Contains(word, ":") {
+			values = append(values, numbers...)
+			continue
+		}
+		if k >= len(columns) || len(numbers) != 2 {
+			return nil, fmt.Errorf("%q is no point x:y of a column", word)
+		}
+		value, err := columns[k].PointValue(numbers[0], numbers[1])
+		if err != nil {
+			return nil, fmt.Errorf("%q: %w", word, err)
+		}
+		values = append(values, value)
+	}
+	return values, nil
 }
 
 // send hands a server its share and waits until the server has it.

@@ -1,4 +1,5 @@
 /* calls.c: the calls that need no table. See calls.h. */
+#include "lines.h"
 #include "watch.h"
 
 uint32_t call_sizes(const struct run *sheet, struct sheet_sizes *sizes)
@@ -92,6 +93,25 @@ uint32_t call_join(uint32_t servers, const struct run *sheet, uint32_t returns, 
     take(o, &w, answer, out);
     if (answer == 0)
         *accepted = a.value;
+    return end_call(answer);
+}
+
+uint32_t call_line(uint32_t servers, const struct run *sheet, uint32_t returns, const struct run *joined, uint32_t column,
+                   struct line *line)
+{
+    start_call("pool_line");
+    int s = lend(sheet), j = lend(joined);
+    struct result64 x[3] = {RESULT64, RESULT64, RESULT64};
+    uint32_t answer = pool_line(servers, LENT(s), returns, LENT(j), column, &x[0].value, &x[1].value, &x[2].value);
+    answered(answer, SHEET | MAY(POOL_WRAP) | MAY(POOL_JOINED) | MAY(POOL_NO_LINE));
+    kept(s);
+    kept(j);
+    for (int k = 0; k < 3; k++)
+        check64(&x[k], answer);
+    struct line got = {x[0].value, x[1].value, x[2].value};
+    check_line(servers, sheet, returns, joined, column, answer, &got);
+    if (answer == 0)
+        *line = got;
     return end_call(answer);
 }
 

@@ -6,7 +6,8 @@
  * what it says to have written, changes another return in a table than the one that it is on, changes more than its stage at an
  * accepted verdict, leaves anything of a return in the slot and the place of one that it decides, adds anything but the published
  * entries of one that it enters to the totals, takes or refuses the messages of a round wrongly (check_round), takes a table whose
- * least count or stages are out of their range (check_limits), or closes or refuses to close wrongly (check_close).
+ * least count or stages are out of their range (check_limits), closes or refuses to close wrongly (check_close), or gives another line
+ * or refusal than the totals that it is handed have (check_line).
  *
  * Memory outside is watched in one of two ways. GUARDED: a buffer ends right before, or begins right after, a page that
  * can not be touched. HEAP: a buffer is a block of malloc, for valgrind and for the sanitizers' own malloc. The library
@@ -34,6 +35,11 @@ struct sheet_sizes {
 
 struct circuit_counts {
     uint32_t wires, multiplications, tests;
+};
+
+/* A line, and the three numbers that pool_line gives. */
+struct line {
+    int64_t determinant, slope, intercept;
 };
 
 /* The three parts of a table, as they lie in memory: slots of 40 bytes each, numbers of 4 bytes each. */
@@ -90,6 +96,8 @@ uint32_t call_drop(struct table *table, size_t extra, uint32_t id);
 uint32_t call_close(struct table *table, size_t extra, size_t room, struct run *out);
 uint32_t call_join(uint32_t servers, const struct run *sheet, uint32_t returns, const struct run *joined, size_t room,
                    uint32_t *accepted, struct run *out);
+uint32_t call_line(uint32_t servers, const struct run *sheet, uint32_t returns, const struct run *joined, uint32_t column,
+                   struct line *line);
 uint32_t call_shelve(uint32_t messages, uint32_t width, const struct run *run, size_t room, struct run *out);
 uint32_t call_unshelve(uint32_t messages, uint32_t width, const struct run *run, size_t room, struct run *out);
 

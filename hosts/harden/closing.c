@@ -1,4 +1,4 @@
-/* closing.c: closes, with enough entered and with too few, and joining. */
+/* closing.c: closes, with enough entered and with too few, joining, and what follows from it. */
 #include "driver.h"
 
 static struct table t; /* for calls that are tried */
@@ -74,4 +74,5 @@ void close_and_join(void)
     for (uint32_t k = 0; k < pool.sizes.published; k++)
         if (get_u32(out.at + 4 * k) != pool.plain[k])
             fail("a total is not the plain sum");
+    check_lines(&joined);
 }

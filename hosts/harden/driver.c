@@ -2,7 +2,8 @@
  * driver.c: random pools from a seed. Each call that a pool needs is made soundly, and must be done; beside it
  * functions are called with arguments gone wild, on copies of the tables. Up to eight returns are under way in a table,
  * each server at its own pace; what all have accepted is entered, or dropped by all. While too few are entered to close, more
- * returns are played. The totals at the end are held to the plain sums; a pool with N decided and too few entered ends without.
+ * returns are played. The totals at the end and their lines are held to the plain sums; a pool with N decided and too few entered
+ * ends without.
  *
  *     driver guard|heap SEED POOLS SECONDS
  *
@@ -74,11 +75,13 @@ int main(int argc, char **argv)
         snprintf(calls_note, sizeof calls_note, "seed %llu", seed + k);
         seed_random(seed + k);
         if (k % 64 == 0) {
+            odd_columns();
             long_sheet();
             long_circuit();
             long_shelf();
             most_lists();
-            wide_sheet();
+            wide_sheets();
+            many_lines();
         }
         play_pool();
     }

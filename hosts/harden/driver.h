@@ -44,8 +44,10 @@ size_t some_extra(void);
 /* A column of a sheet that was read. */
 struct column {
     uint8_t kind;
-    uint32_t values; /* how many it has: 0 to one less */
-    size_t next;     /* where the next one begins */
+    uint32_t values;    /* how many it has: 0 to one less */
+    uint32_t published; /* how many totals */
+    uint32_t side;      /* of a point: how many numbers x and y can be */
+    size_t next;        /* where the next one begins */
 };
 struct column column_at(const struct run *sheet, size_t at);
 
@@ -57,6 +59,9 @@ void every_return(void);
 /* Stores a run by place and brings it back, then tries both with wild arguments. */
 void shelve(uint32_t messages, uint32_t width, const struct run *run);
 void shelves(void);
+
+/* Columns at and past their limits. */
+void odd_columns(void);
 
 /* What is too long, and as many lists as may be. */
 void long_sheet(void);
@@ -81,8 +86,8 @@ int make_with_higher_tops(uint32_t id, size_t room);
 
 /* opening.c */
 
-/* The limits of opening with numbers of 24 bits, where N is 128 at most. */
-void wide_sheet(void);
+/* The limits of opening with numbers of 24 bits and with points of 12 bits, where N is 128 at most, and with points of 11, 512. */
+void wide_sheets(void);
 
 /* Opens the pool's tables. */
 void open_tables(void);
@@ -114,6 +119,14 @@ struct counts counts_at(uint32_t i);
 /* A call on a copy of a table of server i, or of another, with arguments gone wild. */
 void wild_call(uint32_t i);
 
+/* fits.c */
+
+/* The lines of the pool's joined totals, one for each column of points, and tries with other totals and wild arguments. */
+void check_lines(const struct run *joined);
+
+/* Lines of totals that no returns have. */
+void many_lines(void);
+
 /* closing.c */
 
 /* What a close comes to at server i, as it stands and with another least count: on copies of its table. */
@@ -122,7 +135,7 @@ void try_close(uint32_t i);
 /* Every server refuses to close, with too few entered. */
 void too_few(void);
 
-/* Closes the tables, with enough entered, and joins the totals. */
+/* Closes the tables, with enough entered, joins the totals and fits the lines. */
 void close_and_join(void);
 
 #endif

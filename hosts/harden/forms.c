@@ -10,13 +10,15 @@ struct column column_at(const struct run *sheet, size_t at)
     const uint8_t *c = sheet->at + at;
     switch (c[0]) {
     case POOL_CHOICE:
-        return (struct column){c[0], c[1], at + 2};
+        return (struct column){c[0], c[1], c[1], 0, at + 2};
     case POOL_NUMBER:
-        return (struct column){c[0], UINT32_C(1) << c[1], at + 2};
+        return (struct column){c[0], UINT32_C(1) << c[1], 1, 0, at + 2};
     case POOL_TOP:
-        return (struct column){c[0], get_u32(c + 1) + 1, at + 5};
+        return (struct column){c[0], get_u32(c + 1) + 1, 1, 0, at + 5};
+    case POOL_POINT:
+        return (struct column){c[0], UINT32_C(1) << 2 * c[1], 4, UINT32_C(1) << c[1], at + 2};
     default:
-        return (struct column){c[0], 2, at + 1};
+        return (struct column){c[0], 2, 1, 0, at + 1};
     }
 }
 
@@ -33,13 +35,17 @@ static void add_top(struct run *sheet, uint32_t bits)
 
 static void add_column(struct run *sheet, uint32_t budget)
 {
-    uint32_t kind = random_below(4), most;
+    uint32_t kind = random_below(5), most;
     if (kind == 0 || budget < 2) {
         append(sheet, (const uint8_t[]){POOL_YES_NO}, 1);
         return;
     }
     if (kind == 3 && budget > 2) {
         add_top(sheet, 1 + random_below(budget < 49 ? (budget - 1) / 2 : 24));
+        return;
+    }
+    if (kind == 4 && budget > 5) {
+        append(sheet, (const uint8_t[]){POOL_POINT, (uint8_t)(1 + random_below(budget < 28 ? (budget - 4) / 2 : 12))}, 2);
         return;
     }
     most = kind == 1 ? (budget < 64 ? budget : 64) : (budget - 1 < 24 ? budget - 1 : 24);
@@ -77,6 +83,28 @@ void long_sheet(void)
     }
     if (call_sizes(&a, &sizes) != want)
         fail("the refusal of a long sheet");
+}
+
+void odd_columns(void)
+{
+    static const struct {
+        uint8_t len, at[5];
+        uint32_t want;
+    } columns[] = {
+        {2, {POOL_CHOICE, 1}, POOL_LIMIT},         {2, {POOL_CHOICE, 65}, POOL_LIMIT},
+        {2, {POOL_NUMBER, 0}, POOL_LIMIT},         {2, {POOL_NUMBER, 25}, POOL_LIMIT},
+        {5, {POOL_TOP, 0, 0, 0, 0}, POOL_LIMIT},   {5, {POOL_TOP, 0, 0, 0, 1}, POOL_LIMIT},
+        {2, {POOL_POINT, 0}, POOL_LIMIT},          {2, {POOL_POINT, 13}, POOL_LIMIT},
+        {2, {POOL_POINT, 1}, POOL_DONE},           {2, {POOL_POINT, 12}, POOL_DONE},
+        {1, {POOL_POINT}, POOL_KIND},              {2, {POOL_POINT + 1, 1}, POOL_KIND},
+    };
+    struct sheet_sizes sizes;
+    for (size_t k = 0; k < sizeof columns / sizeof columns[0]; k++) {
+        a.len = 0;
+        append(&a, columns[k].at, columns[k].len);
+        if (call_sizes(&a, &sizes) != columns[k].want)
+            fail("a column at its limits");
+    }
 }
 
 void circuits(void)
@@ -164,7 +192,7 @@ void every_return(void)
     }
 }
 
-/* As many lists as may be, and then 4,100; the same with tops, and then 4,097. */
+/* As many lists as may be, and then 4,100; the same with tops, and then 4,097; the same with points, and then 16,384 and 8,192. */
 void most_lists(void)
 {
     static const struct {
@@ -174,6 +202,10 @@ void most_lists(void)
         {5, {POOL_YES_NO, POOL_CHOICE, 41, POOL_CHOICE, 50}},
         {10, {POOL_TOP, 31, 0, 0, 0, POOL_TOP, 127, 0, 0, 0}},
         {5, {POOL_TOP, 0, 16, 0, 0}},
+        {2, {POOL_POINT, 6}},
+        {6, {POOL_POINT, 1, POOL_CHOICE, 64, POOL_POINT, 2}},
+        {2, {POOL_POINT, 7}},
+        {3, {POOL_YES_NO, POOL_POINT, 6}},
     };
     for (size_t k = 0; k < sizeof sheets / sizeof sheets[0]; k++) {
         pool.sheet.len = 0;

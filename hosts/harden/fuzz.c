@@ -13,12 +13,13 @@ enum { SERVERS = 2, ANSWERS = POOL_RUN + 1, RETURNS = 10, IDS = 16 };
 
 /* What can be done. In a pool an operation is told by its number; a table is altered by ALTER and the number after it. */
 enum { MAKE, SHARE, ROUND_ONE, ROUND_TWO, DROP, CLOSE, JOIN, ENTER, ALTER, OPERATIONS = ALTER + 2, SHEETS = ALTER, SHELVES };
+enum { LINES = OPERATIONS, NOTED }; /* lines follow each joining */
 
 /* Kinds of tables: how many returns wait, with none of them for entry or with some; then those that are closed and the like. */
 enum { SOME_ENTRY = POOL_SLOTS + 1, CLOSED_KIND = 2 * SOME_ENTRY, NOT_EIGHT, ARBITRARY, KINDS };
 
 /* The fuzzer looks at these counters after each input. */
-__attribute__((section("__libfuzzer_extra_counters"))) static uint8_t seen[OPERATIONS][OPERATIONS][KINDS][ANSWERS];
+__attribute__((section("__libfuzzer_extra_counters"))) static uint8_t seen[NOTED][NOTED][KINDS][ANSWERS];
 
 static struct table tables[SERVERS];
 static struct run sheet, values, random_elements, shares[IDS], totals, message, out;
@@ -122,13 +123,19 @@ static void close_table(uint32_t own, size_t short_by)
     note(CLOSE, kind, answer);
 }
 
+/* The totals are joined, and each column has its line or none; before the first and after the last there is none. */
 static void join_totals(void)
 {
     uint32_t accepted;
+    struct line line;
     message.len = SERVERS * POOL_TOTALS_BYTES(sizes.published);
     memcpy(message.at, totals.at, message.len);
     alter(&message);
     note(JOIN, 0, call_join(SERVERS, &sheet, RETURNS, &message, POOL_JOIN_BYTES(sizes.published), &accepted, &out));
+    for (uint32_t column = 0; column <= sizes.columns + 1; column++) {
+        uint32_t answer = call_line(SERVERS, &sheet, RETURNS, &message, column, &line);
+        note(LINES, answer == 0 && line.determinant < 0, answer);
+    }
 }
 
 static void operate(void)

@@ -3,6 +3,22 @@
 
 static struct run a, b, c, out; /* for calls gone wild */
 
+/* Adds a value to the sums of its column. */
+static void add_value(const struct column *column, uint32_t v, uint32_t *sums)
+{
+    if (column->kind == POOL_CHOICE) {
+        sums[v] += 1;
+    } else if (column->kind == POOL_POINT) {
+        uint32_t x = v % column->side, y = v / column->side;
+        sums[0] += x;
+        sums[1] += x * x;
+        sums[2] += y;
+        sums[3] += x * y;
+    } else {
+        sums[0] += v;
+    }
+}
+
 void new_values(uint32_t *sums)
 {
     size_t published = 0;
@@ -14,8 +30,8 @@ void new_values(uint32_t *sums)
         at = column.next;
         put_u32(value, v);
         append(&pool.values, value, 4);
-        sums[published + (column.kind == POOL_CHOICE ? v : 0)] += column.kind == POOL_CHOICE ? 1 : v;
-        published += column.kind == POOL_CHOICE ? column.values : 1;
+        add_value(&column, v, sums + published);
+        published += column.published;
     }
     if (published != pool.sizes.published || pool.values.len != POOL_VALUES_BYTES(pool.sizes.columns))
         fail("the count of columns or published entries");

@@ -31,12 +31,20 @@ static void greatest_returns(void)
         fail("a least count out of range, with an N above the greatest");
 }
 
-void wide_sheet(void)
+void wide_sheets(void)
 {
-    pool.sheet.len = 0;
-    append(&pool.sheet, (const uint8_t[]){POOL_NUMBER, 24}, 2);
-    must(call_sizes(&pool.sheet, &pool.sizes), "a sound sheet is refused");
-    greatest_returns();
+    static const struct {
+        uint8_t column[2];
+        uint32_t most;
+    } wide[] = {{{POOL_NUMBER, 24}, 128}, {{POOL_POINT, 12}, 128}, {{POOL_POINT, 11}, 512}, {{POOL_POINT, 10}, POOL_MAX_RETURNS}};
+    for (size_t k = 0; k < sizeof wide / sizeof wide[0]; k++) {
+        pool.sheet.len = 0;
+        append(&pool.sheet, wide[k].column, 2);
+        must(call_sizes(&pool.sheet, &pool.sizes), "a sound sheet is refused");
+        if (pool.sizes.greatest_returns != wide[k].most)
+            fail("another greatest N");
+        greatest_returns();
+    }
 }
 
 /* One of the parts is too short, or there are not eight slots. */

@@ -96,13 +96,7 @@ void check_moved(struct lent_table t, const struct table *was, uint32_t id, uint
         fail("d or e after an accepted verdict");
 }
 
-/* How many entries the column at this place of a sheet has, how many of them are published, and where the next one begins. */
-struct entries {
-    size_t all, published;
-    const uint8_t *next;
-};
-
-static struct entries entries_at(const uint8_t *column)
+struct entries entries_at(const uint8_t *column)
 {
     size_t bits = 0;
     switch (column[0]) {
@@ -114,6 +108,8 @@ static struct entries entries_at(const uint8_t *column)
         while (get_u32(column + 1) >> bits != 0)
             bits++;
         return (struct entries){1 + 2 * bits, 1, column + 5};
+    case POOL_POINT:
+        return (struct entries){4 + 2 * (size_t)column[1], 4, column + 2};
     default:
         return (struct entries){1, 1, column + 1};
     }

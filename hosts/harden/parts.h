@@ -1,4 +1,6 @@
-/* parts.h: the three parts of a table that a call is lent, and what a call may change in them. For tables.c: see calls.h. */
+/*
+ * parts.h: the three parts of a table that a call is lent, and what a call may change in them. For tables.c and lines.c: see calls.h.
+ */
 #ifndef POOL_PARTS_H
 #define POOL_PARTS_H
 
@@ -22,6 +24,13 @@ struct lent_table {
 #define LENT_TABLE(t) LENT((t).bytes), LENT_SLOTS((t).slots), LENT_ELEMENTS((t).elements)
 
 struct lent_table lend_table(const struct table *table, size_t extra);
+
+/* How many entries the column at this place of a sheet has, how many of them are published, and where the next one begins. */
+struct entries {
+    size_t all, published;
+    const uint8_t *next;
+};
+struct entries entries_at(const uint8_t *column);
 
 /* Slot k as it is lent now. */
 pool_slot lent_slot(struct lent_table t, size_t k);

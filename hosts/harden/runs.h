@@ -10,7 +10,10 @@
 /* A round message: its kind in byte 0, the id, the server in byte 5, elements: d, e, r and s, or sigma and tau. */
 enum { KIND_ONE = 34, KIND_TWO = 35, SERVER_AT = 5, D_AT = 6, E_AT = 10, R_AT = 14, S_AT = 18 };
 
-/* The length of a message of this kind. */
+/* The kind of a totals message, in byte 0; the server in byte 1, the count, the totals. */
+enum { KIND_TOTALS = 36 };
+
+/* The length of a round message of this kind. */
 size_t round_bytes(uint8_t kind);
 
 /* Places in the bytes of a table: the layout stands at the head of crates/rules/specs/Table.antt. */

@@ -22,8 +22,8 @@
 
 enum { SERVERS = 2, RETURNS = 4, IDS = 3 };
 
-static const uint8_t sheet[] = {POOL_YES_NO, POOL_CHOICE, 3, POOL_NUMBER, 4, POOL_TOP, 200, 0, 0, 0};
-static const uint8_t values[] = {1, 0, 0, 0, 2, 0, 0, 0, 9, 0, 0, 0, 150, 0, 0, 0};
+static const uint8_t sheet[] = {POOL_YES_NO, POOL_CHOICE, 3, POOL_NUMBER, 4, POOL_TOP, 200, 0, 0, 0, POOL_POINT, 4};
+static const uint8_t values[] = {1, 0, 0, 0, 2, 0, 0, 0, 9, 0, 0, 0, 150, 0, 0, 0, 0xb5, 0, 0, 0};
 static struct table {
     uint8_t bytes[POOL_MAX_TABLE_BYTES];
     size_t len;

@@ -63,8 +63,8 @@ static void new_course(struct course *c, uint32_t id)
         c->accepted = !make_with_higher_tops(id, pool.shares.len);
     memcpy(c->shares, pool.shares.at, pool.shares.len);
     if (c->conduct == ALTERED) {
-        /* A lone yes/no that is altered can be 1 where it was 0 or 0 where it was 1, but its products are not altered. */
-        uint8_t *entry = c->shares + random_below(pool.servers) * pool.sizes.share_bytes + 6;
+        /* Any entry: a product of a point, a bit. A yes/no can be 1 where it was 0 then, but its products are not altered. */
+        uint8_t *entry = c->shares + random_below(pool.servers) * pool.sizes.share_bytes + 6 + 4 * random_below(pool.sizes.entries);
         put_u32(entry, (get_u32(entry) + 1 + random_below(1000)) % POOL_PRIME);
         c->accepted = 0;
     }

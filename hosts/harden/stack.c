@@ -29,6 +29,7 @@ static uint8_t messages[POOL_MAX_SHELF_BYTES], stored[POOL_MAX_SHELF_BYTES];
 static size_t sheet_len, circuit_len, joined_len, written;
 static uint32_t columns, entries, published, wires, multiplications, tests, circuit_bytes, share_bytes, most;
 static uint32_t lists, accepted, refused;
+static int64_t determinant, slope, intercept;
 
 static void tell_sizes(void)
 {
@@ -125,6 +126,16 @@ static void join(void)
     refused |= accepted != 1;
 }
 
+/* The line of the first column, where it is one of points. A sum of x * x that is 1 more has it that there is one. */
+static void line(void)
+{
+    uint32_t want = sheet[0] == POOL_POINT ? POOL_DONE : POOL_LIMIT;
+    memcpy(other, joined, joined_len);
+    other[10] += 1;
+    refused |= pool_line(SERVERS, sheet, sheet_len, RETURNS, other, joined_len, 1, &determinant, &slope, &intercept) != want;
+    refused |= want == POOL_DONE && determinant != 1;
+}
+
 static void shelve(void)
 {
     refused |= pool_shelve(POOL_MAX_SHELF_MESSAGES, POOL_MAX_SHELF_WIDTH, messages, sizeof messages, stored,
@@ -173,7 +184,8 @@ static const struct {
     {"sizes", tell_sizes},    {"circuit", write_circuit}, {"read_circuit", read_circuit}, {"make", make},
     {"open", open_tables},    {"share", take_share},      {"shares", take_seven_more},    {"round_one", round_one},
     {"round_two", round_two}, {"enter", enter},           {"drop", drop_seven},           {"close", close_tables},
-    {"join", join},           {"shelve", shelve},         {"unshelve", unshelve},         {"every_return", every_return},
+    {"join", join},           {"line", line},             {"shelve", shelve},             {"unshelve", unshelve},
+    {"every_return", every_return},
 };
 
 /* Runs every step; gives the number of those that need more than was promised. */
@@ -188,6 +200,13 @@ static int measure(size_t plain)
     }
     puts("");
     return deep;
+}
+
+/* So many columns of two bytes. */
+static void pairs(size_t count, uint8_t kind, uint8_t bits)
+{
+    for (sheet_len = 0; sheet_len < 2 * count; sheet_len += 2)
+        memcpy(sheet + sheet_len, (const uint8_t[]){kind, bits}, 2);
 }
 
 /* So many tops, of 24 bits or of 1. */
@@ -205,14 +224,14 @@ int main(void)
     sheet_len = POOL_MAX_ENTRIES;
     printf("bytes of stack, 256 columns:");
     deep = measure(plain);
-    for (sheet_len = 0; sheet_len < 20; sheet_len += 2) {
-        sheet[sheet_len] = POOL_NUMBER;
-        sheet[sheet_len + 1] = 24;
-    }
+    pairs(10, POOL_NUMBER, 24);
     printf("bytes of stack, 10 numbers:");
     deep += measure(plain);
     tops(5, 0xff);
     printf("bytes of stack, 5 tops of 24 bits:");
+    deep += measure(plain);
+    pairs(9, POOL_POINT, 12);
+    printf("bytes of stack, 9 points of 12 bits:");
     deep += measure(plain);
     tops(85, 0);
     sheet[sheet_len++] = POOL_YES_NO;

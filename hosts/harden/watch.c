@@ -192,6 +192,12 @@ void check_size(const struct result_size *x, uint32_t answer)
         fail("a result was written that may not be");
 }
 
+void check64(const struct result64 *x, uint32_t answer)
+{
+    if (x->before != UNSET64 || x->after != UNSET64 || (answer != 0 && x->value != UNSET64))
+        fail("a result was written that may not be");
+}
+
 void answered(uint32_t answer, uint32_t allowed)
 {
     if (answer > POOL_RUN || (answer != 0 && !(allowed >> answer & 1)))

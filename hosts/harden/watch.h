@@ -38,12 +38,18 @@ struct result32 {
 struct result_size {
     size_t before, value, after;
 };
+struct result64 {
+    int64_t before, value, after;
+};
 #define UNSET32 0x5eed5eedu
 #define RESULT32 {UNSET32, UNSET32, UNSET32}
 #define UNSET_SIZE ((size_t)0x5eed5eed5eed5eedu)
 #define RESULT_SIZE {UNSET_SIZE, UNSET_SIZE, UNSET_SIZE}
+#define UNSET64 INT64_C(0x5eed5eed5eed5eed)
+#define RESULT64 {UNSET64, UNSET64, UNSET64}
 void check32(const struct result32 *x, uint32_t answer);
 void check_size(const struct result_size *x, uint32_t answer);
+void check64(const struct result64 *x, uint32_t answer);
 
 /* The answer is 0 or one of the refusals that the header names for the call. */
 #define MAY(refusal) (UINT32_C(1) << (refusal))

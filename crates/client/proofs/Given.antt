@@ -3,35 +3,19 @@
 use mathlib.Core.Path.{_≡_, _∙_}
 use mathlib.Core.List.{List}
 use Prim.Native.Nat.{ℕ, zero, suc, _+_, _-_, _*_, _≤_, _<_}
-use native.Mathlib.Nat.{mod-lt}
 use native.Mathlib.Omega.{arith}
-use lib.Dec.{lit<}
 use lib.ListN.{length, getD}
-use Rattle.algebra.specs.Lists.{All, all[], all∷}
-use Rattle.algebra.proofs.Members.{all-append, all-tabulate}
-use Rattle.words.specs.Bytes.{elementsOf}
+use Rattle.algebra.specs.Lists.{All}
 use Rattle.algebra.proofs.Members.{getD-all}
-use Rattle.field.specs.Residues.{prime, residues, Elements}
-use Rattle.field.proofs.Below.{member-below}
-use Rattle.rules.specs.Settings.{document01}
+use Rattle.words.specs.Bytes.{elementsOf}
+use Rattle.field.specs.Residues.{Elements}
 use Rattle.rules.specs.Columns.{Column, columnsOf}
 use Rattle.rules.specs.Judging.{shareSize}
-use Rattle.rules.specs.Making.{whole}
-use Rattle.rules.proofs.Returns.Whole.{length-whole}
 use Rattle.columns.specs.declared.Counts.{Counts}
-use Rattle.walk.specs.Walks.{members}
-use Rattle.client.specs.Pieces.{Random, messageBytes, entriesFrom, wholeOf, Fillable, Makeable}
-use Rattle.client.proofs.Room.{room}
-use Rattle.client.proofs.Legality.{entries-given}
-
--- the whole list of elements is a list of elements
-elements-of : (cs : List Column) (xs : List ℕ) (u v a b : ℕ) → Elements xs → u < prime → v < prime → a < prime → b < prime
-    → Elements (whole residues document01 cs (members xs) u v a b)
-unfolding whole
-elements-of cs xs u v a b e hu hv ha hb =
-    all-append (all-tabulate (members xs) _ (λ i l. member-below xs i e))
-    (all-append (all∷ hu (all∷ hv all[]))
-    (all-append (all-tabulate _ _ (λ i l. mod-lt _ (lit< tt))) (all∷ ha (all∷ hb (all∷ (mod-lt _ (lit< tt)) all[])))))
+use Rattle.whole.specs.Pieces.{Legal, wholeOf, Fillable}
+use Rattle.whole.proofs.Room.{room}
+use Rattle.whole.proofs.WholeList.{length-made, elements-made}
+use Rattle.client.specs.Pieces.{Random, messageBytes, Makeable}
 
 -- one message and the others
 spread : (n b : ℕ) → 1 ≤ n → b + b * (n - 1) ≡ n * b
@@ -61,14 +45,8 @@ module _ {sheet : List ℕ} {k : Counts} {servers : ℕ} {values random out : Li
     long = e;
   }
 
-  pub length-made : length made ≡ shareSize (columnsOf sheet)
-  length-made = length-whole residues document01 cs _ _ _ _ _
-
-  elements-made : Elements made
-  elements-made =
-      let below : (i : ℕ) → members zs i < prime = λ i. member-below zs i (m .elements .elements) in
-      elements-of cs (entriesFrom sheet values) _ _ _ _
-      (entries-given (record { is-read = m .counted .is-read; legal = m .legal }) .elements) (below 0) (below 1) (below 2) (below 3)
+  long : length made ≡ shareSize (columnsOf sheet)
+  long = length-made cs (elementsOf 4 values) zs
 
   messages-fit : messageBytes (shareSize (columnsOf sheet)) + messageBytes (shareSize (columnsOf sheet)) * (servers - 1) ≤ length out
   messages-fit = omega (arith, spread servers (messageBytes (shareSize cs)) (omega (arith, m .some)), m .room)
@@ -79,7 +57,8 @@ module _ {sheet : List ℕ} {k : Counts} {servers : ℕ} {values random out : Li
   -- server 0's message
   pub first-asks : Random random (servers - 1) (length made) × Elements made × (6 + 4 * length made ≤ length out)
   first-asks =
-      (rw length-made (m .elements), elements-made, rw length-made one-fits)
+      let l : Legal sheet values = record { is-read = m .counted .is-read; legal = m .legal } in
+      (rw long (m .elements), elements-made zs l (m .elements .elements), rw long one-fits)
 
   -- the others
   pub others-ask : (n : ℕ) (t : List ℕ) → n ≡ shareSize (columnsOf sheet) → length t ≡ length out

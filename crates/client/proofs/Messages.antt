@@ -19,14 +19,16 @@ use Rattle.rules.specs.Settings.{document01}
 use Rattle.rules.specs.Columns.{Column}
 use Rattle.rules.specs.Judging.{shareSize}
 use Rattle.rules.specs.Making.{shareOf, shareMessage, madeShare, madeFrom}
-use Rattle.rules.proofs.Returns.Whole.{length-whole}
 use Rattle.rules.proofs.Histories.MessageBytes.{length-message}
 use Rattle.share_message.specs.Shares.{headerBytes}
 use Rattle.steps.proofs.Parts.{part-of-part}
-use Rattle.client.specs.Pieces.{Random, restOf, firstShare, messageBytes, otherMessage, otherMessages, wholeOf}
+use Rattle.whole.specs.Pieces.{wholeOf}
+use Rattle.whole.proofs.Filling.{on}
+use Rattle.whole.proofs.FirstMessage.{share-message}
+use Rattle.whole.proofs.WholeList.{length-made}
+use Rattle.client.specs.Pieces.{Random, restOf, firstShare, messageBytes, otherMessage, otherMessages}
 use Rattle.client.proofs.RandomWords.{random-word, random-sum}
-use Rattle.client.proofs.Filling.{on}
-use Rattle.client.proofs.Writing.{share-message, share-within}
+use Rattle.client.proofs.Writing.{share-within}
 
 -- ---- messages that are made, by their end
 module _ (cs : List Column) (servers : ℕ) (vs zs : List ℕ) (id : ℕ) where
@@ -75,7 +77,7 @@ module _ (cs : List Column) (servers : ℕ) (vs random : List ℕ) (r : Random r
 
   pub first-share : firstShare random others (wholeOf cs vs zs) ≡ made 0
   unfolding firstShare
-  first-share = first-is (length (wholeOf cs vs zs)) (length-whole residues document01 cs _ _ _ _ _)
+  first-share = first-is (length (wholeOf cs vs zs)) (length-made cs vs zs)
 
   -- the others'
   module _ (bytes : All (λ b. b < 256) random) where

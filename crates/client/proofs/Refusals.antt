@@ -1,9 +1,10 @@
 -- The refusals of making, in their order: by the first check that fails. And what holds where there is none.
 -- Assumes nothing.
-use mathlib.Core.Path.{_≡_, sym, _∙_}
+use mathlib.Core.Path.{_≡_, refl, sym, _∙_}
 use mathlib.Core.Bool.{_&&_}
 use mathlib.Core.List.{List}
 use Prim.Native.Nat.{ℕ, _+_, _-_, _*_, _≤_, _<_}
+use native.Mathlib.Nat.{mul-le-mul}
 use native.Mathlib.Omega.{arith}
 use borrow.Author.Tests.{lt-leb, le-leb, leb-true, eqb-true, ne-eqb}
 use lib.Dec.{leb, eqb}
@@ -11,69 +12,56 @@ use lib.ListN.{length}
 use Rattle.algebra.proofs.Members.{and-left, and-right}
 use Rattle.words.specs.Bytes.{splice, elementsOf, allBelow}
 use Rattle.words.proofs.Below.{all-of-below}
-use Rattle.records.specs.Outcome.{ok, orElse}
-use Rattle.records.proofs.Outcome.{or-none, or-first, or-zero, or-assoc}
+use Rattle.records.specs.Outcome.{ok}
 use Rattle.records.specs.Answers.{answered, onlyIf}
 use Rattle.records.specs.declared.Written.the-variants as answer
 use Rattle.field.specs.Residues.{prime}
 use Rattle.rules.specs.Settings.{document01}
-use Rattle.rules.specs.Columns.{check, within, readSheet, sheetFault, columnsOf, serversFault}
+use Rattle.rules.specs.Columns.{check, readSheet, sheetFault, columnsOf}
 use Rattle.rules.specs.Judging.{shareSize}
-use Rattle.rules.specs.Making.{shareLength, randomCount, valuesFault, randomFault, makeRefusal, makeBytes}
-use Rattle.rules.proofs.Circuits.Limits.{within-both}
-use Rattle.rules.proofs.Circuits.Refusals.{sheet-fault}
+use Rattle.rules.specs.Making.{shareLength, randomCount, randomFault, makeRefusal, makeBytes}
 use Rattle.columns.specs.declared.Counts.{Counts}
 use Rattle.steps.proofs.Parts.{check-holds}
+use Rattle.whole.specs.Pieces.{Counted}
+use Rattle.whole.proofs.Room.{room}
+use Rattle.whole.proofs.Refusals.{earlyFault, inOrder, passed, first-sheet, then-early, then-fourth, then-last}
 use Rattle.client.specs.Calls.{Makes}
-use Rattle.client.specs.Pieces.{randomFaultAt, Counted, Random, messageBytes, Makeable}
-use Rattle.client.proofs.Room.{room}
+use Rattle.client.specs.Pieces.{randomFaultAt, Random, messageBytes, Makeable}
 
 module _ (sheet values random : List ℕ) (servers room : ℕ) where
   abbrev refusal : ℕ
   refusal = makeRefusal document01 sheet servers values random room
 
+  abbrev fault : ℕ
+  fault = randomFaultAt servers (shareSize (columnsOf sheet)) random
+
+  abbrev noRoom : ℕ
+  noRoom = check (leb (servers * (6 + 4 * shareSize (columnsOf sheet))) room) 14
+
+  refusal-is : refusal ≡ inOrder sheet values servers fault noRoom
+  unfolding makeRefusal randomFault randomFaultAt randomCount shareLength
+  refusal-is = refl
+
   pub refused-sheet : (n : ℕ) → sheetFault sheet ≡ n → (n ≡ 0 → ⊥) → refusal ≡ n
-  unfolding makeRefusal
-  refused-sheet n e z = rw e (or-first n _ z)
+  refused-sheet n e z = refusal-is ∙ first-sheet sheet values servers fault noRoom n e z
 
   module _ (is-read : readSheet sheet ≡ ok (columnsOf sheet)) where
-    after-sheet : refusal
-        ≡ orElse (serversFault servers)
-        (orElse (valuesFault (columnsOf sheet) values)
-        (orElse (randomFaultAt servers (shareSize (columnsOf sheet)) random)
-        (check (leb (servers * (6 + 4 * shareSize (columnsOf sheet))) room) 14)))
-    unfolding makeRefusal randomFault randomFaultAt randomCount shareLength
-    after-sheet = rw (sheet-fault sheet (columnsOf sheet) is-read .0) (or-none _)
+    pub refused-early : (earlyFault sheet values servers ≡ 0 → ⊥) → refusal ≡ earlyFault sheet values servers
+    refused-early z = refusal-is ∙ then-early sheet values servers fault noRoom is-read z
 
-    -- S and the values come first
-    pub refused-early : (orElse (serversFault servers) (valuesFault (columnsOf sheet) values) ≡ 0 → ⊥)
-        → refusal ≡ orElse (serversFault servers) (valuesFault (columnsOf sheet) values)
-    refused-early z = after-sheet ∙ sym (or-assoc (serversFault servers) (valuesFault (columnsOf sheet) values) _) ∙ or-first _ _ z
+    module _ (legal : earlyFault sheet values servers ≡ 0) where
+      pub refused-random : (fault ≡ 0 → ⊥) → refusal ≡ fault
+      refused-random z = refusal-is ∙ then-fourth sheet values servers fault noRoom is-read legal z
 
-    module _ (legal : orElse (serversFault servers) (valuesFault (columnsOf sheet) values) ≡ 0) where
-      after-values : refusal
-          ≡ orElse (randomFaultAt servers (shareSize (columnsOf sheet)) random)
-          (check (leb (servers * (6 + 4 * shareSize (columnsOf sheet))) room) 14)
-      after-values =
-          after-sheet ∙ sym (or-assoc (serversFault servers) (valuesFault (columnsOf sheet) values) _) ∙ rw legal (or-none _)
-
-      pub refused-random : (randomFaultAt servers (shareSize (columnsOf sheet)) random ≡ 0 → ⊥)
-          → refusal ≡ randomFaultAt servers (shareSize (columnsOf sheet)) random
-      refused-random z = after-values ∙ or-first _ _ z
-
-      module _ (sound : randomFaultAt servers (shareSize (columnsOf sheet)) random ≡ 0) where
-        after-random : refusal ≡ check (leb (servers * (6 + 4 * shareSize (columnsOf sheet))) room) 14
-        after-random = after-values ∙ rw sound (or-none _)
+      module _ (sound : fault ≡ 0) where
+        by-room : refusal ≡ noRoom
+        by-room = refusal-is ∙ then-last sheet values servers fault noRoom is-read legal sound
 
         pub refused-room : room < servers * (6 + 4 * shareSize (columnsOf sheet)) → refusal ≡ 14
-        refused-room h = after-random ∙ rw (lt-leb (servers * (6 + 4 * shareSize (columnsOf sheet))) room h)
+        refused-room h = by-room ∙ rw (lt-leb (servers * (6 + 4 * shareSize (columnsOf sheet))) room h)
 
         pub not-refused : servers * (6 + 4 * shareSize (columnsOf sheet)) ≤ room → refusal ≡ 0
-        not-refused h = after-random ∙ rw (le-leb (servers * (6 + 4 * shareSize (columnsOf sheet))) room h)
-
--- S is within its limits where neither S nor the values are refused
-pub within-limits : (servers v : ℕ) → orElse (serversFault servers) v ≡ 0 → (2 ≤ servers) × (servers ≤ 8)
-within-limits servers v h = within-both 2 8 servers (check-holds (within 2 8 servers) 1 (or-zero (serversFault servers) v h .0))
+        not-refused h = by-room ∙ rw (le-leb (servers * (6 + 4 * shareSize (columnsOf sheet))) room h)
 
 -- ---- where nothing is refused
 module _ (sheet values random out : List ℕ) (servers : ℕ) (k : Counts) (counted : Counted sheet k) where
@@ -91,19 +79,19 @@ module _ (sheet values random out : List ℕ) (servers : ℕ) (k : Counts) (coun
 
   pub makeable : makeRefusal document01 sheet servers values random (length out) ≡ 0 → Makeable sheet k servers values random out
   makeable h =
-      let cs = columnsOf sheet in
-      let size = shareSize cs in
-      let a = or-zero (serversFault servers) _ (sym (after-sheet sheet values random servers (length out) (counted .is-read)) ∙ h) in
-      let b = or-zero (valuesFault cs values) _ (a .1) in
-      let d = or-zero (randomFaultAt servers size random) _ (b .1) in
-      let limits = within-both 2 8 servers (check-holds (within 2 8 servers) 1 (a .0)) in
+      let size = shareSize (columnsOf sheet) in
+      let p = passed sheet values servers _ _ (sym (refusal-is sheet values random servers (length out)) ∙ h) in
       record {
         counted = counted;
-        some = limits .0;
-        legal = b .0;
-        elements = random-given size (limits .1) (room counted .size-small) (d .0);
-        room = leb-true _ _ (check-holds (leb (servers * messageBytes size) (length out)) 13 (d .1));
+        some = p .several .0;
+        legal = p .legal;
+        elements = random-given size (p .several .1) (room counted .size-small) (p .fourth);
+        room = leb-true _ _ (check-holds (leb (servers * messageBytes size) (length out)) 13 (p .last));
       }
+
+-- all messages of S servers
+pub messages-small : (servers size : ℕ) → servers ≤ 8 → size ≤ 774 → servers * (6 + 4 * size) ≤ 24816
+messages-small servers size h k = mul-le-mul {n₁ = servers} {m₁ = 6 + 4 * size} {n₂ = 8} {m₂ = 3102} h (omega arith)
 
 -- ---- the answer
 module _ (sheet : List ℕ) (servers id : ℕ) (values random out : List ℕ) where

@@ -1,31 +1,19 @@
 -- Messages written piece after piece, each where the one before ends: the whole is put there as one run (`grow`).
 -- Assumes that the run lies within the buffer.
-use mathlib.Core.Path.{_≡_, sym, ap, _∙_}
-use mathlib.Core.List.{List, _++_}
+use mathlib.Core.Path.{_≡_, sym, _∙_}
+use mathlib.Core.List.{List}
 use Prim.Native.Nat.{ℕ, zero, suc, _+_, _-_, _*_, _≤_, _<_}
 use native.Mathlib.Nat.{mul-zero, mul-le-mul-left}
 use native.Mathlib.Numerals.{add-one}
 use native.Mathlib.Omega.{arith}
 use lib.ListN.{length, take, drop, length-append}
-use Rattle.words.specs.Bytes.{bytesOfAll, part, splice}
+use Rattle.words.specs.Bytes.{part, splice}
 use Rattle.words.proofs.Splice.{length-part, splice-none}
 use Rattle.words.proofs.Loops.{grow}
-use Rattle.rules.specs.Settings.{document01}
-use Rattle.rules.specs.Making.{shareMessage}
 use Rattle.share_message.specs.Shares.{headerBytes}
 use Rattle.steps.proofs.Parts.{span}
-use Rattle.share_message.proofs.Shares.{message-is}
 use Rattle.share_message.proofs.Writing.{length-header}
 use Rattle.client.specs.Pieces.{Random, messageBytes, otherMessage, otherMessages, Other}
-
--- header and elements
-pub share-message : (id server : ℕ) (xs : List ℕ) → headerBytes 33 id server ++ bytesOfAll 4 xs ≡ shareMessage document01 id server xs
-share-message id server xs = sym (message-is 33 id server xs)
-
-pub first-written : (s : List ℕ) (id : ℕ) (xs : List ℕ) → 6 ≤ length s
-    → splice (splice s 0 (headerBytes 33 id 0)) 6 (bytesOfAll 4 xs) ≡ splice s 0 (shareMessage document01 id 0 xs)
-first-written s id xs h =
-    grow s 0 (headerBytes 33 id 0) (bytesOfAll 4 xs) 6 (length-header 33 id 0) h ∙ ap (splice s 0) (share-message id 0 xs)
 
 pub other-written : (s random : List ℕ) (at size id j n : ℕ) → at + 6 ≤ length s → n ≡ j + 1
     → splice (splice s at (headerBytes 33 id n)) (at + 6)

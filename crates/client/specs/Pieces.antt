@@ -10,19 +10,14 @@ use lib.ListN.{length, getD}
 use Rattle.algebra.specs.Lists.{tabulate}
 use Rattle.algebra.specs.Ops.{minus}
 use Rattle.words.specs.Bytes.{part, elementsOf, allBelow}
-use Rattle.records.specs.Outcome.{ok}
 use Rattle.field.specs.Residues.{prime, residues, Elements}
-use Rattle.rules.specs.Settings.{document01}
-use Rattle.rules.specs.Columns.{Column, check, entriesIn, readSheet, columnsOf}
-use Rattle.rules.specs.Circuit.{gatesIn}
-use Rattle.rules.specs.Values.{encoding}
+use Rattle.rules.specs.Columns.{check, columnsOf}
 use Rattle.rules.specs.Judging.{shareSize}
-use Rattle.rules.specs.Making.{fOf, gOf, whole, valuesFault}
-use Rattle.walk.specs.Walks.{members}
+use Rattle.rules.specs.Making.{valuesFault}
 use Rattle.columns.specs.declared.Counts.{Counts}
-use Rattle.columns.specs.Counting.{countsOf}
 use Rattle.steps.specs.Words.{sumOf}
 use Rattle.share_message.specs.Shares.{headerBytes}
+use Rattle.whole.specs.Pieces.{Counted}
 
 -- rules' randomFault
 unfoldable pub randomFaultAt : ℕ → ℕ → List ℕ → ℕ
@@ -34,11 +29,6 @@ pub record Few (servers size : ℕ) : Type 0 where
   pub some : 2 ≤ servers
   pub few : servers ≤ 8
   pub small : size ≤ 774
-
--- the sheet is read, with these counts
-pub record Counted (sheet : List ℕ) (counts : Counts) : Type 0 where
-  pub is-read : readSheet sheet ≡ ok (columnsOf sheet)
-  pub counts-are : counts ≡ countsOf (columnsOf sheet)
 
 -- ---- the shares of the servers
 -- the random elements are u_0, v_0, a, b and the shares of the other servers, `size` elements each
@@ -75,45 +65,6 @@ pub record Other (random : List ℕ) (size j : ℕ) (out : List ℕ) : Type 0 wh
   pub small : size ≤ 774
   pub within : 16 + 4 * size * j + 4 * size ≤ length random
   pub room : messageBytes size + messageBytes size * j + messageBytes size ≤ length out
-
--- ---- the whole
--- the values of h at 0, 1, .., 2M, of the entries xs and the free elements u and v
-unfoldable pub hValues : List Column → List ℕ → ℕ → ℕ → List ℕ
-hValues cs xs u v =
-    tabulate
-    (λ j. residues ._⊗_ (fOf residues document01 cs (members xs) u (residues .ι j))
-    (gOf residues document01 cs (members xs) v (residues .ι j)))
-    (suc (gatesIn cs + gatesIn cs))
-
--- the values of h fit behind l entries and two elements
-pub record PlaceOfH (sheet w : List ℕ) (l m : ℕ) : Type 0 where
-  pub entries-are : l ≡ entriesIn (columnsOf sheet)
-  pub gates-are : m ≡ gatesIn (columnsOf sheet)
-  pub entries-few : l ≤ 256
-  pub gates-few : m ≤ 256
-  pub room : l + 3 + (m + m) ≤ length w
-
--- the sheet is read, and the values are legal
-pub record Legal (sheet values : List ℕ) : Type 0 where
-  pub is-read : readSheet sheet ≡ ok (columnsOf sheet)
-  pub legal : valuesFault (columnsOf sheet) values ≡ 0
-
--- the entries of the values
-abbrev pub entriesFrom : List ℕ → List ℕ → List ℕ
-entriesFrom sheet values = encoding (columnsOf sheet) (elementsOf 4 values)
-
--- the whole list of the values vs and the random elements zs: rules' madeWhole
-abbrev pub wholeOf : List Column → List ℕ → List ℕ → List ℕ
-wholeOf cs vs zs =
-    whole residues document01 cs (members (encoding cs vs)) (members zs 0) (members zs 1) (members zs 2) (members zs 3)
-
--- legal values, four random elements at least, and a buffer of just as many places as the whole list has elements
-pub record Fillable (sheet : List ℕ) (counts : Counts) (values random w : List ℕ) : Type 0 where
-  pub counted : Counted sheet counts
-  pub legal : valuesFault (columnsOf sheet) values ≡ 0
-  pub four : 16 ≤ length random
-  pub elements : Elements (elementsOf 4 random)
-  pub long : length w ≡ shareSize (columnsOf sheet)
 
 -- ---- all that writing a return asks for
 pub record Makeable (sheet : List ℕ) (counts : Counts) (servers : ℕ) (values random out : List ℕ) : Type 0 where

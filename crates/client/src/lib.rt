@@ -4,18 +4,15 @@ ghost use Rattle.words.specs.Bytes.{splice};
 ghost use Rattle.rules.specs.Settings.{document01};
 ghost use Rattle.rules.specs.Making.{makeRefusal, makeBytes};
 ghost use Rattle.client.specs.Calls.{Makes};
-ghost use Rattle.client.specs.Pieces.{randomFaultAt, Few, Counted, Makeable};
+ghost use Rattle.whole.specs.Pieces.{Counted};
+ghost use Rattle.client.specs.Pieces.{randomFaultAt, Few, Makeable};
 use columns::Counts;
-use limits::servers_refusal;
 use limits::share_size;
 use records::Written;
-use records::or_else;
 use sheet::Reading;
 use sheet::read;
-use values::values_refusal;
 
 mod shares;
-mod whole;
 
 // The refusal of the random elements for S servers and shares of `size` elements: 6, or 0 for none.
 fn random_refusal(random: &[u8], servers: u32, size: usize) -> u32
@@ -44,9 +41,7 @@ fn make_refusal(
     requires { ⌜ Counted (now sheet) counts ⌝ }
     ensures { λ r. ⌜ r ≡ makeRefusal document01 (now (sheet .entry)) servers (now (values .entry)) (now (random .entry)) room ⌝ }
 {
-    let outside = servers_refusal(servers);
-    let unsound = values_refusal(sheet, counts.columns, values);
-    let early = or_else(outside, unsound);
+    let early = whole::early_refusal(sheet, counts, servers, values);
     if early != 0 {
         return early;
     }

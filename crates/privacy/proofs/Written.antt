@@ -10,6 +10,7 @@ use Rattle.algebra.specs.Modulo.{modulo}
 use Rattle.algebra.specs.Sums.{sum}
 use Rattle.algebra.proofs.Members.{map-same}
 use Rattle.algebra.proofs.Rearrangement.{rearranged-refl}
+use Rattle.words.specs.Bytes.{elementsOf}
 use Rattle.rules.specs.Settings.{Setting, Facts}
 use Rattle.rules.specs.Columns.{Column}
 use Rattle.rules.specs.Judging.{firstOnly, sigmaOf, dSum, eSum, sigmaSum}
@@ -19,7 +20,7 @@ use Rattle.rules.specs.Server.{Waiting, waitingOf, sigmaIn, messageOne, summed}
 use Rattle.rules.specs.Ledger.{Note}
 use Rattle.rules.specs.Pools.{Pool}
 use Rattle.rules.specs.WholeRun.{firsts, seconds}
-use Rattle.rules.specs.Made.{shareMade, CanTake}
+use Rattle.rules.specs.Made.{madePart, shareMade, CanTake}
 use Rattle.rules.proofs.Histories.WrittenRuns.{Written, written}
 use Rattle.rules.proofs.Histories.OwnMessages.{pair-below, sigma-below, d-below, e-below, tau-below}
 use Rattle.rules.proofs.Histories.PoolOpened.{opened}
@@ -90,14 +91,14 @@ module _ (σ : Setting) (𝓟 : Pool σ) (id r s leftOut : ℕ) (values random :
   c = caseIn σ 𝓟 id r s leftOut
 
   abbrev shares : ℕ → List ℕ
-  shares = shareMade σ (𝓟 .sheet) (𝓟 .servers) id values random
+  shares = shareMade σ (𝓟 .sheet) (𝓟 .servers) id (elementsOf 4 values) (elementsOf (σ .width) random)
 
   pub seen-in-pool : Facts σ → leftOut < 𝓟 .servers → (lent room roundRoom : ℕ)
       → makeRefusal σ (𝓟 .sheet) (𝓟 .servers) values random lent ≡ 0 → CanTake σ 𝓟 id r s room roundRoom
       → SeenInPool σ 𝓟 id r s leftOut values random room roundRoom
   unfolding sight
   seen-in-pool facts is-server lent room roundRoom done free =
-      let returned = made-run σ facts 𝓟 .made (𝓟 .sheet) (𝓟 .servers) id values random lent done in
+      let written-bytes = made-run σ facts 𝓟 .made (𝓟 .sheet) (𝓟 .servers) id values random lent done in
       record {
         fits = record {
           is-read = opened σ 𝓟 .no-fault;
@@ -106,6 +107,7 @@ module _ (σ : Setting) (𝓟 : Pool σ) (id r s leftOut : ℕ) (values random :
           is-server = is-server;
         };
         sight-is = ap (λ (l : List (List ℕ)). l ++ (firsts σ 𝓟 id shares r s ++ seconds σ 𝓟 id shares r s))
-            (map-same _ _ (others c) (λ i k. sym (returned .message-is i (in-others c i k .0))));
-        accepted = made-run σ facts 𝓟 .accepted id values random lent done r s room roundRoom free;
+            (map-same _ _ (others c) (λ i k. sym (written-bytes .message-is i (in-others c i k .0))));
+        accepted = made-run σ facts 𝓟 .accepted id (elementsOf 4 values) (elementsOf (σ .width) random)
+            (madePart σ (𝓟 .sheet) (𝓟 .servers) id values random) (written-bytes .return) r s room roundRoom free;
       }

@@ -23,7 +23,15 @@ yesNoCase servers r s leftOut = record {
 
 -- the prime 3: elements 0, 1 and 2, of one byte
 abbrev pub three : Setting
-three = record { modulus = 3; width = 1; circuitLimit = 100; totalsByte = 36; tableByte = 3 }
+three = record {
+  modulus = 3;
+  width = 1;
+  circuitLimit = 100;
+  totalsByte = 36;
+  tableByte = 3;
+  streamWidth = 4;
+  streamBits = 31;
+}
 
 -- the choice u_0 = 1, v_0 = 2, a = 0, b = 1; and a share for server 1
 abbrev pub firstFour : List ℕ

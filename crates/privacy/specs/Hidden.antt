@@ -3,6 +3,7 @@
 -- are a valid list.
 --
 -- What is not said.
+-- Short shares: the claim "covers long shares only". Choices of seeds are not counted.
 -- Servers that break the rules: all servers keep them here, and one that alters a message may learn more.
 -- How random elements are chosen: choices are counted, and that each is as likely as another and known to nobody else is not claimed.
 -- Totals: "The published totals are outside the statement." They are sums of values, and of few values they tell much.

@@ -4,6 +4,7 @@
 use mathlib.Core.Path.{_≡_}
 use mathlib.Core.List.{List, _++_, map}
 use Prim.Native.Nat.{ℕ}
+use Rattle.words.specs.Bytes.{elementsOf}
 use Rattle.rules.specs.Settings.{Setting}
 use Rattle.rules.specs.Pools.{Pool}
 use Rattle.rules.specs.WholeRun.{firsts, seconds}
@@ -26,16 +27,27 @@ module _ (σ : Setting) (𝓟 : Pool σ) (id r s leftOut : ℕ) where
   }
 
   module _ (values random : List ℕ) where
-    abbrev shares : ℕ → List ℕ
-    shares = shareMade σ (𝓟 .sheet) (𝓟 .servers) id values random
+    -- the values and the random elements as numbers, and the shares of them
+    abbrev vs : List ℕ
+    vs = elementsOf 4 values
 
-    -- CLAIM, of a return that making wrote, where the buffers for messages have the given room
+    abbrev zs : List ℕ
+    zs = elementsOf (σ .width) random
+
+    abbrev shares : ℕ → List ℕ
+    shares = shareMade σ (𝓟 .sheet) (𝓟 .servers) id vs zs
+
+    -- server i's part of the bytes that making wrote
+    abbrev parts : ℕ → List ℕ
+    parts = madePart σ (𝓟 .sheet) (𝓟 .servers) id values random
+
+    -- CLAIM, of a return that making wrote with long shares, where the buffers for messages have the given room
     pub record SeenInPool (room roundRoom : ℕ) : Type 0 where
       pub fits : Fits σ caseIn
       -- a sight is the others' parts of the bytes that making wrote, and the messages of both rounds
       pub sight-is : sight σ caseIn shares
-          ≡ map (madePart σ (𝓟 .sheet) (𝓟 .servers) id values random) (others caseIn)
+          ≡ map parts (others caseIn)
           ++ (firsts σ 𝓟 id shares r s ++ seconds σ 𝓟 id shares r s)
       -- each server, handed its part of these bytes, the messages of both rounds and the entry, writes its own two of them, accepts and
       -- enters
-      pub accepted : MadeAccepted σ 𝓟 id values random r s room roundRoom
+      pub accepted : MadeAccepted σ 𝓟 id vs zs parts r s room roundRoom

@@ -1,5 +1,6 @@
 -- Demand 3: the bytes of messages; what a call does to a ledger, and what a history of calls comes to.
 pub mod MessageBytes
+pub mod ShareMessages
 pub mod ClosingBytes
 pub mod Checks
 pub mod JoinedRuns

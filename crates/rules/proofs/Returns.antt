@@ -17,3 +17,4 @@ pub mod Honest
 pub mod HonestReturns
 pub mod OnSheets
 pub mod MadeMessages
+pub mod SeededMessages

@@ -10,7 +10,7 @@ use lib.ListN.{length, getD}
 use Rattle.algebra.specs.Lists.{sumOver}
 use Rattle.rules.specs.Settings.{Setting}
 use Rattle.rules.specs.Columns.{publishedFrom}
-use Rattle.rules.specs.Messages.{idIn, elementsIn, firstSum, secondSum, bothZero}
+use Rattle.rules.specs.Messages.{idIn, shareIn, firstSum, secondSum, bothZero}
 use Rattle.rules.specs.Keyed.{find, without, changed}
 use Rattle.rules.specs.Server.{Opened, Waiting, Wait, awaitsOne, awaitsTwo, awaitsEntry, Stage, takes, closed, ServerState}
 use Rattle.rules.specs.Server.{waitingOf, withSums, messageOne, messageTwo, totalsMessage}
@@ -167,7 +167,7 @@ module _ (σ : Setting) (o : Opened) where
   decideWaiting l id d = decideAs id (find pendingId id (waiting (l .progress))) (waiting (l .progress)) (l .decided) d
 
   abbrev pub noteOf : List ℕ → ℕ → ℕ → Note
-  noteOf m r s = record { id = idIn m; elements = elementsIn σ m; r = r; s = s }
+  noteOf m r s = record { id = idIn m; elements = shareIn σ (o .columns) m; r = r; s = s }
 
   unfoldable pub sumsNoted : ℕ → ℕ → Pending → Pending
   sumsNoted d e (waitsOne n) = waitsTwo n d e

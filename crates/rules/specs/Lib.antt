@@ -4,8 +4,8 @@
 -- wrote and of servers that go on after a stop; the examples.
 -- (Making names the size of a share from Judging; Keyed has lists whose members have an id.) Of document 02: columns with a top
 -- and of points stand among the others, and returns that wait, their entry and the least count in the rules of a server; behind the
--- values every legal return of a small sheet; behind judging the products that check no bit; behind recount room told from the sheet,
--- and messages stored by place; behind whole runs the line through points.
+-- values every legal return of a small sheet; behind judging the products that check no bit, and shares from seeds; behind recount
+-- room told from the sheet, and messages stored by place; behind whole runs the line through points.
 pub mod Settings
 pub mod Columns
 pub mod Circuit
@@ -17,6 +17,7 @@ pub mod EveryReturn
 pub mod Making
 pub mod Judging
 pub mod Products
+pub mod Seeds
 pub mod Messages
 pub mod Keyed
 pub mod Server
@@ -40,6 +41,7 @@ pub mod Examples
 pub mod CallExamples
 pub mod TopExamples
 pub mod PointExamples
+pub mod SeedExamples
 pub mod SoundExamples
 pub mod TableExamples
 pub mod WaitingExamples

@@ -46,9 +46,12 @@ module _ (O : Ops) where
   shareOf servers w z zero e = minus O (w e) (sum O (servers - 1) (λ i. z i e))
   shareOf servers w z (suc i) e = z i e
 
--- every message but totals: its kind byte, an id, a server number, then elements
+-- every message but totals: its kind byte, an id, a server number, then what it brings, which is elements but for seeds
+abbrev pub headed : ℕ → ℕ → ℕ → List ℕ → List ℕ
+headed kind id server bytes = kind ∷ bytesOf 4 id ++ (server ∷ bytes)
+
 unfoldable pub message : Setting → ℕ → ℕ → ℕ → List ℕ → List ℕ
-message σ kind id server xs = kind ∷ bytesOf 4 id ++ (server ∷ bytesOfAll (σ .width) xs)
+message σ kind id server xs = headed kind id server (bytesOfAll (σ .width) xs)
 
 -- "Share message: byte 33, id (4 bytes, any), server number (1), the elements."
 abbrev pub shareMessage : Setting → ℕ → ℕ → List ℕ → List ℕ

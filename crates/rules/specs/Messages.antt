@@ -1,5 +1,5 @@
--- Document 01, "A return" and "Judging", and document 02, messages as they arrive and same challenge: messages 33, 34 and 35, their
--- reading and what is at fault in them.
+-- Document 01, "A return" and "Judging", and document 02, messages as they arrive, same challenge and short shares from seeds: messages
+-- 33, 34, 35 and 38, their reading and what is at fault in them.
 -- Assumes nothing.
 use mathlib.Core.Bool.{Bool, cond, not, _&&_, _||_}
 use mathlib.Core.List.{List, map, flatten}
@@ -12,7 +12,9 @@ use Rattle.algebra.specs.Sums.{sum}
 use Rattle.words.specs.Bytes.{valueOf, part, elementsOf, allBelow, sameBytes}
 use Rattle.rules.specs.Settings.{Setting}
 use Rattle.rules.specs.Columns.{Column, check}
+use Rattle.rules.specs.Judging.{shareSize}
 use Rattle.rules.specs.Making.{shareLength}
+use Rattle.rules.specs.Seeds.{seedKind, seedLength, seedElements}
 
 -- every message starts with its kind, and then, but for totals, an id of 4 bytes and a server number
 abbrev pub kindIn : List ℕ → ℕ
@@ -31,13 +33,25 @@ elementsIn σ m = elementsOf (σ .width) (drop 6 m)
 abbrev pub elementIn : Setting → ℕ → List ℕ → ℕ
 elementIn σ k m = getD (elementsIn σ m) k 0
 
--- "7: share of the wrong kind byte, length or server. 8: share element not below p."
-unfoldable pub headerFault : Setting → List Column → ℕ → List ℕ → ℕ
-headerFault σ cs own m =
-    check (eqb (length m) (shareLength σ cs) && (eqb (kindIn m) 33 && eqb (serverIn m) own)) 7
+-- "Servers 1 to S - 1 may get a seed of 32 bytes instead of elements": the elements that a share message brings, by its kind
+unfoldable pub bringsSeed : List ℕ → Bool
+bringsSeed m = eqb (kindIn m) seedKind
 
-unfoldable pub elementsFault : Setting → List ℕ → ℕ
-elementsFault σ m = check (allBelow (σ .modulus) (elementsIn σ m)) 8
+unfoldable pub shareIn : Setting → List Column → List ℕ → List ℕ
+shareIn σ cs m = cond (bringsSeed m) (seedElements σ (drop 6 m) (idIn m) (shareSize cs)) (elementsIn σ m)
+
+-- "7: share of the wrong kind byte, length or server." "A seed message for server 0 is refused 7": whether a message of its kind
+-- can be for server `own`, and how long it is
+unfoldable pub kindSound : Setting → List Column → ℕ → List ℕ → Bool
+kindSound σ cs own m =
+    cond (bringsSeed m) (eqb (length m) seedLength && not (eqb own 0)) (eqb (length m) (shareLength σ cs) && eqb (kindIn m) 33)
+
+unfoldable pub headerFault : Setting → List Column → ℕ → List ℕ → ℕ
+headerFault σ cs own m = check (kindSound σ cs own m && eqb (serverIn m) own) 7
+
+-- "8: share element not below p"
+unfoldable pub elementsFault : Setting → List Column → List ℕ → ℕ
+elementsFault σ cs m = check (allBelow (σ .modulus) (shareIn σ cs m)) 8
 
 -- "Message: byte 34, id, server, d_i, e_i .. Message: byte 35, id, server, sigma_i, tau_i (14 bytes)." "Round-one messages now carry r
 -- and s after e_i and are 22 bytes long": how many elements a round's message has, and how many bytes

@@ -174,7 +174,7 @@ shareRefusal σ k m r s room =
     (λ ws. orElse (check (ltb (length ws) mostWaiting) 11)
     (orElse (check (ltb (length (k .used) + length ws) (k .opened .returns)) 13)
     (orElse (headerFault σ (k .opened .columns) (k .opened .own) m)
-    (orElse (elementsFault σ m)
+    (orElse (elementsFault σ (k .opened .columns) m)
     (orElse (check (not (isMember (idIn m) (k .used ++ map heldId ws))) 10)
     (orElse (check (allowedPair σ (k .opened .columns) r s) 9) (check (leb (roundLength σ 34) room) 14)))))))
 

@@ -1,4 +1,4 @@
--- Document 01, "Field and bytes": the numbers that a second prime would change.
+-- Document 01, "Field and bytes", and document 02, short shares from seeds: the numbers that a second prime would change.
 -- Assumes nothing.
 use Prim.Native.Nat.{ℕ, _+_, _*_, _^_, _≤_, _<_}
 use Rattle.algebra.specs.Prime.{Prime}
@@ -14,10 +14,22 @@ pub record Setting : Type 0 where
   pub totalsByte : ℕ
   -- the first byte of a table
   pub tableByte : ℕ
+  -- the bytes of a word of a seed's key stream, and how many of its bits count
+  pub streamWidth : ℕ
+  pub streamBits : ℕ
 
--- "p = 2147483647. An element is a whole number from 0 to p - 1. Elements travel as 4 bytes."
+-- "p = 2147483647. An element is a whole number from 0 to p - 1. Elements travel as 4 bytes." "Each 4 stream bytes, with the top bit
+-- cleared, are taken modulo p."
 abbrev pub document01 : Setting
-document01 = record { modulus = 2147483647; width = 4; circuitLimit = 17920; totalsByte = 36; tableByte = 3 }
+document01 = record {
+  modulus = 2147483647;
+  width = 4;
+  circuitLimit = 17920;
+  totalsByte = 36;
+  tableByte = 3;
+  streamWidth = 4;
+  streamBits = 31;
+}
 
 -- What the theorems assume of a setting
 pub record Facts (σ : Setting) : Type 0 where
@@ -32,3 +44,5 @@ pub record Facts (σ : Setting) : Type 0 where
   pub apart : 35 < σ .totalsByte
   pub totals-fits : σ .totalsByte < 256
   pub table-fits : σ .tableByte < 256
+  -- a word of a stream has bytes
+  pub stream-word : 0 < σ .streamWidth

@@ -39,7 +39,7 @@ use Rattle.slots.specs.declared.Slot.{Slot}
 use Rattle.slots.specs.Slots.{freeSlot}
 use Rattle.rules.specs.Settings.{Setting}
 use Rattle.rules.specs.Columns.{Column, check, serversFit, returnsFit, leastFits, publishedIn, sheetFault, columnsOf, totalsFit}
-use Rattle.rules.specs.Messages.{idIn, elementsIn, bothZero}
+use Rattle.rules.specs.Messages.{idIn, shareIn, bothZero}
 use Rattle.rules.specs.Server.{Opened, Waiting, Stage, takes, closed, ServerState, mostWaiting, openFault, waitingOf}
 use Rattle.rules.specs.Server.{messageOne, messageTwo, summed, publishedShares, totalsMessage}
 use Rattle.rules.specs.Server.{shareRefusal, oneRefusal, twoRefusal, enterRefusal, dropRefusal, closeRefusal}
@@ -210,7 +210,7 @@ module _ (σ : Setting) (T : Lent) where
   shareRefused m r s room = orElse (tableFault σ T) (shareRefusal σ (tableState σ T) m r s room)
 
   abbrev pub shareTaken : List ℕ → ℕ → ℕ → Waiting
-  shareTaken m r s = waitingOf σ (openedIn σ (T .bytes)) (idIn m) (elementsIn σ m) r s
+  shareTaken m r s = waitingOf σ (openedIn σ (T .bytes)) (idIn m) (shareIn σ cs m) r s
 
   -- the record that a share takes, and what it becomes
   unfoldable pub shareTable : List ℕ → ℕ → ℕ → Lent

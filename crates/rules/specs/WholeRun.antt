@@ -15,7 +15,8 @@ use Rattle.rules.specs.Circuit.{gatesIn, testsIn}
 use Rattle.rules.specs.Run.{Valid}
 use Rattle.rules.specs.Judging.{shareSize, addedUp, letsIn, allowedPair}
 use Rattle.rules.specs.Making.{shareMessage}
-use Rattle.rules.specs.Messages.{kindIn, roundLength, oneByOne}
+use Rattle.rules.specs.Seeds.{seedSize, seedMessage, seedElements}
+use Rattle.rules.specs.Messages.{kindIn, idIn, shareIn, headerFault, elementsFault, roundLength, oneByOne}
 use Rattle.rules.specs.Server.{Waiting, Wait, mostWaiting, waitingOf, messageOne, messageTwo, summed, totalsLength}
 use Rattle.slots.specs.Slots.{freeSlot}
 use Rattle.rules.specs.WaitingList.{isFree, placeSize, numbersAt, waitsIn}
@@ -68,6 +69,13 @@ module _ (σ : Setting) (𝓟 : Pool σ) where
 abbrev pub bothRounds : ℕ → List (List ℕ) → List (List ℕ) → ℕ → List Call
 bothRounds id ones twos room = roundOne id (flatten ones) room ∷ roundTwo id (flatten twos) ∷ []
 
+-- a share message of either kind at server i, with the share that it brings: its header and its elements are sound
+pub record Brings (σ : Setting) (cs : List Column) (id i : ℕ) (m xs : List ℕ) : Type 0 where
+  pub named : id < 4294967296 → idIn m ≡ id
+  pub header : headerFault σ cs i m ≡ 0
+  pub elements : elementsFault σ cs m ≡ 0
+  pub says : shareIn σ cs m ≡ xs
+
 -- A return of sound shares handed to servers that have room, and the messages of both rounds as they are written
 module _ (σ : Setting) (𝓟 : Pool σ) (id : ℕ) (shares : ℕ → List ℕ) (r s : ℕ) where
   abbrev pub firstWait : ℕ → Waiting
@@ -82,16 +90,16 @@ module _ (σ : Setting) (𝓟 : Pool σ) (id : ℕ) (shares : ℕ → List ℕ) 
   abbrev pub seconds : List (List ℕ)
   seconds = map (λ i. messageTwo σ (openedAt σ 𝓟 i) (secondWait i)) (countFrom 0 (𝓟 .servers))
 
-  -- what has to be so for the return to be taken, by the room of the buffers for the share's message and for round one's
-  pub record Ready (room roundRoom : ℕ) : Type 0 where
+  -- what has to be so for the return to be taken from the messages, by the room of the buffers for the share's message and for
+  -- round one's
+  pub record Ready (messages : ℕ → List ℕ) (room roundRoom : ℕ) : Type 0 where
     pub waits : ℕ → List Pending
     pub open-all : (i : ℕ) → i < 𝓟 .servers → ledgerAt σ 𝓟 i .progress ≡ isOpen (waits i)
     pub below-eight : (i : ℕ) → i < 𝓟 .servers → length (waits i) < mostWaiting
     pub fewer : (i : ℕ) → i < 𝓟 .servers → length (ledgerAt σ 𝓟 i .decided) + length (waits i) < 𝓟 .returns
     pub unused : (i : ℕ) → i < 𝓟 .servers → In id (idsOf (notesAt σ 𝓟 i)) → ⊥
     pub id-fits : id < 4294967296
-    pub sized : (i : ℕ) → i < 𝓟 .servers → length (shares i) ≡ shareSize (columns σ 𝓟)
-    pub below : (i : ℕ) → i < 𝓟 .servers → All (λ x. x < σ .modulus) (shares i)
+    pub sound : (i : ℕ) → i < 𝓟 .servers → Brings σ (columns σ 𝓟) id i (messages i) (shares i)
     pub pair : allowedPair σ (columns σ 𝓟) r s ≡ true
     pub enough : roundLength σ 34 ≤ room
     pub enough-one : roundLength σ 35 ≤ roundRoom
@@ -127,34 +135,42 @@ pub record WholeRun (σ : Setting) (𝓟 : Pool σ) : Type 0 where
       → (Valid (modulo (σ .modulus)) σ (columns σ 𝓟) (addedUp (modulo (σ .modulus)) σ (columns σ 𝓟) (𝓟 .servers) x) → ⊥)
       → countPairs (σ .modulus) (σ .modulus) (letsIn σ (columns σ 𝓟) (𝓟 .servers) x)
       ≤ σ .modulus * max (suc (gatesIn (columns σ 𝓟) + gatesIn (columns σ 𝓟))) (testsIn (columns σ 𝓟) - 1)
-  -- 8. A return of sound shares is handled to its end: nothing is refused, in whatever order the messages of a round arrived
-  -- here, and the verdict is that of its pair
-  pub handled : (id : ℕ) (shares : ℕ → List ℕ) (r s room roundRoom : ℕ) → Ready σ 𝓟 id shares r s room roundRoom
+  -- 8. A message with as many elements below p as a share has is sound, and so is one with a seed at any server but the first
+  pub sound-elements : (id i : ℕ) (xs : List ℕ) → length xs ≡ shareSize (columns σ 𝓟) → All (λ x. x < σ .modulus) xs
+      → Brings σ (columns σ 𝓟) id i (shareMessage σ id i xs) xs
+  pub sound-seed : (id i : ℕ) (seed : List ℕ) → length seed ≡ seedSize → 0 < i
+      → Brings σ (columns σ 𝓟) id i (seedMessage id i seed) (seedElements σ seed id (shareSize (columns σ 𝓟)))
+  -- A return of sound shares is handled to its end, whichever messages brought them: nothing is refused, in whatever order the
+  -- messages of a round arrived here, and the verdict is that of its pair
+  pub handled : (id : ℕ) (messages shares : ℕ → List ℕ) (r s room roundRoom : ℕ)
+      → Ready σ 𝓟 id shares r s messages room roundRoom
       → (i : ℕ) → i < 𝓟 .servers → (ones twos : List (List ℕ))
       → Rearranged ones (firsts σ 𝓟 id shares r s) → Rearranged twos (seconds σ 𝓟 id shares r s)
       → ledgerAnswers σ (openedAt σ 𝓟 i) (ledgerAt σ 𝓟 i)
-      (share (shareMessage σ id i (shares i)) r s room ∷ bothRounds id ones twos roundRoom)
+      (share (messages i) r s room ∷ bothRounds id ones twos roundRoom)
       ≡ wrote (messageOne σ (openedAt σ 𝓟 i) (firstWait σ 𝓟 id shares r s i))
       ∷ wrote (messageTwo σ (openedAt σ 𝓟 i) (secondWait σ 𝓟 id shares r s i))
       ∷ judged (letsIn σ (columns σ 𝓟) (𝓟 .servers) (λ j e. getD (shares j) e 0) r s)
       ∷ []
   -- and however other calls are mixed in, once the share is taken
-  pub handled-mixed : (id : ℕ) (shares : ℕ → List ℕ) (r s room roundRoom : ℕ) → Ready σ 𝓟 id shares r s room roundRoom
+  pub handled-mixed : (id : ℕ) (messages shares : ℕ → List ℕ) (r s room roundRoom : ℕ)
+      → Ready σ 𝓟 id shares r s messages room roundRoom
       → (i : ℕ) → i < 𝓟 .servers → (ones twos : List (List ℕ))
       → Rearranged ones (firsts σ 𝓟 id shares r s) → Rearranged twos (seconds σ 𝓟 id shares r s)
       → (more : List Call) → those (on id) more ≡ bothRounds id ones twos roundRoom
-      → answersTo σ (openedAt σ 𝓟 i) id (ledgerAt σ 𝓟 i) (share (shareMessage σ id i (shares i)) r s room ∷ more)
+      → answersTo σ (openedAt σ 𝓟 i) id (ledgerAt σ 𝓟 i) (share (messages i) r s room ∷ more)
       ≡ wrote (messageOne σ (openedAt σ 𝓟 i) (firstWait σ 𝓟 id shares r s i))
       ∷ wrote (messageTwo σ (openedAt σ 𝓟 i) (secondWait σ 𝓟 id shares r s i))
       ∷ judged (letsIn σ (columns σ 𝓟) (𝓟 .servers) (λ j e. getD (shares j) e 0) r s)
       ∷ []
   -- and where the pair lets it in, it is entered when this is asked for
-  pub handled-entered : (id : ℕ) (shares : ℕ → List ℕ) (r s room roundRoom : ℕ) → Ready σ 𝓟 id shares r s room roundRoom
+  pub handled-entered : (id : ℕ) (messages shares : ℕ → List ℕ) (r s room roundRoom : ℕ)
+      → Ready σ 𝓟 id shares r s messages room roundRoom
       → letsIn σ (columns σ 𝓟) (𝓟 .servers) (λ j e. getD (shares j) e 0) r s ≡ true
       → (i : ℕ) → i < 𝓟 .servers → (ones twos : List (List ℕ))
       → Rearranged ones (firsts σ 𝓟 id shares r s) → Rearranged twos (seconds σ 𝓟 id shares r s)
       → (more : List Call) → those (on id) more ≡ bothRounds id ones twos roundRoom ++ (enter id ∷ [])
-      → answersTo σ (openedAt σ 𝓟 i) id (ledgerAt σ 𝓟 i) (share (shareMessage σ id i (shares i)) r s room ∷ more)
+      → answersTo σ (openedAt σ 𝓟 i) id (ledgerAt σ 𝓟 i) (share (messages i) r s room ∷ more)
       ≡ wrote (messageOne σ (openedAt σ 𝓟 i) (firstWait σ 𝓟 id shares r s i))
       ∷ wrote (messageTwo σ (openedAt σ 𝓟 i) (secondWait σ 𝓟 id shares r s i))
       ∷ judged true

@@ -7,6 +7,8 @@ pub mod TypingSlip
 pub mod StoppedServer
 pub mod ThreeServers
 pub mod PointsPool
+pub mod SeedsPool
+pub mod SeedsPremises
 pub mod MixedReturns
 pub mod MixedPremises
 pub mod SecondProgram

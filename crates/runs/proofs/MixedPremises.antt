@@ -23,8 +23,8 @@ use Rattle.rules.specs.Pools.{Pool, openedAt, tableAt, ledgerAt, enteredAt, rej
 use Rattle.rules.specs.WholeRun.{Ready, firstWait, firsts, seconds, bothRounds}
 use Rattle.rules.proofs.Computed.Computing.{everything}
 use Rattle.rules.proofs.Runs.WholeRuns.{document01-whole-run}
-use Rattle.runs.proofs.Tests.{bytesCall, opensAt, isPool, poolOf, isEnded, isReady, is-ready}
-use Rattle.runs.proofs.TwoServers.{ones, twos, short, lent, sheet, honest, false-return}
+use Rattle.runs.proofs.Tests.{bytesCall, opensAt, isPool, poolOf, doesBring, isEnded, isReady, is-ready}
+use Rattle.runs.proofs.TwoServers.{ones, twos, longs, short, lent, sheet, honest, false-return}
 use Rattle.runs.proofs.MixedReturns.{sharesOf, takes, calls, pool, meets-them}
 
 -- ---- verdicts: the fifth return is let in by its pair, the sixth is not
@@ -130,9 +130,12 @@ is-early = refl
 abbrev earlyPool : Pool document01
 earlyPool = poolOf document01 2 sheet 9 7 (λ i. lent 55 88) early is-early
 
-ready-9 : Ready document01 earlyPool 9 (sharesOf 9) 4 9 22 14
-unfolding everything isReady isEnded calls ones twos
-ready-9 = is-ready document01 earlyPool 9 (sharesOf 9) 4 9 22 14 refl
+abbrev messages-9 : ℕ → List ℕ
+messages-9 = longs 9 (sharesOf 9)
+
+ready-9 : Ready document01 earlyPool 9 (sharesOf 9) 4 9 messages-9 22 14
+unfolding everything isReady doesBring isEnded calls ones twos
+ready-9 = is-ready document01 earlyPool 9 messages-9 (sharesOf 9) 4 9 22 14 refl
 
 let-in-9 : letsIn document01 (columnsOf sheet) 2 (λ j e. getD (sharesOf 9 j) e 0) 4 9 ≡ true
 unfolding everything
@@ -177,16 +180,16 @@ answers-9 i more =
 judged-9 : answers-9 0 until-verdict ≡ 100 ∷ 100 ∷ 200 ∷ []
 unfolding short
 judged-9 =
-    ap (map short) (document01-whole-run earlyPool .handled-mixed 9 (sharesOf 9) 4 9 22 14 ready-9 0 (lit< tt) ones-9 twos-9 turned-9
-    (rearranged-refl twos-9) until-verdict up-to-0)
+    ap (map short) (document01-whole-run earlyPool .handled-mixed 9 messages-9 (sharesOf 9) 4 9 22 14 ready-9 0 (lit< tt) ones-9 twos-9
+    turned-9 (rearranged-refl twos-9) until-verdict up-to-0)
     ∙ ap (λ (b : Bool). 100 ∷ 100 ∷ cond b 200 300 ∷ []) let-in-9
 
 entered-9 : (i : ℕ) → i < 2 → (more : List Call) → those (on 9) more ≡ rounds-9 ++ (enter 9 ∷ [])
     → answers-9 i more ≡ 100 ∷ 100 ∷ 200 ∷ 400 ∷ []
 unfolding short
 entered-9 i l more among =
-    ap (map short) (document01-whole-run earlyPool .handled-entered 9 (sharesOf 9) 4 9 22 14 ready-9 let-in-9 i l ones-9 twos-9 turned-9
-    (rearranged-refl twos-9) more among)
+    ap (map short) (document01-whole-run earlyPool .handled-entered 9 messages-9 (sharesOf 9) 4 9 22 14 ready-9 let-in-9 i l ones-9 twos-9
+    turned-9 (rearranged-refl twos-9) more among)
 
 entered-9-0 : answers-9 0 (drop 22 (calls 0)) ≡ 100 ∷ 100 ∷ 200 ∷ 400 ∷ []
 entered-9-0 = entered-9 0 (lit< tt) (drop 22 (calls 0)) among-0

@@ -22,13 +22,13 @@ use Rattle.rules.specs.Making.{shareMessage, madeShare, makeRefusal}
 use Rattle.rules.specs.Ledger.{Call, share, enter, Note, empty, refusalOf, runLedger, ledgerAnswers}
 use Rattle.rules.specs.Pools.{Pool, openedAt, ledgerAt, enteredAt, rejectedAt, notesAt, returnOf, KeepsForm, JudgedToEnd, JudgedByPair}
 use Rattle.rules.specs.WholeRun.{Ready, firsts, seconds, bothRounds, WholeRun}
-use Rattle.rules.specs.Made.{madePart, shareMade, MadeReturn, Took, MadeOf, CanTake, MadeAccepted, joinedTotals, howMany, EncodedTotals}
+use Rattle.rules.specs.Made.{madePart, shareMade, MadeBytes, Took, MadeOf, CanTake, MadeAccepted, joinedTotals, howMany, EncodedTotals}
 use Rattle.rules.proofs.Computed.Computing.{everything}
 use Rattle.rules.proofs.Histories.Checks.{every-at}
 use Rattle.rules.proofs.Runs.WholeRuns.{document01-whole-run}
 use Rattle.rules.proofs.Runs.MadeRuns.{document01-made-run}
-use Rattle.runs.proofs.Tests.{bytesCall, opensAt, isPool, poolOf, isEnded, isReady, is-ready}
-use Rattle.runs.proofs.TwoServers.{ones, twos, give, short, lent, sheet, random, honest, false-return, calls}
+use Rattle.runs.proofs.Tests.{bytesCall, opensAt, isPool, poolOf, doesBring, isEnded, isReady, is-ready}
+use Rattle.runs.proofs.TwoServers.{ones, twos, longs, give, short, lent, sheet, random, honest, false-return, calls}
 use Rattle.runs.proofs.TwoServers.{pool, meets-them, ended}
 
 -- ---- making: yes, and the random elements, as bytes
@@ -43,18 +43,24 @@ pub not-refused : makeRefusal document01 sheet 2 valueBytes randomBytes 84 ≡ 0
 unfolding everything
 not-refused = refl
 
-pub made-77 : MadeReturn document01 sheet 2 77 valueBytes randomBytes
+abbrev readValues : List ℕ
+readValues = elementsOf 4 valueBytes
+
+abbrev readRandom : List ℕ
+readRandom = elementsOf 4 randomBytes
+
+pub made-77 : MadeBytes document01 sheet 2 77 valueBytes randomBytes
 made-77 = document01-made-run pool .made sheet 2 77 valueBytes randomBytes 84 not-refused
 
 -- both servers took their parts of the bytes
 abbrev partAt : ℕ → List ℕ
 partAt = madePart document01 sheet 2 77 valueBytes randomBytes
 
-values-read : elementsOf 4 valueBytes ≡ 1 ∷ []
+values-read : readValues ≡ 1 ∷ []
 unfolding everything
 values-read = refl
 
-random-read : elementsOf 4 randomBytes ≡ random
+random-read : readRandom ≡ random
 unfolding everything
 random-read = refl
 
@@ -85,8 +91,8 @@ took i l = record {
       ∙ eqb-true _ 0 (every-at taken 2 both-taken i l);
 }
 
-pub whole-77 : MadeOf document01 pool 77 (elementsOf 4 valueBytes)
-whole-77 = document01-made-run pool .delivered 77 valueBytes randomBytes 84 not-refused (lit< tt) took
+pub whole-77 : MadeOf document01 pool 77 readValues
+whole-77 = document01-made-run pool .delivered 77 readValues readRandom partAt (made-77 .return) (lit< tt) took
 
 -- ---- verdicts at server 1: the honest return is let in by its pair, the false one is not
 whole-run : WholeRun document01 pool
@@ -161,14 +167,14 @@ entered-0 : enteredAt document01 pool 0 ≡ 77 ∷ []
 unfolding everything calls ones twos
 entered-0 = refl
 
-each-made : (id : ℕ) → In id (enteredAt document01 pool 0) → MadeOf document01 pool id (elementsOf 4 valueBytes)
+each-made : (id : ℕ) → In id (enteredAt document01 pool 0) → MadeOf document01 pool id readValues
 each-made id h = go (subst (In id) entered-0 h)
   where
-    go : In id (77 ∷ []) → MadeOf document01 pool id (elementsOf 4 valueBytes)
-    go (inl e) = subst (λ (k : ℕ). MadeOf document01 pool k (elementsOf 4 valueBytes)) e whole-77
+    go : In id (77 ∷ []) → MadeOf document01 pool id readValues
+    go (inl e) = subst (λ (k : ℕ). MadeOf document01 pool k readValues) e whole-77
     go (inr k) = absurd k
 
-totals-77 : EncodedTotals document01 pool (enteredAt document01 pool 0) (λ id. elementsOf 4 valueBytes)
+totals-77 : EncodedTotals document01 pool (enteredAt document01 pool 0) (λ id. readValues)
 totals-77 = document01-made-run pool .totals meets-them ended 0 (lit< tt) _ each-made
 
 one-yes : getD (joinedTotals document01 pool) 0 0 ≡ 1
@@ -186,13 +192,13 @@ is-early = refl
 abbrev pub earlyPool : Pool document01
 earlyPool = poolOf document01 2 sheet 3 1 (λ i. lent 31 88) early is-early
 
-ready-honest : Ready document01 earlyPool 78 honest 4 9 22 14
-unfolding everything isReady isEnded calls ones twos
-ready-honest = is-ready document01 earlyPool 78 honest 4 9 22 14 refl
+ready-honest : Ready document01 earlyPool 78 honest 4 9 (longs 78 honest) 22 14
+unfolding everything isReady doesBring isEnded calls ones twos
+ready-honest = is-ready document01 earlyPool 78 (longs 78 honest) honest 4 9 22 14 refl
 
-ready-false : Ready document01 earlyPool 78 false-return 3 9 22 14
-unfolding everything isReady isEnded calls ones twos
-ready-false = is-ready document01 earlyPool 78 false-return 3 9 22 14 refl
+ready-false : Ready document01 earlyPool 78 false-return 3 9 (longs 78 false-return) 22 14
+unfolding everything isReady doesBring isEnded calls ones twos
+ready-false = is-ready document01 earlyPool 78 (longs 78 false-return) false-return 3 9 22 14 refl
 
 -- they accept and enter a return that making wrote
 pub can-take : CanTake document01 earlyPool 78 4 9 22 14
@@ -208,9 +214,15 @@ can-take = record {
   enough-one = ready-honest .enough-one;
 }
 
-accepted-78 : MadeAccepted document01 earlyPool 78 valueBytes randomBytes 4 9 22 14
+made-78 : MadeBytes document01 sheet 2 78 valueBytes randomBytes
+made-78 = document01-made-run earlyPool .made sheet 2 78 valueBytes randomBytes 84 not-refused
+
+abbrev partAt-78 : ℕ → List ℕ
+partAt-78 = madePart document01 sheet 2 78 valueBytes randomBytes
+
+accepted-78 : MadeAccepted document01 earlyPool 78 readValues readRandom partAt-78 4 9 22 14
 accepted-78 =
-    document01-made-run earlyPool .accepted 78 valueBytes randomBytes 84 not-refused 4 9 22 14 can-take
+    document01-made-run earlyPool .accepted 78 readValues readRandom partAt-78 (made-78 .return) 4 9 22 14 can-take
 
 -- the answers of each server to the three calls, in short
 answered : (ℕ → List ℕ) → ℕ → ℕ → ℕ → List ℕ
@@ -220,12 +232,12 @@ answered shares r s i =
     ∷ bothRounds 78 (firsts document01 earlyPool 78 shares r s) (seconds document01 earlyPool 78 shares r s) 14))
 
 -- from what the pair says
-answers-are : (shares : ℕ → List ℕ) (r s : ℕ) → Ready document01 earlyPool 78 shares r s 22 14 → (b : Bool)
+answers-are : (shares : ℕ → List ℕ) (r s : ℕ) → Ready document01 earlyPool 78 shares r s (longs 78 shares) 22 14 → (b : Bool)
     → letsIn document01 (columnsOf sheet) 2 (λ j e. getD (shares j) e 0) r s ≡ b
     → (i : ℕ) → i < 2 → answered shares r s i ≡ 100 ∷ 100 ∷ cond b 200 300 ∷ []
 unfolding answered short
 answers-are shares r s ready b e i l =
-    ap (map short) (document01-whole-run earlyPool .handled 78 shares r s 22 14 ready i l _ _
+    ap (map short) (document01-whole-run earlyPool .handled 78 (longs 78 shares) shares r s 22 14 ready i l _ _
     (rearranged-refl (firsts document01 earlyPool 78 shares r s)) (rearranged-refl (seconds document01 earlyPool 78 shares r s)))
     ∙ ap (λ (v : Bool). 100 ∷ 100 ∷ cond v 200 300 ∷ []) e
 
@@ -244,9 +256,9 @@ handled-false = answers-are false-return 3 9 ready-false false kept-out
 -- and the honest one is entered
 entered-honest : (i : ℕ) → i < 2
     → map short (ledgerAnswers document01 (openedAt document01 earlyPool i) (ledgerAt document01 earlyPool i)
-    (share (madePart document01 sheet 2 78 valueBytes randomBytes i) 4 9 22
-    ∷ (bothRounds 78 (firsts document01 earlyPool 78 (shareMade document01 sheet 2 78 valueBytes randomBytes) 4 9)
-    (seconds document01 earlyPool 78 (shareMade document01 sheet 2 78 valueBytes randomBytes) 4 9) 14
+    (share (partAt-78 i) 4 9 22
+    ∷ (bothRounds 78 (firsts document01 earlyPool 78 (shareMade document01 sheet 2 78 readValues readRandom) 4 9)
+    (seconds document01 earlyPool 78 (shareMade document01 sheet 2 78 readValues readRandom) 4 9) 14
     ++ (enter 78 ∷ []))))
     ≡ 100 ∷ 100 ∷ 200 ∷ 400 ∷ []
 unfolding short

@@ -1,6 +1,6 @@
--- Tests that compute, for runs that are given: whether numbers make a pool, whether it meets the conditions of whole runs,
--- whether all servers have closed or stopped between verdict and entry, whether a return is delivered whole, whether servers are ready
--- for one. Each is proved to say what it tests. Assumes nothing.
+-- Tests that compute, for runs that are given: whether numbers make a pool, whether a message brings a share, whether a pool meets the
+-- conditions of whole runs, whether all servers have closed or stopped between verdict and entry, whether a return is delivered whole,
+-- whether servers are ready for one. Each is proved to say what it tests. Assumes nothing.
 use mathlib.Core.Path.{_≡_, refl, ap}
 use mathlib.Core.Logic.{_⊎_, ⊎-elim, inl, inr}
 use mathlib.Core.Bool.{Bool, true, false, not, _&&_, _||_, false≢true}
@@ -15,17 +15,18 @@ use Rattle.words.specs.Bytes.{allBelow, sameBytes}
 use Rattle.words.proofs.Below.{all-of-below}
 use Rattle.words.proofs.Same.{same-equal}
 use Rattle.rules.specs.Settings.{Setting}
+use Rattle.rules.specs.Columns.{Column}
 use Rattle.rules.specs.Values.{legalValues}
-use Rattle.rules.specs.Judging.{shareSize, allowedPair}
+use Rattle.rules.specs.Judging.{allowedPair}
 use Rattle.rules.specs.Making.{madeShare, randomCount}
-use Rattle.rules.specs.Messages.{serverIn, roundLength}
+use Rattle.rules.specs.Messages.{idIn, serverIn, shareIn, headerFault, elementsFault, roundLength}
 use Rattle.rules.specs.Server.{isMember, mostWaiting}
 use Rattle.rules.specs.Table.{Lent}
 use Rattle.rules.specs.Ledger.{Call, share, roundOne, roundTwo, enter, drop, close, Answer, refused, wrote, judged, done}
 use Rattle.rules.specs.Ledger.{Pending, isAccepted, Progress, isOpen, isClosed, waiting, empty, idsOf}
 use Rattle.rules.specs.Pools.{BytesIn, opensIn, Pool, columns, openedAt, ledgerAt, answersAt, acceptedAt, enteredAt, droppedAt}
 use Rattle.rules.specs.Pools.{handedIn, notesAt, noteUnder, Conditions, AllClosed}
-use Rattle.rules.specs.WholeRun.{Ready}
+use Rattle.rules.specs.WholeRun.{Brings, Ready}
 use Rattle.rules.specs.Resumed.{toEnter, Stopped}
 use Rattle.rules.specs.Made.{MadeOf}
 use Rattle.rules.proofs.Histories.Checks.{every-at}
@@ -105,6 +106,29 @@ module _ (σ : Setting) (servers : ℕ) (sheet : List ℕ) (returns least : ℕ)
       some-server = ltb-true 0 servers some-servers;
       opens = λ i l. eqb-true _ 0 (opens-is i l);
     }
+
+-- ---- a share message of either kind, and the share that it brings
+module _ (σ : Setting) (cs : List Column) (id i : ℕ) (m xs : List ℕ) where
+  abbrev noFault : Bool
+  noFault = eqb (headerFault σ cs i m) 0 && eqb (elementsFault σ cs m) 0
+
+  abbrev saysShare : Bool
+  saysShare = eqb (idIn m) id && sameBytes (shareIn σ cs m) xs
+
+  unfoldable pub doesBring : Bool
+  doesBring = noFault && saysShare
+
+  pub does-bring : doesBring ≡ true → Brings σ cs id i m xs
+  unfolding doesBring
+  does-bring e =
+      let sound : noFault ≡ true = and-left noFault saysShare e in
+      let says : saysShare ≡ true = and-right noFault saysShare e in
+      record {
+        named = λ fits. eqb-true _ _ (and-left (eqb (idIn m) id) (sameBytes (shareIn σ cs m) xs) says);
+        header = eqb-true _ _ (and-left (eqb (headerFault σ cs i m) 0) (eqb (elementsFault σ cs m) 0) sound);
+        elements = eqb-true _ _ (and-right (eqb (headerFault σ cs i m) 0) (eqb (elementsFault σ cs m) 0) sound);
+        says = same-equal _ _ (and-right (eqb (idIn m) id) (sameBytes (shareIn σ cs m) xs) says);
+      }
 
 -- ---- the conditions
 unfoldable pub hasWritten : List ℕ → List Answer → Bool
@@ -241,7 +265,7 @@ module _ (σ : Setting) (𝓟 : Pool σ) where
   is-open (isOpen ws) e = refl
   is-open isClosed e = absurd (false≢true e)
 
-  module _ (id : ℕ) (shares : ℕ → List ℕ) (r s room roundRoom : ℕ) where
+  module _ (id : ℕ) (messages shares : ℕ → List ℕ) (r s room roundRoom : ℕ) where
     abbrev waitingAt : ℕ → List Pending
     waitingAt i = waiting (ledgerAt σ 𝓟 i .progress)
 
@@ -256,7 +280,7 @@ module _ (σ : Setting) (𝓟 : Pool σ) where
     newAt i = not (isMember id (idsOf (notesAt σ 𝓟 i)))
 
     abbrev soundAt : ℕ → Bool
-    soundAt i = eqb (length (shares i)) (shareSize (columns σ 𝓟)) && allBelow (σ .modulus) (shares i)
+    soundAt i = doesBring σ (columns σ 𝓟) id i (messages i) (shares i)
 
     abbrev rooms : Bool
     rooms = leb (roundLength σ 34) room && leb (roundLength σ 35) roundRoom
@@ -270,7 +294,7 @@ module _ (σ : Setting) (𝓟 : Pool σ) where
     unfoldable pub isReady : Bool
     isReady = given && every readyAt (countFrom 0 (𝓟 .servers))
 
-    pub is-ready : isReady ≡ true → Ready σ 𝓟 id shares r s room roundRoom
+    pub is-ready : isReady ≡ true → Ready σ 𝓟 id shares r s messages room roundRoom
     unfolding isReady
     is-ready e =
         let rest : Bool = allowedPair σ (columns σ 𝓟) r s && rooms in
@@ -282,8 +306,6 @@ module _ (σ : Setting) (𝓟 : Pool σ) where
         let free : (i : ℕ) → i < 𝓟 .servers → freeAt i ≡ true = λ i l. and-left (freeAt i) _ (at i l) in
         let have : (i : ℕ) → i < 𝓟 .servers → roomAt i ≡ true =
         λ i l. and-right (not (isEnded (ledgerAt σ 𝓟 i .progress))) _ (free i l) in
-        let sound : (i : ℕ) → i < 𝓟 .servers → soundAt i ≡ true =
-        λ i l. and-right (newAt i) (soundAt i) (and-right (freeAt i) _ (at i l)) in
         record {
           waits = waitingAt;
           open-all = λ i l. is-open _ (and-left _ (roomAt i) (free i l));
@@ -292,9 +314,8 @@ module _ (σ : Setting) (𝓟 : Pool σ) where
           unused = λ i l. no-member-in id (idsOf (notesAt σ 𝓟 i))
               (not-true _ (and-left (newAt i) (soundAt i) (and-right (freeAt i) _ (at i l))));
           id-fits = ltb-true _ _ (and-left (ltb id 4294967296) rest g);
-          sized = λ i l. eqb-true _ _ (and-left _ (allBelow (σ .modulus) (shares i)) (sound i l));
-          below = λ i l. all-of-below (σ .modulus) (shares i)
-              (and-right (eqb (length (shares i)) (shareSize (columns σ 𝓟))) _ (sound i l));
+          sound = λ i l. does-bring σ (columns σ 𝓟) id i (messages i) (shares i)
+              (and-right (newAt i) (soundAt i) (and-right (freeAt i) _ (at i l)));
           pair = and-left (allowedPair σ (columns σ 𝓟) r s) rooms g₂;
           enough = leb-true _ _ (and-left (leb (roundLength σ 34) room) (leb (roundLength σ 35) roundRoom) g₃);
           enough-one = leb-true _ _ (and-right (leb (roundLength σ 34) room) (leb (roundLength σ 35) roundRoom) g₃);

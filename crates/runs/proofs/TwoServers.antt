@@ -41,8 +41,12 @@ module _ (servers : ℕ) (sheet : List ℕ) (returns : ℕ) where
       let joined = ones (countFrom 0 servers) id shares r s in
       flatten (map (λ i. messageTwo document01 (openedAs i) (summed document01 (openedAs i) (taken id shares r s i) joined)) order)
 
+-- the long message with each server's share
+abbrev pub longs : ℕ → (ℕ → List ℕ) → ℕ → List ℕ
+longs id shares i = shareMessage document01 id i (shares i)
+
 abbrev pub give : ℕ → (ℕ → List ℕ) → ℕ → ℕ → ℕ → Call
-give id shares r s i = share (shareMessage document01 id i (shares i)) r s 22
+give id shares r s i = share (longs id shares i) r s 22
 
 -- the answers in short: a refusal's number; 100 for a message; 200 for accepted, 300 for rejected; 400 for an entry or a drop
 unfoldable pub short : Answer → ℕ

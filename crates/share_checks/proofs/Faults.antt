@@ -13,11 +13,11 @@ use Rattle.records.specs.Outcome.{orElse}
 use Rattle.records.proofs.Outcome.{or-none, or-first, or-zero}
 use Rattle.slots.specs.declared.Slot.{Slot}
 use Rattle.rules.specs.Columns.{check}
-use Rattle.rules.specs.Messages.{idIn, elementsFault}
+use Rattle.rules.specs.Messages.{idIn, bringsSeed}
 use Rattle.rules.specs.Server.{isMember}
 use Rattle.rules.specs.WaitingList.{placeOf}
-use Rattle.share_message.specs.Shares.{headerFaultAt, sharePart}
-use Rattle.share_message.proofs.Shares.{part-sound}
+use Rattle.share_message.specs.Shares.{headerFaultAt, shareAt, sharePart}
+use Rattle.share_message.proofs.Shares.{part-sound, seed-passes, from-elements}
 use Rattle.steps.proofs.Parts.{span, check-holds}
 use Rattle.limits.specs.Sheets.{pairSound}
 use Rattle.layout.specs.Places.{idsAt}
@@ -59,17 +59,23 @@ module _ (size own : ℕ) (m : List ℕ) where
   message-header n = sym (or-first _ _ n)
 
   module _ (e : headerFaultAt size own m ≡ 0) where
-    message-rest : messageFault size own m ≡ cond (allBelow 2147483647 (elementsOf 4 (sharePart size own m))) 0 8
-    unfolding messageFault elementsFault
-    message-rest = rw (e, or-none, part-sound size own m e)
+    message-rest : messageFault size own m ≡ cond (allBelow 2147483647 (shareAt size m)) 0 8
+    unfolding messageFault
+    message-rest = rw (e, or-none)
 
-    -- x is the part behind the header
-    module _ (x : List ℕ) (ex : x ≡ sharePart size own m) where
+    pub message-seed : bringsSeed m ≡ true → 0 ≡ messageFault size own m
+    message-seed b = sym (message-rest ∙ rw (seed-passes size m b))
+
+    -- x is the part behind the header, which is elements
+    module _ (b : bringsSeed m ≡ false) (x : List ℕ) (ex : x ≡ sharePart size own m) where
+      elements-are : shareAt size m ≡ elementsOf 4 x
+      elements-are = rw (ex, part-sound size own m e) (from-elements size m b)
+
       pub message-sound : allBelow 2147483647 (elementsOf 4 x) ≡ true → 0 ≡ messageFault size own m
-      message-sound b = sym (message-rest ∙ rw (← ex, b))
+      message-sound h = sym (message-rest ∙ rw (elements-are, h))
 
       pub message-over : allBelow 2147483647 (elementsOf 4 x) ≡ false → 8 ≡ messageFault size own m
-      message-over b = sym (message-rest ∙ rw (← ex, b))
+      message-over h = sym (message-rest ∙ rw (elements-are, h))
 
 -- ---- the id, the pair and the room, as the code finds them
 module _ (T : List ℕ) (k : Table) (list : List Slot) (m : List ℕ) (r s room : ℕ) where

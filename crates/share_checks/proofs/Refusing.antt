@@ -23,7 +23,7 @@ use Rattle.rules.specs.Table.{stageByte, idsIn, decidedIn, stageIn, tableState,
 use Rattle.rules.specs.Messages.{idIn, elementsFault}
 use Rattle.rules.proofs.Waiting.Records.{count-waits, member-place}
 use Rattle.share_message.specs.Shares.{headerFaultAt}
-use Rattle.share_message.proofs.Shares.{header-fault, header-long}
+use Rattle.share_message.proofs.Shares.{header-fault, share-is, header-long}
 use Rattle.limits.specs.Sheets.{sizeOf, pairSound}
 use Rattle.layout.specs.Places.{idsAt}
 use Rattle.layout.specs.Numbers.{tableOf}
@@ -81,7 +81,8 @@ module _ (t : List ℕ) (list : List Slot) (m : List ℕ) (r s room : ℕ) where
         (member-place (columnsIn document01 t) id list es ∙ ap (ltb (placeOf id list)) e)
 
     refusal-at : Standing t (tableOf t) list → byRules ≡ inOrder (tableOf t)
-    unfolding shareRefusal tableState stageIn tableOf startFault messageFault lastFault idsPlace allowedPair pairSound shareSize
+    unfolding shareRefusal elementsFault tableState stageIn tableOf startFault messageFault lastFault idsPlace allowedPair pairSound
+        shareSize
     refusal-at h =
         let a = idsAt (tableOf t .sheet) (tableOf t .published) in
         let l : a + 4 * decidedIn document01 t ≤ length t = omega (arith, h .long, h .decided-few) in
@@ -92,6 +93,7 @@ module _ (t : List ℕ) (list : List Slot) (m : List ℕ) (r s room : ℕ) where
           count-waits (columnsIn document01 t) list es,
           n,
           header-fault (columnsIn document01 t) (ownIn document01 t) m,
+          share-is (columnsIn document01 t) m,
           taken-is (h .eight) (idIn m),
           or-assoc,
         )
@@ -116,5 +118,5 @@ module _ (t : List ℕ) (list : List Slot) (m : List ℕ) (r s room : ℕ) where
       unfolding messageFault
       fitting =
           let b = or-zero x y (sym en ∙ none) in
-          let f = or-zero (headerFaultAt z (k .own) m) (elementsFault document01 m) (sym ey ∙ b .1) in
-          record { table = h; long = rw ez at (header-long z (k .own) m (f .0)) }
+          let f = or-zero (headerFaultAt z (k .own) m) _ (sym ey ∙ b .1) in
+          record { table = h; header = omega (arith, header-long z (k .own) m (f .0)) }

@@ -6,16 +6,16 @@ use mathlib.Core.List.{List}
 use Prim.Native.Nat.{ℕ, _+_, _*_, _≤_}
 use lib.Dec.{eqb, ltb, leb}
 use lib.ListN.{length}
-use Rattle.words.specs.Bytes.{part, elementsOf}
+use Rattle.words.specs.Bytes.{part, elementsOf, allBelow}
 use Rattle.records.specs.Outcome.{orElse}
 use Rattle.slots.specs.declared.Slot.{Slot}
 use Rattle.rules.specs.Settings.{document01}
 use Rattle.rules.specs.Columns.{check}
-use Rattle.rules.specs.Messages.{idIn, elementsFault, roundLength}
+use Rattle.rules.specs.Messages.{idIn, roundLength}
 use Rattle.rules.specs.Server.{isMember}
 use Rattle.rules.specs.WaitingList.{placeOf, waitingCount}
-use Rattle.share_message.specs.Shares.{headerFaultAt}
-use Rattle.limits.specs.Sheets.{sizeOf, pairSound}
+use Rattle.share_message.specs.Shares.{headerFaultAt, shareAt}
+use Rattle.limits.specs.Sheets.{pairSound}
 use Rattle.layout.specs.Places.{idsAt}
 use Rattle.layout.specs.Numbers.{tableOf, Limited}
 use Rattle.layout.specs.declared.Table.{Table}
@@ -28,7 +28,7 @@ startFault k waiting =
 
 -- "7, 8": a share of `size` elements
 unfoldable pub messageFault : ℕ → ℕ → List ℕ → ℕ
-messageFault size own m = orElse (headerFaultAt size own m) (elementsFault document01 m)
+messageFault size own m = orElse (headerFaultAt size own m) (check (allBelow 2147483647 (shareAt size m)) 8)
 
 -- an id that is decided, or waits
 unfoldable pub isTaken : List ℕ → Table → List Slot → ℕ → Bool
@@ -49,7 +49,7 @@ pub record Standing (t : List ℕ) (k : Table) (list : List Slot) : Type 0 where
   pub eight : length list ≡ 8
   pub decided-few : k .decided + waitingCount list ≤ k .returns
 
--- a message that has the length of a share for the table
+-- a message that has a header, for the table
 pub record Fitting (t : List ℕ) (k : Table) (list : List Slot) (m : List ℕ) : Type 0 where
   pub table : Standing t k list
-  pub long : length m ≡ 6 + 4 * sizeOf (k .entries) (k .gates)
+  pub header : 6 ≤ length m

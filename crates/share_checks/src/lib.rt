@@ -35,7 +35,8 @@ fn start_refusal(k: Table, waiting: u32) -> u32
     13
 }
 
-// The refusal by the message of a share of `size` elements, whose bytes are x: 7 by its header, 8 by an element, 0 for none.
+// The refusal by the message of a share of `size` elements, of which x are the element bytes or the seed: 7 by its header, 8 by an
+// element, 0 for none. The elements of a seed are below p.
 fn message_refusal(m: &[u8], x: &[u8], size: usize, own: u32) -> u32
     requires { ⌜ (size ≤ 774) × (now x ≡ sharePart size own (now m)) ⌝ }
     ensures { λ n. ⌜ n ≡ messageFault size own (now (m .entry)) ⌝ }
@@ -43,6 +44,9 @@ fn message_refusal(m: &[u8], x: &[u8], size: usize, own: u32) -> u32
     let refusal = share_message::header_refusal(m, size, own);
     if refusal != 0 {
         return refusal;
+    }
+    if share_message::brings_seed(m) {
+        return 0;
     }
     if elements::below(x, field::P) {
         return 0;
@@ -74,8 +78,8 @@ fn last_refusal(t: &[u8], k: Table, list: [Slot; 8], m: &[u8], r: u64, s: u64, r
     0
 }
 
-// The refusal of a share, of which x are the element bytes, by a sound table, 0 for none: 11, 13, 7, 8, 10, 9, 14. It is the same
-// whatever the run of numbers holds.
+// The refusal of a share, of which x are the element bytes or the seed, by a sound table, 0 for none: 11, 13, 7, 8, 10, 9, 14. It is
+// the same whatever the run of numbers holds.
 pub fn share_refusal(
     t: &[u8],
     k: Table,

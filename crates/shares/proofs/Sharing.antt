@@ -1,14 +1,14 @@
 -- A share: refused where the table is unsound or a check refuses, which leaves all as it was (`refused-as`), else taken
 -- (`share-done`). One that no check refuses keeps to the limits that taking asks for, and a record is free for it, since fewer
 -- than eight wait (`takable`). Assumes nothing.
-use mathlib.Core.Path.{_≡_, sym, ap, _∙_}
+use mathlib.Core.Path.{_≡_, sym, _∙_}
 use mathlib.Core.Bool.{true, not}
 use mathlib.Core.List.{List}
-use Prim.Native.Nat.{ℕ, _+_, _*_, _≤_, _<_}
+use Prim.Native.Nat.{ℕ, _≤_, _<_}
 use native.Mathlib.Omega.{arith}
 use borrow.Author.Tests.{ne-eqb, leb-true}
 use lib.Dec.{leb}
-use lib.ListN.{length, drop, length-drop}
+use lib.ListN.{length}
 use Rattle.words.specs.Bytes.{allBelow}
 use Rattle.records.specs.Answers.{onlyIf, ifDone}
 use Rattle.records.proofs.Outcome.{or-none, or-first, or-zero}
@@ -16,12 +16,12 @@ use Rattle.slots.specs.Slots.{applied}
 use Rattle.slots.specs.declared.Change.{Change}
 use Rattle.rules.specs.Settings.{document01}
 use Rattle.rules.specs.Columns.{Column, check}
-use Rattle.rules.specs.Messages.{idIn, elementsIn, elementsFault, roundLength}
+use Rattle.rules.specs.Messages.{idIn, roundLength}
 use Rattle.rules.specs.Server.{shareRefusal}
 use Rattle.rules.specs.WaitingList.{stageOne, freePlace, waitingCount, slotOf, numbersOf, putNumbers}
 use Rattle.rules.specs.Table.{Lent, columnsAt, tableState, shareTaken, shareRefused, shareTable}
 use Rattle.rules.proofs.Waiting.Records.{free-place}
-use Rattle.share_message.specs.Shares.{headerFaultAt, sharePart}
+use Rattle.share_message.specs.Shares.{headerFaultAt, shareAt, sharePart}
 use Rattle.share_message.proofs.Shares.{header-long, part-sound}
 use Rattle.steps.proofs.Parts.{check-holds}
 use Rattle.limits.specs.Sheets.{sizeOf, pairSound}
@@ -86,7 +86,7 @@ module _ (T : Lent) (m : List ℕ) (r s : ℕ) (out : List ℕ) (written : ℕ) 
       -- each of the checks holds
       checks : (waitingCount (T .slots) < 8)
           × (headerFaultAt size (k .own) m ≡ 0)
-          × (elementsFault document01 m ≡ 0)
+          × (check (allBelow 2147483647 (shareAt size m)) 8 ≡ 0)
           × (lastFault (T .bytes) k (T .slots) m r s (length out) ≡ 0)
       unfolding messageFault
       checks =
@@ -94,7 +94,7 @@ module _ (T : Lent) (m : List ℕ) (r s : ℕ) (out : List ℕ) (written : ℕ) 
           let z = sym (refusal-in-order (T .bytes) (T .slots) m r s (length out) (T .elements) k (standing T k h)) ∙ sym e ∙ none in
           let a = or-zero (startFault k (waitingCount (T .slots))) _ z in
           let b = or-zero (messageFault size (k .own) m) last (a .1) in
-          let c = or-zero (headerFaultAt size (k .own) m) (elementsFault document01 m) (b .0) in
+          let c = or-zero (headerFaultAt size (k .own) m) (check (allBelow 2147483647 (shareAt size m)) 8) (b .0) in
           (start-few k (waitingCount (T .slots)) (a .0), c .0, c .1, b .1)
 
       -- a record is free
@@ -113,18 +113,17 @@ module _ (T : Lent) (m : List ℕ) (r s : ℕ) (out : List ℕ) (written : ℕ) 
 
       -- x is the part that the check of the header hands back
       pub takable : (x : List ℕ) → x ≡ sharePart size (k .own) m → Takable T k m x r s × (roundLength document01 34 ≤ length out)
-      unfolding elementsFault
       takable x ex =
-          let f = pair-below (k .gates) r s (last-holds .0) in
-          let q : x ≡ drop 6 m = ex ∙ part-sound size (k .own) m (checks .1) in
-          let l : length m ≡ 6 + 4 * size = header-long size (k .own) m (checks .1) in (
+          let f = pair-below (k .gates) r s (last-holds .0) in (
             record {
               table = h;
               free = free;
-              header = omega arith;
-              part = q;
-              long = ap length q ∙ length-drop 6 m ∙ omega arith;
-              elements = rw q (check-holds (allBelow 2147483647 (elementsIn document01 m)) 7 (checks .2));
+              brought = record {
+                size-most = omega (arith, h .limited);
+                long = header-long size (k .own) m (checks .1);
+                part = ex ∙ part-sound size (k .own) m (checks .1);
+              };
+              elements = check-holds (allBelow 2147483647 (shareAt size m)) 7 (checks .2);
               r-below = f .0;
               s-below = f .1;
             },

@@ -5,26 +5,29 @@ use mathlib.Core.Path.{_≡_, refl, sym, ap, _∙_}
 use mathlib.Core.List.{List, [], _∷_, _++_}
 use Prim.Native.Nat.{ℕ, _+_, _-_, _*_}
 use native.Mathlib.Omega.{arith}
-use lib.ListN.{take, drop}
-use Rattle.words.specs.Bytes.{splice, elementsOf}
+use lib.ListN.{length, take, drop}
+use Rattle.words.specs.Bytes.{splice}
 use Rattle.words.proofs.Loops.{grow}
 use Rattle.slots.specs.declared.Slot.{Slot}
 use Rattle.slots.specs.declared.Change.{Change}
 use Rattle.rules.specs.Settings.{document01}
 use Rattle.rules.specs.Judging.{shareSize}
 use Rattle.rules.specs.Making.{message}
-use Rattle.rules.specs.Messages.{idIn, elementsIn}
+use Rattle.rules.specs.Messages.{idIn, shareIn}
 use Rattle.rules.specs.Server.{waitingOf, messageOne}
 use Rattle.rules.specs.WaitingList.{stageOne, freePlace, slotOf, numbersOf, putNumbers}
 use Rattle.rules.specs.Table.{Lent, columnsAt, shareTaken, shareBytes}
+use Rattle.share_message.specs.Shares.{shareAt}
+use Rattle.share_message.proofs.Shares.{share-is}
 use Rattle.snip.specs.Judged.{judgedOf}
 use Rattle.snip.specs.declared.judging.Judged.{Judged}
+use Rattle.limits.specs.Sheets.{sizeOf}
 use Rattle.layout.specs.Places.{placeSizeOf}
 use Rattle.layout.specs.Numbers.{tableOf}
 use Rattle.layout.specs.declared.Table.{Table}
 use Rattle.waiting.specs.Changes.{recordsAt}
 use Rattle.shares.specs.Taking.{Takable, Takes}
-use Rattle.shares.proofs.Working.{Place, elements-long, within, place-reads}
+use Rattle.shares.proofs.Working.{Place, within, brought-long, place-reads}
 
 -- the record of the return, and the numbers of its place, with what was worked out
 abbrev pub slotWith : ℕ → ℕ → ℕ → Judged → Slot
@@ -39,8 +42,12 @@ messageWith id own r s j = message document01 34 id own (j .d ∷ j .e ∷ r ∷
 
 -- what rules write, by the numbers of code
 module _ (T : Lent) (m : List ℕ) (r s : ℕ) where
+  -- the elements that the message brings
+  abbrev brought : List ℕ
+  brought = shareIn document01 (columnsAt document01 T) m
+
   abbrev noted : Table → Judged
-  noted k = judgedOf (columnsAt document01 T) (k .own) (elementsIn document01 m) r s
+  noted k = judgedOf (columnsAt document01 T) (k .own) brought r s
 
   abbrev k₀ : Table
   k₀ = tableOf (T .bytes)
@@ -50,7 +57,7 @@ module _ (T : Lent) (m : List ℕ) (r s : ℕ) where
   record-at = refl
 
   numbers-at : splice (T .elements) (placeSizeOf (k₀ .entries) (k₀ .gates) * freePlace (T .slots))
-      (numbersWith (elementsIn document01 m) (noted k₀))
+      (numbersWith brought (noted k₀))
       ≡ putNumbers (columnsAt document01 T) (T .elements) (freePlace (T .slots))
       (numbersOf (shareTaken document01 T m r s))
   unfolding waitingOf tableOf shareSize
@@ -62,10 +69,14 @@ module _ (T : Lent) (m : List ℕ) (r s : ℕ) where
 
 -- what the code writes: es are the numbers once the elements are read, es' at the end
 module _ (T : Lent) (k : Table) (m x : List ℕ) (r s : ℕ) (h : Takable T k m x r s) {i z n : ℕ} (q : Place T k m x r s h i z n)
-    (id : ℕ) (ei : id ≡ idIn m) (es : List ℕ) (e : es ≡ splice (T .elements) (z * i) (elementsOf 4 x)) (j : Judged)
+    (id : ℕ) (ei : id ≡ idIn m) (es : List ℕ) (e : es ≡ splice (T .elements) (z * i) (shareAt n m)) (j : Judged)
     (ej : j ≡ judgedOf (columnsAt document01 T) (k .own) (take (z * i + n - z * i) (drop (z * i) es)) r s) where
+  brought-is : shareAt (sizeOf (k .entries) (k .gates)) m ≡ brought T m r s
+  unfolding tableOf shareSize
+  brought-is = rw (h .table .says) (sym (share-is (columnsAt document01 T) m))
+
   judged-is : j ≡ noted T m r s k
-  judged-is = rw (place-reads T k m x r s h q es e, h .part) at ej
+  judged-is = rw (place-reads T k m x r s h q es e, brought-is) at ej
 
   record-written : recordsAt i (slotWith id r s j)
       ≡ recordsAt (freePlace (T .slots)) (slotOf stageOne (shareTaken document01 T m r s))
@@ -76,10 +87,10 @@ module _ (T : Lent) (k : Table) (m x : List ℕ) (r s : ℕ) (h : Takable T k m 
       ≡ putNumbers (columnsAt document01 T) (T .elements) (freePlace (T .slots))
       (numbersOf (shareTaken document01 T m r s))
   numbers-written =
-      let l = elements-long T k m x r s h ∙ sym (q .size-is) in
+      let l : length (shareAt n m) ≡ n = brought-long T k m x r s h q in
       ap (λ (u : List ℕ). splice u (z * i + n) (j .rh ∷ j .tau ∷ [])) e
-      ∙ grow (T .elements) (z * i) (elementsOf 4 x) (j .rh ∷ j .tau ∷ []) n l (omega (arith, within T k m x r s h q))
-      ∙ rw (q .place-is, q .record-is, h .part, judged-is, h .table .says) (numbers-at T m r s)
+      ∙ grow (T .elements) (z * i) (shareAt n m) (j .rh ∷ j .tau ∷ []) n l (omega (arith, within T k m x r s h q))
+      ∙ rw (q .place-is, q .record-is, q .size-is, brought-is, judged-is, h .table .says) (numbers-at T m r s)
 
   message-written : messageWith id (k .own) r s j ≡ shareBytes document01 T m r s
   message-written = rw (ei, judged-is, h .table .says) (message-at T m r s)

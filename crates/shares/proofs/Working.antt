@@ -1,16 +1,14 @@
 -- What is worked out from a share that is taken: the sheet that the code cuts out of a table is read, and with the elements of a
 -- share it is what judging asks for (`the-share`). The place of a free record lies within the run of numbers (`within`), so the
 -- elements that were read into it are those of the message (`judgeable`). Assumes nothing.
-use mathlib.Core.Path.{_≡_, refl, sym, ap, _∙_}
+use mathlib.Core.Path.{_≡_, refl, ap, _∙_}
 use mathlib.Core.List.{List}
-use Prim.Native.Nat.{ℕ, _+_, _-_, _*_, _/_, _≤_}
-use native.Mathlib.Nat.{mul-le-mul, mul-div-right}
+use Prim.Native.Nat.{ℕ, _+_, _-_, _*_, _≤_}
+use native.Mathlib.Nat.{mul-le-mul}
 use native.Mathlib.Omega.{arith}
-use lib.Dec.{lit<}
 use lib.ListN.{length, take, drop}
-use Rattle.words.specs.Bytes.{part, splice, elementsOf}
+use Rattle.words.specs.Bytes.{part, splice}
 use Rattle.words.proofs.Below.{all-of-below}
-use Rattle.words.proofs.Elements.{length-elements}
 use Rattle.words.proofs.Splice.{part-splice}
 use Rattle.records.specs.Outcome.{ok}
 use Rattle.rules.specs.Settings.{document01}
@@ -18,6 +16,8 @@ use Rattle.rules.specs.Columns.{readSheet, columnsOf}
 use Rattle.rules.specs.Judging.{shareSize}
 use Rattle.rules.specs.WaitingList.{freePlace}
 use Rattle.rules.specs.Table.{headerLength, Lent, sheetIn, columnsIn}
+use Rattle.share_message.specs.Shares.{shareAt}
+use Rattle.share_message.proofs.Shares.{share-long}
 use Rattle.snip.specs.declared.judging.Shape.{Shape}
 use Rattle.snip.specs.Judged.{Share, shapeOf, judgedOf}
 use Rattle.steps.proofs.Parts.{span}
@@ -29,7 +29,7 @@ use Rattle.waiting.proofs.Places.{place-within}
 use Rattle.table.specs.Reading.{Headed}
 use Rattle.table.proofs.Answers.{headed-of}
 use Rattle.table.proofs.Judged.{cut-reads}
-use Rattle.shares.specs.Taking.{Judgeable, Takable}
+use Rattle.shares.specs.Taking.{Judgeable, Brought, Takable}
 
 -- ---- the sheet
 -- the sheet as the code cuts it out
@@ -77,10 +77,9 @@ module _ (T : Lent) (k : Table) (m x : List ℕ) (r s : ℕ) (h : Takable T k m 
     pub place-is : z ≡ placeSizeOf (k .entries) (k .gates)
     pub size-is : n ≡ sizeOf (k .entries) (k .gates)
 
-  -- the elements that the message says
-  pub elements-long : length (elementsOf 4 x) ≡ sizeOf (k .entries) (k .gates)
-  elements-long =
-      length-elements 4 x ∙ ap (λ (l : ℕ). l / 4) (h .long) ∙ mul-div-right (sizeOf (k .entries) (k .gates)) (lit< tt)
+  -- the elements that the message brings
+  elements-long : length (shareAt (sizeOf (k .entries) (k .gates)) m) ≡ sizeOf (k .entries) (k .gates)
+  elements-long = share-long (sizeOf (k .entries) (k .gates)) m (h .brought .long)
 
   module _ {i z n : ℕ} (q : Place i z n) where
     pub within : z * i + n + 2 ≤ length (T .elements)
@@ -96,13 +95,18 @@ module _ (T : Lent) (k : Table) (m x : List ℕ) (r s : ℕ) (h : Takable T k m 
         let l : z * i ≤ 776 * 8 = mul-le-mul a b in
         omega (arith, l, a, q .place-is, q .size-is)
 
+    pub brought : Brought n m x
+    brought = rw (q .size-is) (h .brought)
+
+    pub brought-long : length (shareAt n m) ≡ n
+    brought-long = rw (q .size-is) elements-long
+
     -- the elements, read into the place
-    module _ (es : List ℕ) (e : es ≡ splice (T .elements) (z * i) (elementsOf 4 x)) where
-      pub place-reads : take (z * i + n - z * i) (drop (z * i) es) ≡ elementsOf 4 x
+    module _ (es : List ℕ) (e : es ≡ splice (T .elements) (z * i) (shareAt n m)) where
+      pub place-reads : take (z * i + n - z * i) (drop (z * i) es) ≡ shareAt (sizeOf (k .entries) (k .gates)) m
       place-reads =
-          let l : length (elementsOf 4 x) ≡ n = elements-long ∙ sym (q .size-is) in
-          let f : z * i + length (elementsOf 4 x) ≤ length (T .elements) = omega (arith, within, l) in
-          rw (span (z * i) n es, e) (part-splice (T .elements) (z * i) (elementsOf 4 x) f n l)
+          let f : z * i + length (shareAt n m) ≤ length (T .elements) = omega (arith, within, brought-long) in
+          rw (span (z * i) n es, e, ← q .size-is) (part-splice (T .elements) (z * i) (shareAt n m) f n brought-long)
 
       pub judgeable : Judgeable (T .bytes) k (take (z * i + n - z * i) (drop (z * i) es)) r s
       judgeable =

@@ -3,13 +3,14 @@
 use mathlib.Core.Path.{_≡_}
 use mathlib.Core.Bool.{true}
 use mathlib.Core.List.{List}
-use Prim.Native.Nat.{ℕ, _*_, _≤_, _<_}
+use Prim.Native.Nat.{ℕ, _+_, _≤_, _<_}
 use lib.ListN.{length, drop}
-use Rattle.words.specs.Bytes.{splice, elementsOf, allBelow}
+use Rattle.words.specs.Bytes.{splice, allBelow}
 use Rattle.slots.specs.declared.Change.{Change}
 use Rattle.rules.specs.Settings.{document01}
 use Rattle.rules.specs.WaitingList.{stageOne, freePlace, slotOf, numbersOf, putNumbers}
 use Rattle.rules.specs.Table.{Lent, columnsAt, shareTaken, shareBytes}
+use Rattle.share_message.specs.Shares.{restSize, shareAt}
 use Rattle.limits.specs.Sheets.{sizeOf}
 use Rattle.layout.specs.declared.Table.{Table}
 use Rattle.waiting.specs.Changes.{recordsAt}
@@ -23,14 +24,18 @@ pub record Judgeable (t : List ℕ) (k : Table) (xs : List ℕ) (r s : ℕ) : Ty
   pub r-below : r < 2147483647
   pub s-below : s < 2147483647
 
--- a share m that is not refused: x is what stands behind its header
+-- a share m of `size` elements, whose header is sound: x is what stands behind it
+pub record Brought (size : ℕ) (m x : List ℕ) : Type 0 where
+  pub size-most : size ≤ 774
+  pub long : length m ≡ 6 + restSize size m
+  pub part : x ≡ drop 6 m
+
+-- a share m that is not refused
 pub record Takable (T : Lent) (k : Table) (m x : List ℕ) (r s : ℕ) : Type 0 where
   pub table : Sound T k
   pub free : freePlace (T .slots) < 8
-  pub header : 6 ≤ length m
-  pub part : x ≡ drop 6 m
-  pub long : length x ≡ 4 * sizeOf (k .entries) (k .gates)
-  pub elements : allBelow 2147483647 (elementsOf 4 x) ≡ true
+  pub brought : Brought (sizeOf (k .entries) (k .gates)) m x
+  pub elements : allBelow 2147483647 (shareAt (sizeOf (k .entries) (k .gates)) m) ≡ true
   pub r-below : r < 2147483647
   pub s-below : s < 2147483647
 

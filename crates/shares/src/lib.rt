@@ -1,15 +1,17 @@
 // Taking a share. The definitions that the contracts cite are those of the crate rules, at document 01's setting, and
 // of specs/. A refusal leaves the table and the buffer as they were.
 ghost use mathlib.Core.Path.{_≡_};
-ghost use Prim.Native.Nat.{_≤_};
+ghost use Prim.Native.Nat.{_+_, _≤_};
 ghost use lib.ListN.{length};
+ghost use Rattle.words.specs.Bytes.{splice};
 ghost use Rattle.rules.specs.Settings.{document01};
 ghost use Rattle.rules.specs.Messages.{roundLength};
 ghost use Rattle.rules.specs.Table.{columnsIn};
+ghost use Rattle.share_message.specs.Shares.{shareAt};
 ghost use Rattle.snip.specs.Judged.{judgedOf};
 ghost use Rattle.waiting.specs.Changes.{lent};
 ghost use Rattle.shares.specs.Calls.{Shares};
-ghost use Rattle.shares.specs.Taking.{Judgeable, Takable, Takes};
+ghost use Rattle.shares.specs.Taking.{Judgeable, Brought, Takable, Takes};
 use layout::Table;
 use layout::places::sheet_part;
 use round_message::LENGTH_ONE;
@@ -40,8 +42,23 @@ fn judged(t: &[u8], k: Table, xs: &[u32], r: u32, s: u32) -> Judged
     judge(sheet_part(t, k.sheet), shape, k.own, xs, r, s)
 }
 
-// Takes a share m, of which x are the element bytes, that is not refused: it waits for round one in the first free record, its
-// elements stand in the numbers of that place, with r h(r) and tau behind them, and the message of round one is written.
+// Reads the elements that the message m of a share of `size` elements brings into the numbers from `start`: x are their bytes, or the
+// seed.
+fn read_brought(numbers: &mut [u32], start: usize, m: &[u8], x: &[u8], size: usize)
+    requires { ⌜ Brought size (now m) (now x) × (start + size ≤ length (now numbers)) ⌝ }
+    ensures { λ _. ⌜ now (numbers .exit) ≡ splice (now (numbers .entry)) start (shareAt size (now (m .entry))) ⌝ }
+{
+    if share_message::brings_seed(m) {
+        let end = start + size;
+        let id = share_message::id_of(m);
+        seeds::fill_elements(x, id, &mut numbers[start..end]);
+        return;
+    }
+    read_share(numbers, start, x, size);
+}
+
+// Takes a share m, of which x are the element bytes or the seed, that is not refused: it waits for round one in the first free record,
+// its elements stand in the numbers of that place, with r h(r) and tau behind them, and the message of round one is written.
 fn take(
     table: &[u8],
     list: [Slot; 8],
@@ -61,7 +78,7 @@ fn take(
     let size = k.share_size();
     let start = k.place_size() * at;
     let end = start + size;
-    read_share(numbers, start, x, size);
+    read_brought(numbers, start, m, x, size);
     let j = judged(table, k, &numbers[start..end], r as u32, s as u32);
     write_last(numbers, end, j.rh, j.tau);
     let id = share_message::id_of(m);

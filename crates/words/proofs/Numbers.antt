@@ -26,6 +26,12 @@ unfolding bytesOf
 length-bytes zero v = refl
 length-bytes (suc n) v = ap suc (length-bytes n (v / 256))
 
+-- each is a byte
+pub bytes-below : (n v : ℕ) → All (λ b. b < 256) (bytesOf n v)
+unfolding bytesOf
+bytes-below zero v = all[]
+bytes-below (suc n) v = all∷ (mod-lt v (lit< tt)) (bytes-below n (v / 256))
+
 weigh : (b m q r x y : ℕ) → m * q + r ≡ y → b * m * q + (x + b * r) ≡ b * y + x
 weigh b m q r x y h = rw (← h, mul-add, mul-assoc) (omega arith)
 

@@ -6,10 +6,11 @@ use native.Mathlib.Omega.{arith}
 use Rattle.rules.specs.Columns.{columnsOf}
 use Rattle.rules.specs.Judging.{shareSize}
 use Rattle.sheet.proofs.Answers.{reading-refused, reading-counts}
-use Rattle.client.specs.Pieces.{Counted, Makeable}
-use Rattle.client.proofs.Room.{room, messages-small}
+use Rattle.whole.specs.Pieces.{Counted}
+use Rattle.whole.proofs.Room.{room}
+use Rattle.client.specs.Pieces.{Makeable}
 use Rattle.client.proofs.Given.{sized}
-use Rattle.client.proofs.Refusals.{refused-sheet, makeable, made-refused, made-done}
+use Rattle.client.proofs.Refusals.{refused-sheet, makeable, messages-small, made-refused, made-done}
 use borrow.Author.Needs.{needs}
 use Rattle.client.proofs.make.Statement.{statement}
 use Rattle.client.proofs.make.Tie as tie

@@ -1,58 +1,44 @@
 -- `client::make_refusal` meets its contract: each answer is that of the first check that fails (`Refusals`).
 -- Assumes nothing.
-use mathlib.Core.Path.{_≡_, sym, _∙_, ap, ap₂}
+use mathlib.Core.Path.{_≡_, sym, _∙_, ap}
 use Prim.Native.Nat.{ℕ, _≤_}
 use native.Mathlib.Omega.{arith}
-use Rattle.records.specs.Outcome.{orElse}
-use Rattle.rules.specs.Columns.{columnsOf, serversFault}
+use Rattle.rules.specs.Columns.{columnsOf}
 use Rattle.rules.specs.Judging.{shareSize}
-use Rattle.rules.specs.Making.{valuesFault}
+use Rattle.whole.proofs.Room.{room}
+use Rattle.whole.proofs.Refusals.{earlyFault, within-limits}
 use Rattle.client.specs.Pieces.{randomFaultAt}
-use Rattle.client.proofs.Room.{room, messages-small}
-use Rattle.client.proofs.Refusals.{refused-early, within-limits, refused-random, refused-room, not-refused}
+use Rattle.client.proofs.Refusals.{refused-early, refused-random, refused-room, not-refused, messages-small}
 use borrow.Author.Needs.{needs}
 use Rattle.client.proofs.make_refusal.Statement.{statement}
 use Rattle.client.proofs.make_refusal.Tie as tie
 
+early-refusal-requires : tie.Need-early-refusal-requires
+early-refusal-requires c κs = search needs
+
 -- the function's entry
-abbrev start : tie.After-or-else → tie.Start
-start c = c .before .before .before .before .before .before
+abbrev start : tie.After-early-refusal → tie.Start
+start c = c .before .before .before .before
 
--- S and the values
-early-is : (c : tie.After-or-else)
-    → let a = start c .args in
-    c .or-else .result ≡ orElse (serversFault (a .servers)) (valuesFault (columnsOf (a .sheet .now)) (a .values .now))
-early-is c = c .or-else .ensures ∙ ap₂ orElse (c .before .before .servers-refusal .ensures) (c .before .values-refusal .ensures)
-
+-- S and the values are not refused
 none-early : (c : tie.After-share-size)
     → let a = start (c .before .before) .args in
-    orElse (serversFault (a .servers)) (valuesFault (columnsOf (a .sheet .now)) (a .values .now)) ≡ 0
-none-early c = sym (early-is (c .before .before)) ∙ c .before .if1 .left
-
-servers-refusal-requires : tie.Need-servers-refusal-requires
-servers-refusal-requires c κs = search needs
-
-values-refusal-requires : tie.Need-values-refusal-requires
-values-refusal-requires c κs =
-    let p = c .before .before .before .before .pre in
-    record { is-read = p .is-read; columns-are = room p .columns-are }
-
-or-else-requires : tie.Need-or-else-requires
-or-else-requires c κs = search needs
+    earlyFault (a .sheet .now) (a .values .now) (a .servers) ≡ 0
+none-early c = sym (c .before .before .early-refusal .ensures) ∙ c .before .if1 .left
 
 returns : tie.Need-returns
 returns c =
-    let e = early-is (c .before) in
-    e ∙ sym (refused-early _ _ _ _ _ (c .before .before .before .before .before .before .before .pre .is-read) (λ z. c .if1 .taken (e ∙ z)))
+    let e = c .before .early-refusal .ensures in
+    e ∙ sym (refused-early _ _ _ _ _ (start (c .before) .pre .is-read) (λ z. c .if1 .taken (e ∙ z)))
 
 share-size-requires : tie.Need-share-size-requires
 share-size-requires c κs =
-    let m = room (c .before .before .before .before .before .before .before .pre) in
+    let m = room (start (c .before) .pre) in
     (m .entries-few, m .gates-few)
 
 random-refusal-requires : tie.Need-random-refusal-requires
 random-refusal-requires c κs =
-    let m = room (c .before .before .before .before .before .before .before .before .pre) in
+    let m = room (start (c .before .before) .pre) in
     let e = c .share-size .ensures in
     let l = within-limits _ _ (none-early c) in
     record { some = l .0; few = l .1; small = omega (arith, e, m .size-is, m .size-small) }
@@ -106,9 +92,7 @@ pub make-refusal-spec : {M : Type 1} → statement M
 make-refusal-spec =
     tie.close
     (tie.spec
-    servers-refusal-requires
-    values-refusal-requires
-    or-else-requires
+    early-refusal-requires
     returns
     share-size-requires
     random-refusal-requires

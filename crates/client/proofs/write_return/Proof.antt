@@ -9,7 +9,7 @@ use Rattle.words.specs.Bytes.{elementsOf}
 use Rattle.rules.specs.Columns.{columnsOf}
 use Rattle.rules.specs.Judging.{shareSize}
 use Rattle.rules.specs.Making.{makeBytes}
-use Rattle.client.proofs.Room.{room}
+use Rattle.whole.proofs.Room.{room}
 use Rattle.client.proofs.Given.{sized, fillable, one-fits, first-asks, others-ask, all-bytes}
 use Rattle.client.proofs.Messages.{return-written}
 use borrow.Author.Needs.{needs}

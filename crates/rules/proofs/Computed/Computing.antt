@@ -44,6 +44,10 @@ use Rattle.rules.specs.Circuit.{constantsOf, addsOf, scalesOf, constants
 use Rattle.rules.specs.Table.{openRefusal, openBytes, shareRefused, shareTable, shareBytes, oneRefused, oneTable}
 use Rattle.rules.specs.Table.{oneBytes, decidedBytes, decidedTable, addedTotals, addedBytes, twoRefused, twoVerdict}
 use Rattle.rules.specs.Table.{acceptedTable, twoTable, enterRefused, enterTable, dropRefused, dropTable, closeRefused, closeTable, closeBytes}
+use Rattle.chacha.proofs.Computing.{chacha20}
+use Rattle.rules.specs.Seeds.{seedMessage, nonceOf, elementOf, seedElements, expanded, seedsFault, seededLength}
+use Rattle.rules.specs.Seeds.{makeSeededRefusal, makeSeededBytes}
+use Rattle.rules.specs.Messages.{bringsSeed, shareIn, kindSound}
 use Rattle.rules.specs.Line.{determinant, slope, intercept, isZero, isPoint, namesPoint, lineSums, lineRefusal}
 use Rattle.rules.specs.Line.{sumsOf}
 use Rattle.rules.specs.Joining.{totalsSound, joinedFault, joinRefusal, joinCount, joinTotals, joinBytes}
@@ -148,7 +152,12 @@ unfoldable pub part21 : Unit {0}
 unfolding find without changed those firstWhere waitingCount waitingAt waitAs waitAt recordsFrom present recordSound recordsSound
 part21 = tt
 
+unfoldable pub part22 : Unit {0}
+unfolding chacha20 seedMessage nonceOf elementOf seedElements expanded seedsFault seededLength makeSeededRefusal makeSeededBytes
+    bringsSeed shareIn kindSound
+part22 = tt
+
 unfoldable pub everything : Unit {0}
 unfolding part0 part1 part2 part3 part4 part5 part6 part7 part8 part9 part10 part11 part12 part13 part14 part15 part16 part17 part18
-    part19 part20 part21
+    part19 part20 part21 part22
 everything = tt

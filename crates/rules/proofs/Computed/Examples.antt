@@ -6,6 +6,7 @@ use Rattle.rules.specs.Examples.{marked, unmarked, circuits, taus}
 use Rattle.rules.specs.CallExamples.{sizes, shelves, smallSheets}
 use Rattle.rules.specs.TopExamples.{tops}
 use Rattle.rules.specs.PointExamples.{points, lines}
+use Rattle.rules.specs.SeedExamples.{seeds}
 use Rattle.rules.proofs.Computed.Computing.{everything}
 
 pub marked-hold : every (λ row. row .holds) marked ≡ true
@@ -47,3 +48,7 @@ points-hold = refl
 pub lines-hold : every (λ row. row .holds) lines ≡ true
 unfolding everything lines
 lines-hold = refl
+
+pub seeds-hold : every (λ row. row .holds) seeds ≡ true
+unfolding everything seeds
+seeds-hold = refl

@@ -13,4 +13,5 @@ document01-facts = record {
   apart = lit< tt;
   totals-fits = lit< tt;
   table-fits = lit< tt;
+  stream-word = lit< tt;
 }

@@ -10,10 +10,10 @@ use lib.Seq.{take-at, drop-append-add, drop-drop, ext-getD}
 use Rattle.algebra.specs.Lists.{All, all[], all∷, countFrom}
 use Rattle.algebra.proofs.Members.{map-all, all-map, in-all, in-count, length-count, getD-count}
 use Rattle.words.specs.Bytes.{valueOf, bytesOf, bytesOfAll, part, elementsOf}
-use Rattle.words.proofs.Numbers.{length-bytes, value-bytes}
+use Rattle.words.proofs.Numbers.{length-bytes, bytes-below, value-bytes, bytes-value}
 use Rattle.words.proofs.Elements.{length-bytes-all, elements-bytes}
 use Rattle.rules.specs.Settings.{Setting, Facts}
-use Rattle.rules.specs.Making.{message}
+use Rattle.rules.specs.Making.{headed, message}
 use Rattle.rules.specs.Messages.{kindIn, idIn, serverIn, elementsIn, oneByOne}
 
 -- ---- an element has a byte, and fits its bytes
@@ -25,14 +25,38 @@ module _ (σ : Setting) (facts : Facts σ) where
   pub width-positive : 0 < σ .width
   width-positive = power-above (σ .width) (σ .modulus) (facts .large) (facts .fits)
 
--- ---- a message: kind, id, server, elements
+-- ---- a message: kind, id, server, and what it brings
+module _ (kind id server : ℕ) (bytes : List ℕ) where
+  pub length-headed : length (headed kind id server bytes) ≡ 6 + length bytes
+  unfolding bytesOf
+  length-headed = omega arith
+
+  id-bytes : part 1 4 (headed kind id server bytes) ≡ bytesOf 4 id
+  id-bytes = take-at (bytesOf 4 id) (server ∷ bytes) 4 (length-bytes 4 id)
+
+  pub id-headed : id < 4294967296 → idIn (headed kind id server bytes) ≡ id
+  id-headed h = ap valueOf id-bytes ∙ value-bytes 4 id h
+
+  -- the id's bytes, whether or not it fits them
+  pub id-again : bytesOf 4 (idIn (headed kind id server bytes)) ≡ bytesOf 4 id
+  id-again = ap (λ (v : List ℕ). bytesOf 4 (valueOf v)) id-bytes ∙ bytes-value 4 (bytesOf 4 id) (length-bytes 4 id) (bytes-below 4 id)
+
+  pub server-headed : serverIn (headed kind id server bytes) ≡ server
+  unfolding bytesOf
+  server-headed = refl
+
+  pub behind-header : drop 6 (headed kind id server bytes) ≡ bytes
+  unfolding bytesOf
+  behind-header = refl
+
+-- whose bytes are elements
 module _ (σ : Setting) (kind id server : ℕ) (xs : List ℕ) where
   abbrev written : List ℕ
   written = message σ kind id server xs
 
   pub length-message : length written ≡ 6 + σ .width * length xs
-  unfolding message bytesOf
-  length-message = simp length-bytes-all (omega arith)
+  unfolding message
+  length-message = length-headed kind id server (bytesOfAll (σ .width) xs) ∙ ap (λ n. 6 + n) (length-bytes-all (σ .width) xs)
 
   pub kind-read : kindIn written ≡ kind
   unfolding message
@@ -40,16 +64,15 @@ module _ (σ : Setting) (kind id server : ℕ) (xs : List ℕ) where
 
   pub id-read : id < 4294967296 → idIn written ≡ id
   unfolding message
-  id-read h =
-      ap valueOf (take-at (bytesOf 4 id) (server ∷ bytesOfAll (σ .width) xs) 4 (length-bytes 4 id)) ∙ value-bytes 4 id h
+  id-read = id-headed kind id server (bytesOfAll (σ .width) xs)
 
   pub server-read : serverIn written ≡ server
-  unfolding message bytesOf
-  server-read = refl
+  unfolding message
+  server-read = server-headed kind id server (bytesOfAll (σ .width) xs)
 
   elements-behind : drop 6 written ≡ bytesOfAll (σ .width) xs
-  unfolding message bytesOf
-  elements-behind = refl
+  unfolding message
+  elements-behind = behind-header kind id server (bytesOfAll (σ .width) xs)
 
   pub elements-read : Facts σ → All (λ x. x < σ .modulus) xs → elementsIn σ written ≡ xs
   elements-read facts below =

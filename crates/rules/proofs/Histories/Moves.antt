@@ -23,7 +23,7 @@ use Rattle.rules.specs.Settings.{Setting}
 use Rattle.rules.specs.Columns.{check}
 use Rattle.rules.specs.Judging.{allowedPair}
 use Rattle.rules.specs.Making.{shareLength}
-use Rattle.rules.specs.Messages.{kindIn, idIn, serverIn, elementsIn, roundLength, headerFault, elementsFault, roundFault}
+use Rattle.rules.specs.Messages.{idIn, serverIn, shareIn, kindSound, roundLength, headerFault, elementsFault, roundFault}
 use Rattle.rules.specs.Messages.{challengeFault, firstSum, secondSum, bothZero}
 use Rattle.rules.specs.Keyed.{find, without, changed}
 use Rattle.rules.specs.Server.{Opened, Waiting, Wait, heldId, mostWaiting, waitingOf, isMember, messageOne, messageTwo, withSums}
@@ -35,6 +35,7 @@ use Rattle.rules.specs.Ledger.{Decision, entered, rejected, dropped, Dec
 use Rattle.rules.specs.Ledger.{closingMessage, noted, noteOf}
 use Rattle.rules.specs.Ledger.{ledgerWait, ledgerStage, ledgerState, refusalOf, decideAs, sumsNoted, acceptNoted, ledgerAfter}
 use Rattle.rules.specs.Ledger.{secondAnswer, secondMessage, answerOf, ledgerStep, ledgerSays, runLedger, ledgerAnswers}
+use Rattle.rules.proofs.Histories.ShareMessages.{kind-long}
 use Rattle.rules.specs.Pools.{BytesIn, messagesIn, callMessages, handedIn}
 use Rattle.rules.proofs.Histories.Keyed.{no-member-in, through, find-map}
 use Rattle.rules.proofs.Histories.Checks.{check-passed}
@@ -129,21 +130,21 @@ module _ (σ : Setting) (o : Opened) where
       let ts : List Wait = map (ledgerWait σ o) ws in
       let used : List ℕ = idsOf (notesOf ds) in
       let all : List ℕ = used ++ map heldId ts in
-      let fit : Bool = eqb (length m) (shareLength σ cs) in
-      let kind : Bool = eqb (kindIn m) 33 && eqb (serverIn m) (o .own) in
+      let fit : Bool = kindSound σ cs (o .own) m in
+      let kind : Bool = eqb (serverIn m) (o .own) in
       let k₆ : ℕ = check (leb (roundLength σ 34) room) 14 in
       let k₅ : ℕ = orElse (check (allowedPair σ cs r s) 9) k₆ in
       let k₄ : ℕ = orElse (check (not (isMember (idIn m) all)) 10) k₅ in
-      let k₃ : ℕ = orElse (elementsFault σ m) k₄ in
+      let k₃ : ℕ = orElse (elementsFault σ cs m) k₄ in
       let k₂ : ℕ = orElse (headerFault σ cs (o .own) m) k₃ in
       let k₁ : ℕ = orElse (check (ltb (length used + length ts) (o .returns)) 13) k₂ in
       let e₀ = or-zero (check (ltb (length ts) mostWaiting) 11) k₁ e in
       let e₁ = or-zero (check (ltb (length used + length ts) (o .returns)) 13) k₂ (e₀ .1) in
       let e₂ = or-zero (headerFault σ cs (o .own) m) k₃ (e₁ .1) in
-      let e₃ = or-zero (elementsFault σ m) k₄ (e₂ .1) in
+      let e₃ = or-zero (elementsFault σ cs m) k₄ (e₂ .1) in
       let e₄ = or-zero (check (not (isMember (idIn m) all)) 10) k₅ (e₃ .1) in
       let e₅ = or-zero (check (allowedPair σ cs r s) 9) k₆ (e₄ .1) in
-      let long : length m ≡ shareLength σ cs = eqb-true _ _ (and-left fit kind (check-passed (fit && kind) 6 (e₂ .0))) in
+      let long : 6 ≤ length m = kind-long σ cs (o .own) m (and-left fit kind (check-passed (fit && kind) 6 (e₂ .0))) in
       let few : length ts < mostWaiting = ltb-true _ _ (check-passed (ltb (length ts) mostWaiting) 10 (e₀ .0)) in
       let less : length used + length ts < o .returns =
       ltb-true _ _ (check-passed (ltb (length used + length ts) (o .returns)) 12 (e₁ .0)) in
@@ -155,8 +156,8 @@ module _ (σ : Setting) (o : Opened) where
             (subst (λ (v : List ℕ). In (idIn m) v) (sym (all-ids ws ds)) h);
         id-fits = value-below 4 (part 1 4 m) four (all-take _ 4 (all-drop _ 1 bytes));
         pair = check-passed (allowedPair σ cs r s) 8 (e₅ .0);
-        below = all-of-below (σ .modulus) (elementsIn σ m)
-            (check-passed (allBelow (σ .modulus) (elementsIn σ m)) 7 (e₃ .0));
+        below = all-of-below (σ .modulus) (shareIn σ cs m)
+            (check-passed (allBelow (σ .modulus) (shareIn σ cs m)) 7 (e₃ .0));
       }
 
   -- a call that names an id, by what is found under it

@@ -1,29 +1,26 @@
--- A return whose messages are those that making wrote, each taken at its server, is delivered whole: a share that is taken
--- stays noted to the end, ids in a ledger differ, and each part of making's bytes is read back as the share. Servers with
+-- A return whose messages bring the shares of making, each taken at its server, is delivered whole: a share that is taken
+-- stays noted to the end, ids in a ledger differ, and each message is read back as the share. Servers with
 -- room take such messages and accept: the shares are sound, and every allowed pair lets them in. Assumes nothing.
 use mathlib.Core.Path.{_≡_, refl, sym, ap, _∙_, subst}
 use mathlib.Core.Logic.{inl, inr}
 use mathlib.Core.Bool.{true}
-use mathlib.Core.List.{List, [], _∷_, _++_, map}
+use mathlib.Core.List.{List, _∷_, map}
 use Prim.Native.Nat.{ℕ, _<_}
 use lib.ListN.{getD}
 use Rattle.algebra.specs.Lists.{All, all∷, In}
 use Rattle.algebra.proofs.Members.{all-right, append-in}
-use Rattle.words.specs.Bytes.{elementsOf}
 use Rattle.words.proofs.Below.{all-of-below}
 use Rattle.rules.specs.Settings.{Setting, Facts}
 use Rattle.rules.specs.Judging.{letsIn}
-use Rattle.rules.specs.Making.{makeRefusal}
 use Rattle.rules.specs.Server.{Opened}
-use Rattle.rules.specs.Ledger.{Call, share, enter, Note, waitsOne, noteIn, isOpen, waiting, Ledger}
+use Rattle.rules.specs.Ledger.{Call, share, Note, waitsOne, noteIn, isOpen, waiting, Ledger}
 use Rattle.rules.specs.Ledger.{empty, notesOf}
-use Rattle.rules.specs.Ledger.{noteOf, refusalOf, ledgerAfter, ledgerStep, runLedger, ledgerAnswers}
-use Rattle.rules.specs.Pools.{BytesIn, Pool, columns, openedAt, ledgerAt, notesIn, notesAt}
-use Rattle.rules.specs.WholeRun.{Ready, bothRounds}
-use Rattle.rules.specs.Made.{madePart, shareMade, MadeReturn, NotedFrom, Took, MadeOf, CanTake, MadeAccepted}
-use Rattle.rules.proofs.Returns.Shares.{Made, made}
+use Rattle.rules.specs.Ledger.{noteOf, refusalOf, ledgerAfter, ledgerStep, runLedger}
+use Rattle.rules.specs.Pools.{BytesIn, Pool, columns, openedAt, notesIn, notesAt}
+use Rattle.rules.specs.WholeRun.{Ready}
+use Rattle.rules.specs.Made.{shareMade, MadeReturn, ReadBack, NotedFrom, Took, MadeOf, CanTake, MadeAccepted}
 use Rattle.rules.proofs.Returns.OnSheets.{sheet-honest-let-in}
-use Rattle.rules.proofs.Returns.MadeMessages.{Makes, makes, made-return}
+use Rattle.rules.proofs.Returns.MadeMessages.{read-back}
 use Rattle.rules.proofs.Histories.Moves.{history, at}
 use Rattle.rules.proofs.Histories.Answers.{run-append}
 use Rattle.rules.proofs.Histories.NotesGrow.{keeps-notes}
@@ -69,53 +66,38 @@ module _ (σ : Setting) (𝓟 : Pool σ) where
       behind (all∷ b bs) = bs
 
 -- ---- a return that making wrote
-module _ (σ : Setting) (facts : Facts σ) (𝓟 : Pool σ) (id : ℕ) (values random : List ℕ) (room : ℕ)
-    (done : makeRefusal σ (𝓟 .sheet) (𝓟 .servers) values random room ≡ 0) where
-  abbrev message : ℕ → List ℕ
-  message = madePart σ (𝓟 .sheet) (𝓟 .servers) id values random
+module _ (σ : Setting) (facts : Facts σ) (𝓟 : Pool σ) (id : ℕ) (vs zs : List ℕ) (messages : ℕ → List ℕ)
+    (m : MadeReturn σ (𝓟 .sheet) (𝓟 .servers) id vs zs messages) where
+  sound : ReadBack σ (𝓟 .sheet) (𝓟 .servers) id vs zs messages
+  sound = read-back σ facts (𝓟 .sheet) (𝓟 .servers) id vs zs messages m
 
-  known : Makes σ (𝓟 .sheet) (𝓟 .servers) values random
-  known = makes σ facts (𝓟 .sheet) (𝓟 .servers) values random room done
-
-  whole-of : MadeReturn σ (𝓟 .sheet) (𝓟 .servers) id values random
-  whole-of = made-return σ facts (𝓟 .sheet) (𝓟 .servers) values random id known
-
-  -- where each server's ledger has noted what its part says
-  pub noted-whole : id < 4294967296 → ((i : ℕ) → i < 𝓟 .servers → NotedFrom σ 𝓟 i (message i))
-      → MadeOf σ 𝓟 id (elementsOf 4 values)
+  -- where each server's ledger has noted what its message says
+  pub noted-whole : id < 4294967296 → ((i : ℕ) → i < 𝓟 .servers → NotedFrom σ 𝓟 i (messages i)) → MadeOf σ 𝓟 id vs
   noted-whole fits noted = (
     record {
-      values = elementsOf 4 values;
-      random = elementsOf (σ .width) random;
-      legal = known .legal;
-      enough = known .enough;
-      below = known .below;
+      values = vs;
+      random = zs;
+      legal = m .legal;
+      enough = m .enough;
+      below = m .below;
       noted = λ i l.
-          ap (λ (n : Note). n .elements) (found σ 𝓟 id i l _ (noted i l .2) (whole-of .id-is fits i l))
-          ∙ whole-of .share-is i l;
+          ap (λ (n : Note). n .elements) (found σ 𝓟 id i l _ (noted i l .2) (sound .brings i l .named fits))
+          ∙ sound .brings i l .says;
     },
     refl,
   )
 
-  -- where each server took its part
-  pub taken-whole : id < 4294967296 → ((i : ℕ) → i < 𝓟 .servers → Took σ 𝓟 i (message i))
-      → MadeOf σ 𝓟 id (elementsOf 4 values)
+  -- where each server took its message
+  pub taken-whole : id < 4294967296 → ((i : ℕ) → i < 𝓟 .servers → Took σ 𝓟 i (messages i)) → MadeOf σ 𝓟 id vs
   taken-whole fits took =
-      noted-whole fits (λ i l. (took i l .r, took i l .s, took-noted σ 𝓟 i l (message i) (took i l)))
+      noted-whole fits (λ i l. (took i l .r, took i l .s, took-noted σ 𝓟 i l (messages i) (took i l)))
 
   -- where the servers can take it
   module _ (r s lent roundLent : ℕ) (free : CanTake σ 𝓟 id r s lent roundLent) where
     abbrev shares : ℕ → List ℕ
-    shares = shareMade σ (𝓟 .sheet) (𝓟 .servers) id values random
+    shares = shareMade σ (𝓟 .sheet) (𝓟 .servers) id vs zs
 
-    drawn : All (λ z. z < σ .modulus) (elementsOf (σ .width) random)
-    drawn = all-of-below (σ .modulus) (elementsOf (σ .width) random) (known .below)
-
-    sound : Made σ (columns σ 𝓟) (𝓟 .servers) (elementsOf 4 values) (elementsOf (σ .width) random)
-    sound =
-        made σ facts (columns σ 𝓟) (𝓟 .servers) (elementsOf 4 values) (elementsOf (σ .width) random) (𝓟 .some-server) drawn
-
-    pub made-ready : Ready σ 𝓟 id shares r s lent roundLent
+    made-ready : Ready σ 𝓟 id shares r s messages lent roundLent
     made-ready = record {
       waits = free .waits;
       open-all = free .open-all;
@@ -123,8 +105,7 @@ module _ (σ : Setting) (facts : Facts σ) (𝓟 : Pool σ) (id : ℕ) (values r
       fewer = free .fewer;
       unused = free .unused;
       id-fits = free .id-fits;
-      sized = λ i l. sound .share-length i;
-      below = λ i l. sound .share-below i;
+      sound = sound .brings;
       pair = free .pair;
       enough = free .enough;
       enough-one = free .enough-one;
@@ -132,12 +113,8 @@ module _ (σ : Setting) (facts : Facts σ) (𝓟 : Pool σ) (id : ℕ) (values r
 
     let-in : letsIn σ (columns σ 𝓟) (𝓟 .servers) (λ j e. getD (shares j) e 0) r s ≡ true
     let-in =
-        sheet-honest-let-in σ facts (𝓟 .sheet) (columns σ 𝓟) (is-read σ 𝓟) (𝓟 .servers) (𝓟 .some-server)
-        (elementsOf 4 values) (elementsOf (σ .width) random) (known .legal) drawn r s (free .pair)
+        sheet-honest-let-in σ facts (𝓟 .sheet) (columns σ 𝓟) (is-read σ 𝓟) (𝓟 .servers) (𝓟 .some-server) vs zs (m .legal)
+        (all-of-below (σ .modulus) zs (m .below)) r s (free .pair)
 
-    pub made-accepted : MadeAccepted σ 𝓟 id values random r s lent roundLent
-    made-accepted i l ones twos p q =
-        let o = openedAt σ 𝓟 i in
-        ap (λ (m : List ℕ). ledgerAnswers σ o (ledgerAt σ 𝓟 i) (share m r s lent ∷ (bothRounds id ones twos roundLent ++ (enter id ∷ []))))
-        (whole-of .message-is i l)
-        ∙ entered-alone σ facts 𝓟 id shares r s lent roundLent made-ready ones twos p q i l let-in
+    pub made-accepted : MadeAccepted σ 𝓟 id vs zs messages r s lent roundLent
+    made-accepted i l ones twos p q = entered-alone σ facts 𝓟 id messages shares r s lent roundLent made-ready ones twos p q i l let-in

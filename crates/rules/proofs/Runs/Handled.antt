@@ -17,7 +17,6 @@ use Rattle.algebra.proofs.Rearrangement.{rearranged-refl}
 use Rattle.records.specs.Outcome.{orElse}
 use Rattle.rules.specs.Settings.{Setting, Facts}
 use Rattle.rules.specs.Judging.{firstOnly, sigmaOf, dSum, eSum, sigmaSum, tauSum, letsIn}
-use Rattle.rules.specs.Making.{shareMessage}
 use Rattle.rules.specs.Messages.{elementIn, challengeFault, elementSum, firstSum, secondSum, bothZero}
 use Rattle.rules.specs.Keyed.{find, changed, those}
 use Rattle.rules.specs.Server.{Opened, Waiting, waitingOf, withSums, sigmaIn, messageOne, messageTwo, summed}
@@ -30,7 +29,6 @@ use Rattle.rules.specs.Ledger.{ledgerAnswers, ledgerSays, ledgerStep}
 use Rattle.rules.specs.Mixing.{on, answersTo}
 use Rattle.rules.specs.Pools.{Pool, columns, openedAt, ledgerAt}
 use Rattle.rules.specs.WholeRun.{firstWait, firsts, secondWait, seconds, bothRounds, Ready}
-use Rattle.rules.proofs.Histories.MessageBytes.{id-read}
 use Rattle.rules.proofs.Histories.Challenges.{alike}
 use Rattle.rules.proofs.Histories.WrittenRuns.{Written, written}
 use Rattle.rules.proofs.Histories.OwnMessages.{pair-below, sigma-below, d-below, e-below, tau-below}
@@ -41,8 +39,8 @@ use Rattle.rules.proofs.Runs.SoundShare.{notes-are, TakenShare, share-t
 use Rattle.rules.proofs.Runs.Refusing.{accepted-enter}
 use Rattle.rules.proofs.Runs.Holding.{Holds, holds, none-on, all-on, first-on}
 
-module _ (σ : Setting) (facts : Facts σ) (𝓟 : Pool σ) (id : ℕ) (shares : ℕ → List ℕ) (r s room roundRoom : ℕ)
-    (ready : Ready σ 𝓟 id shares r s room roundRoom) where
+module _ (σ : Setting) (facts : Facts σ) (𝓟 : Pool σ) (id : ℕ) (messages shares : ℕ → List ℕ) (r s room roundRoom : ℕ)
+    (ready : Ready σ 𝓟 id shares r s messages room roundRoom) where
   abbrev o : ℕ → Opened
   o i = openedAt σ 𝓟 i
 
@@ -114,7 +112,7 @@ module _ (σ : Setting) (facts : Facts σ) (𝓟 : Pool σ) (id : ℕ) (shares :
 
   -- ---- the share
   abbrev first : ℕ → Call
-  first i = share (shareMessage σ id i (shares i)) r s room
+  first i = share (messages i) r s room
 
   begun : (i : ℕ) → i < S → TakenShare σ (o i) (ledgerAt σ 𝓟 i) (first i) (note i)
   begun i l =
@@ -124,8 +122,8 @@ module _ (σ : Setting) (facts : Facts σ) (𝓟 : Pool σ) (id : ℕ) (shares :
       let unused : In id (idsOf (notesOf ds ++ map noteIn ws)) → ⊥ =
       λ h. ready .unused i l (subst (λ (v : List Note). In id (idsOf v)) (sym (notes-are (ledgerAt σ 𝓟 i) ws (ready .open-all i l))) h) in
       subst (λ (v : Ledger). TakenShare σ (o i) v (first i) (note i)) start
-      (share-taken σ (o i) facts ws ds id (shares i) r s room (ready .below-eight i l) (ready .fewer i l) unused
-      (ready .id-fits) (ready .sized i l) (ready .below i l) (ready .pair) (ready .enough))
+      (share-taken σ (o i) ws ds id (messages i) (shares i) r s room (ready .below-eight i l) (ready .fewer i l) unused
+      (ready .id-fits) (ready .sound i l) (ready .pair) (ready .enough))
 
   -- ---- both rounds, where the return waits
   module _ (ones twos : List (List ℕ)) (first-order : Rearranged ones ones₀) (second-order : Rearranged twos twos₀) where
@@ -179,7 +177,7 @@ module _ (σ : Setting) (facts : Facts σ) (𝓟 : Pool σ) (id : ℕ) (shares :
 
     module _ (i : ℕ) (l : i < S) where
       named : on id (first i) ≡ true
-      named = eq-eqb _ _ (id-read σ 33 id i (shares i) (ready .id-fits))
+      named = eq-eqb _ _ (ready .sound i l .named (ready .id-fits))
 
       abbrev first₂ : Pending
       first₂ = waitsTwo (note i) d₀ e₀
@@ -208,7 +206,7 @@ module _ (σ : Setting) (facts : Facts σ) (𝓟 : Pool σ) (id : ℕ) (shares :
 
         -- with other calls mixed in once the share is taken
         whole-return : (more : List Call) → those (on id) more ≡ one ∷ two ∷ rest
-            → answersTo σ (o i) id (ledgerAt σ 𝓟 i) (share (shareMessage σ id i (shares i)) r s room ∷ more)
+            → answersTo σ (o i) id (ledgerAt σ 𝓟 i) (share (messages i) r s room ∷ more)
             ≡ wrote (messageOne σ (o i) (wait i)) ∷ wrote (messageTwo σ (o i) (wait₂ i)) ∷ judged (letsIn σ (columns σ 𝓟) S x r s) ∷ xs
         unfolding answersTo
         whole-return more q =
@@ -246,13 +244,13 @@ module _ (σ : Setting) (facts : Facts σ) (𝓟 : Pool σ) (id : ℕ) (shares :
 
       -- 8, with other calls mixed in
       pub handled-mixed : (more : List Call) → those (on id) more ≡ bothRounds id ones twos roundRoom
-          → answersTo σ (o i) id (ledgerAt σ 𝓟 i) (share (shareMessage σ id i (shares i)) r s room ∷ more)
+          → answersTo σ (o i) id (ledgerAt σ 𝓟 i) (share (messages i) r s room ∷ more)
           ≡ wrote (messageOne σ (o i) (wait i)) ∷ wrote (messageTwo σ (o i) (wait₂ i)) ∷ judged (letsIn σ (columns σ 𝓟) S x r s) ∷ []
       handled-mixed = whole-return [] [] no-more
 
       pub handled-entered : letsIn σ (columns σ 𝓟) S x r s ≡ true → (more : List Call)
           → those (on id) more ≡ bothRounds id ones twos roundRoom ++ (enter id ∷ [])
-          → answersTo σ (o i) id (ledgerAt σ 𝓟 i) (share (shareMessage σ id i (shares i)) r s room ∷ more)
+          → answersTo σ (o i) id (ledgerAt σ 𝓟 i) (share (messages i) r s room ∷ more)
           ≡ wrote (messageOne σ (o i) (wait i)) ∷ wrote (messageTwo σ (o i) (wait₂ i)) ∷ judged true ∷ done ∷ []
       handled-entered lets more q =
           whole-return (enter id ∷ []) (done ∷ []) (entry lets) more q

@@ -57,7 +57,7 @@ module _ (σ : Setting) (o : Opened) (ws : List Pending) (ds : List Decided) whe
 
   -- "An id that waits is refused 10", and so is one that was decided
   pub again : length ws < mostWaiting → length ds + length ws < o .returns → (m : List ℕ) (r s room : ℕ)
-      → headerFault σ (o .columns) (o .own) m ≡ 0 → elementsFault σ m ≡ 0
+      → headerFault σ (o .columns) (o .own) m ≡ 0 → elementsFault σ (o .columns) m ≡ 0
       → In (idIn m) (idsOf (notesOf ds ++ map noteIn ws)) → refusalOf σ o (at (isOpen ws) ds) (share m r s room) ≡ 10
   unfolding refusalOf ledgerState ledgerStage shareRefusal whileOpen orElse
   again h e m r s room a b k =

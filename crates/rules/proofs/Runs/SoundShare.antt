@@ -1,27 +1,24 @@
--- A sound share handed to a ledger that has room is taken and noted: each check is met by what the message was written with.
+-- A sound share handed to a ledger that has room is taken and noted: each check is met by what the message says.
 -- Assumes nothing.
 use mathlib.Core.Path.{_≡_, ap, ap₂, _∙_}
 use mathlib.Core.Bool.{true, false}
 use mathlib.Core.List.{List, _∷_, _++_, map}
-use Prim.Native.Nat.{ℕ, _+_, _*_, _≤_, _<_}
+use Prim.Native.Nat.{ℕ, _+_, _≤_, _<_}
 use native.Mathlib.Omega.{arith}
-use borrow.Author.Tests.{eq-eqb, lt-ltb, le-leb}
-use lib.Dec.{eqb, ltb}
+use borrow.Author.Tests.{lt-ltb, le-leb}
+use lib.Dec.{ltb}
 use lib.ListN.{length}
-use Rattle.algebra.specs.Lists.{All, In}
-use Rattle.words.specs.Bytes.{allBelow}
-use Rattle.words.proofs.Below.{below-of-all}
+use Rattle.algebra.specs.Lists.{In}
 use Rattle.records.specs.Outcome.{orElse}
-use Rattle.rules.specs.Settings.{Setting, Facts}
-use Rattle.rules.specs.Judging.{shareSize, allowedPair}
-use Rattle.rules.specs.Making.{shareMessage, shareLength}
-use Rattle.rules.specs.Messages.{kindIn, idIn, serverIn, elementsIn, roundLength, headerFault, elementsFault}
+use Rattle.rules.specs.Settings.{Setting}
+use Rattle.rules.specs.Judging.{allowedPair}
+use Rattle.rules.specs.Messages.{idIn, roundLength}
 use Rattle.rules.specs.Server.{Opened, Wait, heldId, mostWaiting, isMember, messageOne, shareRefusal, whileOpen}
 use Rattle.rules.specs.Ledger.{Call, share, wrote, Note, Pending, waitsOne, noteIn, Progress, isOpen, waiting, Decided, Ledger}
 use Rattle.rules.specs.Ledger.{idsOf, notesOf, noted, noteOf, ledgerWait, ledgerStage, ledgerState, refusalOf, ledgerAfter}
 use Rattle.rules.specs.Ledger.{answerOf}
 use Rattle.rules.specs.Pools.{notesIn}
-use Rattle.rules.proofs.Histories.MessageBytes.{length-message, kind-read, id-read, server-read, elements-read}
+use Rattle.rules.specs.WholeRun.{Brings}
 use Rattle.rules.proofs.Histories.Keyed.{not-in-member}
 use Rattle.rules.proofs.Histories.Moves.{at, many-used, many-told, all-ids}
 
@@ -38,49 +35,31 @@ module _ (σ : Setting) (o : Opened) where
     pub leaves : ledgerAfter σ o l c ≡ at (isOpen (waitsOne n ∷ waiting (l .progress))) (l .decided)
 
   -- a sound share is
-  module _ (facts : Facts σ) (ws : List Pending) (ds : List Decided) (id : ℕ) (xs : List ℕ) (r s room : ℕ)
+  module _ (ws : List Pending) (ds : List Decided) (id : ℕ) (m xs : List ℕ) (r s room : ℕ)
       (below-eight : length ws < mostWaiting) (fewer : length ds + length ws < o .returns)
       (unused : In id (idsOf (notesOf ds ++ map noteIn ws)) → ⊥) (id-fits : id < 4294967296)
-      (sized : length xs ≡ shareSize (o .columns)) (below : All (λ x. x < σ .modulus) xs)
+      (sound : Brings σ (o .columns) id (o .own) m xs)
       (pair : allowedPair σ (o .columns) r s ≡ true) (enough : roundLength σ 34 ≤ room) where
-    abbrev sent : List ℕ
-    sent = shareMessage σ id (o .own) xs
-
-    long : length sent ≡ shareLength σ (o .columns)
-    unfolding shareLength
-    long = length-message σ 33 id (o .own) xs ∙ ap (λ k. 6 + σ .width * k) sized
-
-    share-passes : refusalOf σ o (at (isOpen ws) ds) (share sent r s room) ≡ 0
-    unfolding refusalOf ledgerState ledgerStage shareRefusal whileOpen headerFault elementsFault orElse
+    share-passes : refusalOf σ o (at (isOpen ws) ds) (share m r s room) ≡ 0
+    unfolding refusalOf ledgerState ledgerStage shareRefusal whileOpen orElse
     share-passes =
         let ts : List Wait = map (ledgerWait σ o) ws in
         let used : List ℕ = idsOf (notesOf ds) in
         let e₀ : ltb (length ts) mostWaiting ≡ true = lt-ltb (length ts) mostWaiting (omega (arith, many-told σ o ws)) in
         let e₁ : ltb (length used + length ts) (o .returns) ≡ true =
         lt-ltb (length used + length ts) (o .returns) (omega (arith, many-told σ o ws, many-used ds)) in
-        let e₂ : eqb (length sent) (shareLength σ (o .columns)) ≡ true = eq-eqb _ _ long in
-        let e₃ : eqb (kindIn sent) 33 ≡ true = eq-eqb _ _ (kind-read σ 33 id (o .own) xs) in
-        let e₄ : eqb (serverIn sent) (o .own) ≡ true = eq-eqb _ _ (server-read σ 33 id (o .own) xs) in
-        let e₅ : allBelow (σ .modulus) (elementsIn σ sent) ≡ true =
-        ap (allBelow (σ .modulus)) (elements-read σ 33 id (o .own) xs facts below) ∙ below-of-all (σ .modulus) xs below in
-        let e₆ : isMember (idIn sent) (used ++ map heldId ts) ≡ false =
-        ap₂ isMember (id-read σ 33 id (o .own) xs id-fits) (all-ids σ o ws ds)
-        ∙ not-in-member id (idsOf (notesOf ds ++ map noteIn ws)) unused in
-        rw (e₀, e₁, e₂, e₃, e₄, e₅, e₆, pair, le-leb _ _ enough)
+        let e₂ : isMember (idIn m) (used ++ map heldId ts) ≡ false =
+        ap₂ isMember (sound .named id-fits) (all-ids σ o ws ds) ∙ not-in-member id (idsOf (notesOf ds ++ map noteIn ws)) unused in
+        rw (e₀, e₁, sound .header, sound .elements, e₂, pair, le-leb _ _ enough)
 
     -- what is noted of it
     abbrev sentNote : Note
     sentNote = record { id = id; elements = xs; r = r; s = s }
 
-    noted-share : noteOf σ o sent r s ≡ sentNote
-    noted-share = λ t. record {
-      id = id-read σ 33 id (o .own) xs id-fits t;
-      elements = elements-read σ 33 id (o .own) xs facts below t;
-      r = r;
-      s = s;
-    }
+    noted-share : noteOf σ o m r s ≡ sentNote
+    noted-share = λ t. record { id = sound .named id-fits t; elements = sound .says t; r = r; s = s }
 
-    pub share-taken : TakenShare (at (isOpen ws) ds) (share sent r s room) sentNote
+    pub share-taken : TakenShare (at (isOpen ws) ds) (share m r s room) sentNote
     unfolding answerOf ledgerAfter
     share-taken = record {
       passes = share-passes;

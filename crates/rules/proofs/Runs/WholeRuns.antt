@@ -11,6 +11,7 @@ use Rattle.rules.proofs.Computed.Facts.{document01-facts}
 use Rattle.rules.proofs.Returns.OnSheets.{sheet-few-pairs}
 use Rattle.rules.proofs.Tables.Opens.{tables-tell, tables-answer}
 use Rattle.rules.proofs.Tables.Erased.{counted, summed-up, unused-zero, records-hold, erased-zero}
+use Rattle.rules.proofs.Histories.ShareMessages.{elements-sound, seed-sound}
 use Rattle.rules.proofs.Histories.PoolOpened.{is-read}
 use Rattle.rules.proofs.Runs.WholeTotals.{closed-together}
 use Rattle.rules.proofs.Runs.OneChallenge.{unequal}
@@ -37,11 +38,14 @@ whole-run σ facts 𝓟 = record {
   verdict = verdict σ facts 𝓟;
   honest = honest σ facts 𝓟;
   few = sheet-few-pairs σ facts (𝓟 .sheet) (columns σ 𝓟) (is-read σ 𝓟) (𝓟 .servers) (𝓟 .some-server);
-  handled = λ id shares r s room rounds ready i l ones twos p q. handled σ facts 𝓟 id shares r s room rounds ready ones twos p q i l;
-  handled-mixed = λ id shares r s room rounds ready i l ones twos p q.
-      handled-mixed σ facts 𝓟 id shares r s room rounds ready ones twos p q i l;
-  handled-entered = λ id shares r s room rounds ready lets i l ones twos p q.
-      handled-entered σ facts 𝓟 id shares r s room rounds ready ones twos p q i l lets;
+  sound-elements = elements-sound σ facts (columns σ 𝓟);
+  sound-seed = seed-sound σ facts (columns σ 𝓟);
+  handled = λ id messages shares r s room rounds ready i l ones twos p q.
+      handled σ facts 𝓟 id messages shares r s room rounds ready ones twos p q i l;
+  handled-mixed = λ id messages shares r s room rounds ready i l ones twos p q.
+      handled-mixed σ facts 𝓟 id messages shares r s room rounds ready ones twos p q i l;
+  handled-entered = λ id messages shares r s room rounds ready lets i l ones twos p q.
+      handled-entered σ facts 𝓟 id messages shares r s room rounds ready ones twos p q i l lets;
   mixing = λ i l id. mixing σ (openedAt σ 𝓟 i) id (𝓟 .calls i);
   alone = alone σ facts 𝓟;
   within-returns = within-returns σ 𝓟;

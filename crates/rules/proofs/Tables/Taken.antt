@@ -10,7 +10,7 @@ use lib.ListN.{length, getD, set}
 use Rattle.algebra.specs.Lists.{All}
 use Rattle.slots.specs.Slots.{freeSlot}
 use Rattle.rules.specs.Settings.{Setting, Facts}
-use Rattle.rules.specs.Messages.{idIn, elementsIn, elementSum, firstSum, secondSum}
+use Rattle.rules.specs.Messages.{idIn, shareIn, elementSum, firstSum, secondSum}
 use Rattle.rules.specs.Keyed.{find, changed}
 use Rattle.rules.specs.Server.{Opened, Waiting, held, mostWaiting, waitingOf, withSums, summed, messageOne, messageTwo}
 use Rattle.rules.specs.WaitingList.{stageOne, stageTwo, stageEntry, freePlace, placeOf, numbersAt, waitingAt, slotOf, numbersOf, putNumbers}
@@ -31,7 +31,7 @@ module _ (σ : Setting) (o : Opened) (T : Lent) (ws : List Pending) (ds : List D
   -- ---- a share
   pub share-writes : (m : List ℕ) (r s : ℕ) → shareBytes σ T m r s ≡ messageOne σ o (noted σ o (noteOf σ o m r s))
   unfolding shareBytes
-  share-writes m r s = ap (λ (p : Opened). messageOne σ p (waitingOf σ p (idIn m) (elementsIn σ m) r s)) opened
+  share-writes m r s = ap (λ (p : Opened). messageOne σ p (waitingOf σ p (idIn m) (shareIn σ (p .columns) m) r s)) opened
 
   pub share-taken : Facts σ → (m : List ℕ) (r s : ℕ) → NoteFits σ o (noteOf σ o m r s) → length ws < mostWaiting
       → All (λ x. x ≢ idIn m) (map pendingId ws) → length ds + length ws < o .returns
@@ -46,9 +46,9 @@ module _ (σ : Setting) (o : Opened) (T : Lent) (ws : List Pending) (ds : List D
     staged = b .staged;
     listed = subst (λ (p : Opened).
         Listed σ o (waitsOne (noteOf σ o m r s) ∷ ws)
-        (set (T .slots) (freePlace (T .slots)) (slotOf stageOne (waitingOf σ p (idIn m) (elementsIn σ m) r s)))
+        (set (T .slots) (freePlace (T .slots)) (slotOf stageOne (waitingOf σ p (idIn m) (shareIn σ (p .columns) m) r s)))
         (putNumbers (p .columns) (T .elements) (freePlace (T .slots))
-        (numbersOf (waitingOf σ p (idIn m) (elementsIn σ m) r s))))
+        (numbersOf (waitingOf σ p (idIn m) (shareIn σ (p .columns) m) r s))))
         (sym opened)
         (taken-listed σ facts o ws (T .slots) (T .elements) (b .listed) (noteOf σ o m r s) f few new);
     room = omega arith;

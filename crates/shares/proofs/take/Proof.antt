@@ -5,7 +5,7 @@ use native.Mathlib.Omega.{arith}
 use lib.ListN.{length}
 use Rattle.rules.specs.Table.{Lent}
 use Rattle.waiting.specs.Changes.{lent}
-use Rattle.shares.proofs.Working.{Place, within, small, judgeable}
+use Rattle.shares.proofs.Working.{Place, within, small, brought, judgeable}
 use Rattle.shares.proofs.Taken.{taken}
 use borrow.Author.Needs.{needs}
 use Rattle.shares.proofs.take.Statement.{statement}
@@ -65,10 +65,12 @@ mul-start c = omega (arith, few c)
 add-end : tie.Need-add-end
 add-end c = omega (arith, few c)
 
-read-share-requires : tie.Need-read-share-requires
-read-share-requires c κs =
+read-brought-requires : tie.Need-read-brought-requires
+read-brought-requires c κs =
     let u = c .before in
-    (rw (u .before .share-size .ensures) (entry u .pre .0 .long), omega (arith, fits u))
+    let p = entry u in
+    let a = p .args in
+    (brought (whole u) (a .k) (a .m .now) (a .x .now) (a .r) (a .s) (p .pre .0) (place u), omega (arith, fits u))
 
 mul-judged : tie.Need-mul-judged
 mul-judged c = omega (arith, few (c .before .before .before .before))
@@ -82,7 +84,7 @@ part-judged-start c = search needs
 part-judged-end : tie.Need-part-judged-end
 part-judged-end c =
     let v = c .before .before .before in
-    omega (arith, fits (v .before .before), v .read-share .kept .0)
+    omega (arith, fits (v .before .before), v .read-brought .kept .0)
 
 cast-judged : tie.Need-cast-judged
 cast-judged c = search needs
@@ -96,13 +98,13 @@ judged-requires c κs =
     let u = v .before .before in
     let p = entry u in
     let a = p .args in
-    judgeable (whole u) (a .k) (a .m .now) (a .x .now) (a .r) (a .s) (p .pre .0) (place u) (v .read-share .last .0)
-    (v .read-share .ensures)
+    judgeable (whole u) (a .k) (a .m .now) (a .x .now) (a .r) (a .s) (p .pre .0) (place u) (v .read-brought .last .0)
+    (v .read-brought .ensures)
 
 write-last-requires : tie.Need-write-last-requires
 write-last-requires c κs =
     let v = c .before .before .before .before .before .before in
-    omega (arith, fits (v .before .before), v .read-share .kept .0)
+    omega (arith, fits (v .before .before), v .read-brought .kept .0)
 
 id-of-requires : tie.Need-id-of-requires
 id-of-requires c κs = search needs
@@ -140,7 +142,7 @@ same-length : tie.Need-same-length
 same-length c =
     let w = c .before .before .before .before .before .before .before .before .before .before .before in
     let v = w .before .before .before .before .before .before .before in
-    omega (arith, w .write-last .kept .0, v .read-share .kept .0)
+    omega (arith, w .write-last .kept .0, v .read-brought .kept .0)
 
 same-length-2 : tie.Need-same-length-2
 same-length-2 c = search needs
@@ -156,7 +158,7 @@ returns c =
     let p = entry u in
     let a = p .args in
     taken (whole u) (a .k) (a .m .now) (a .x .now) (a .r) (a .s) (p .pre .0) (place u) (d .id-of .result) (d .id-of .ensures)
-    (v .read-share .last .0) (v .read-share .ensures) (j .judged .result) (j .judged .ensures) (a .out .now) (w .write-last .last .0)
+    (v .read-brought .last .0) (v .read-brought .ensures) (j .judged .result) (j .judged .ensures) (a .out .now) (w .write-last .last .0)
     (o .write-one .last .0) (c .records .result) (w .write-last .ensures) (o .write-one .ensures) (c .records .ensures)
 
 pub take-spec : {M : Type 1} → statement M
@@ -168,7 +170,7 @@ take-spec =
     place-size-requires
     mul-start
     add-end
-    read-share-requires
+    read-brought-requires
     mul-judged
     sub-judged
     part-judged-start

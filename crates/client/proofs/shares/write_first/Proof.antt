@@ -1,6 +1,6 @@
 -- `client::shares::write_first` meets its contract: the header, then the elements behind it. Assumes nothing.
 use native.Mathlib.Omega.{arith}
-use Rattle.client.proofs.Writing.{first-written}
+use Rattle.whole.proofs.FirstMessage.{first-written}
 use borrow.Author.Needs.{needs}
 use Rattle.client.proofs.shares.write_first.Statement.{statement}
 use Rattle.client.proofs.shares.write_first.Tie as tie

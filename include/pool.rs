@@ -64,6 +64,22 @@ extern "C" {
         written: *mut usize,
     ) -> u32;
 
+    pub fn pool_make_seeded(
+        sheet: *const u8,
+        sheet_len: usize,
+        servers: u32,
+        id: u32,
+        values: *const u8,
+        values_len: usize,
+        random: *const u8,
+        random_len: usize,
+        seeds: *const u8,
+        seeds_len: usize,
+        out: *mut u8,
+        out_len: usize,
+        written: *mut usize,
+    ) -> u32;
+
     pub fn pool_open(
         servers: u32,
         own: u32,

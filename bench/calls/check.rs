@@ -1,6 +1,6 @@
 // Results: every call that is measured, on every side, and what was written compared.
 use crate::pool;
-use crate::setting::{settings, Setting, ID, LIMIT, ONE_BYTES, ROOM};
+use crate::setting::{settings, Setting, FREE, ID, LIMIT, ONE_BYTES, ROOM};
 use crate::tables::{Lent, Ours, Table};
 use second::{fast, gen, Circuit, Sheet};
 
@@ -46,6 +46,10 @@ fn stateless(count: &mut Count, x: &Setting) {
         count.same("circuit", x, ours, fast::circuit(&x.sheet, room));
         let ours = written(room, |out| pool::make(&x.sheet, x.servers, ID, &x.values, &x.random, out));
         count.same("make", x, ours, fast::make(&x.sheet, x.servers, ID, &x.values, &x.random, room));
+        let (v, free) = (&x.values, &x.random[..FREE]);
+        let ours = written(room, |out| pool::make_seeded(&x.sheet, x.servers, ID, v, free, &x.seeds, out));
+        let second = fast::make_seeded(&x.sheet, x.servers, ID, v, free, &x.seeds, room);
+        count.same("make seeded", x, ours, second);
     }
     let mut totals = vec![0; ROOM];
     for room in [ROOM, 0] {
@@ -90,6 +94,15 @@ fn answers<T: Table>(x: &Setting, own: u32) -> Vec<(&'static str, Answer)> {
     }
     said.push(("share", t.share(x.share(own), x.r, x.s).map(Vec::from)));
     said.extend([t.drop(103), t.drop(103)].map(|done| ("drop", done.map(|()| Vec::new()))));
+    // A seed: under an id that is free and again, for another server, and at server 0, where it is refused 7.
+    let mut seed = x.seed_message(own.max(1));
+    for id in [200, 200] {
+        seed[1..5].copy_from_slice(&u32::to_le_bytes(id));
+        said.push(("share, seed", t.share(&seed, x.r, x.s).map(Vec::from)));
+        said.push(("drop", t.drop(id).map(|()| Vec::new())));
+    }
+    seed[5] ^= 1;
+    said.push(("share, seed", t.share(&seed, x.r, x.s).map(Vec::from)));
     for message in [x.share(own), x.share(own)] {
         said.push(("share", t.share(message, x.r, x.s).map(Vec::from)));
     }

@@ -7,7 +7,7 @@ use crate::timing;
 use std::hint::black_box;
 
 fn times(x: &Setting) -> [f64; 3] {
-    let mut tables = [0, 1, 8].map(|n| waiting::<Ours>(x, n));
+    let mut tables = [0, 1, 8].map(|n| waiting::<Ours>(x, 0, n));
     let [none, one, eight] = &mut tables;
     let look = |t: &mut Ours| assert!(black_box(t).drop(7) == Err(11));
     let calls = 512;

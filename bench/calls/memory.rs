@@ -21,4 +21,11 @@ pub fn run(settings: &[Setting]) {
             x.totals_bytes()
         );
     }
+    println!();
+    println!("bytes that a workshop sends of one return");
+    println!("{:<14} {:>4} {:>3} {:>9} {:>9}", "sheet", "M", "S", "long", "seeds");
+    for x in settings {
+        let (long, seeds) = (x.servers as usize * x.share_bytes(), x.seeded_bytes());
+        println!("{:<14} {:>4} {:>3} {long:>9} {seeds:>9}", x.name, x.gates, x.servers);
+    }
 }

@@ -36,6 +36,25 @@ pub fn make(sheet: &[u8], servers: u32, id: u32, values: &[u8], random: &[u8], o
     done(answer, written)
 }
 
+pub fn make_seeded(
+    sheet: &[u8],
+    servers: u32,
+    id: u32,
+    values: &[u8],
+    random: &[u8],
+    seeds: &[u8],
+    out: &mut [u8],
+) -> Result<usize, u32> {
+    let (s, v, r, k) = (sheet, values, random, seeds);
+    let (at, room, mut written) = (out.as_mut_ptr(), out.len(), 0);
+    let answer = unsafe {
+        let (sheet, values, random, seeds) = (s.as_ptr(), v.as_ptr(), r.as_ptr(), k.as_ptr());
+        let (n, m, e, b) = (s.len(), v.len(), r.len(), k.len());
+        c::pool_make_seeded(sheet, n, servers, id, values, m, random, e, seeds, b, at, room, &mut written)
+    };
+    done(answer, written)
+}
+
 // The calls on a table take its three parts: bytes, the records of the returns that wait, the numbers of their shares.
 pub fn open(
     servers: u32,

@@ -18,6 +18,8 @@ use std::time::Instant;
 pub enum Call {
     Open,
     Share,
+    // A share from a seed, at server 1.
+    Seed,
     RoundOne,
     RoundTwo,
     Enter,
@@ -54,17 +56,19 @@ fn put_id(messages: &mut [u8], length: usize, id: u32) {
 // The messages of one return under one id.
 struct Messages {
     share: Vec<u8>,
+    seed: Vec<u8>,
     ones: Vec<u8>,
     twos: Vec<u8>,
 }
 
 impl Messages {
     fn of(x: &Setting) -> Messages {
-        Messages { share: x.share(0).to_vec(), ones: x.ones.clone(), twos: x.twos.clone() }
+        Messages { share: x.share(0).to_vec(), seed: x.seed_message(1), ones: x.ones.clone(), twos: x.twos.clone() }
     }
 
     fn put(&mut self, id: u32) {
         put_id(&mut self.share, usize::MAX, id);
+        put_id(&mut self.seed, usize::MAX, id);
         put_id(&mut self.ones, ONE_BYTES, id);
         put_id(&mut self.twos, TWO_BYTES, id);
     }
@@ -76,8 +80,9 @@ fn taken<A>(answer: Result<A, u32>) {
 
 // Takes one return on each table; gives the time of the measured call.
 fn one_return<T: Table>(x: &Setting, call: Call, id: u32, m: &Messages, tables: &mut [T]) -> f64 {
-    let share = all(tables, |t| taken(t.share(&m.share, x.r, x.s)));
-    if call == Call::Drop || call == Call::Share {
+    let message = if call == Call::Seed { &m.seed } else { &m.share };
+    let share = all(tables, |t| taken(t.share(message, x.r, x.s)));
+    if matches!(call, Call::Drop | Call::Share | Call::Seed) {
         let drop = all(tables, |t| taken(t.drop(id)));
         return if call == Call::Drop { drop } else { share };
     }
@@ -94,10 +99,10 @@ fn one_return<T: Table>(x: &Setting, call: Call, id: u32, m: &Messages, tables: 
     all(tables, |t| taken(t.enter(id)))
 }
 
-// A table of server 0 in which so many returns wait, under ids of their own.
-pub fn waiting<T: Table>(x: &Setting, others: u32) -> T {
-    let mut table = T::fresh(x, 0).expect("opened");
-    let mut share = x.share(0).to_vec();
+// A table of server `own` in which so many returns wait, under ids of their own.
+pub fn waiting<T: Table>(x: &Setting, own: u32, others: u32) -> T {
+    let mut table = T::fresh(x, own).expect("opened");
+    let mut share = x.share(own).to_vec();
     for id in 1000..1000 + others {
         put_id(&mut share, usize::MAX, id);
         taken(table.share(&share, x.r, x.s));
@@ -128,7 +133,7 @@ fn closings<T: Table>(tables: &mut [T], was: &T, out: &mut [u8]) -> f64 {
 
 // Nanoseconds for a call, over the returns of one table in which so many others wait.
 pub fn series<T: Table>(x: &Setting, call: Call, others: u32) -> f64 {
-    let fresh = || waiting::<T>(x, others);
+    let fresh = || waiting::<T>(x, u32::from(call == Call::Seed), others);
     let mut tables: Vec<T> = (0..tables_for(x)).map(|_| fresh()).collect();
     let mut was = fresh();
     if call == Call::Close {

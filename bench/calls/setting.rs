@@ -12,6 +12,9 @@ pub const ROOM: usize = 32768;
 // The bytes of a round-one and of a round-two message.
 pub const ONE_BYTES: usize = 22;
 pub const TWO_BYTES: usize = 14;
+// The bytes of a seed, and of the random elements that are drawn beside seeds.
+pub const SEED: usize = 32;
+pub const FREE: usize = 16;
 
 pub struct Setting {
     pub name: &'static str,
@@ -23,6 +26,8 @@ pub struct Setting {
     pub published: usize,
     pub values: Vec<u8>,
     pub random: Vec<u8>,
+    // S - 1 seeds, one after another
+    pub seeds: Vec<u8>,
     pub r: u64,
     pub s: u64,
     // the share messages, one after another
@@ -45,6 +50,7 @@ impl Setting {
         let mut rng = Rng::new(u64::from(servers));
         let values = gen::values(&mut rng, &read);
         let random = gen::elements(&mut rng, (servers as usize - 1) * read.share_elements() + 4);
+        let seeds = rng.bytes(SEED * (servers as usize - 1));
         let (r, s) = (rng.between(read.multiplications() as u64 + 1, P - 1), rng.below(P));
         let shares = fast::make(&sheet, servers, ID, &values, &random, ROOM).expect("a return");
         let mut tables: Vec<fast::Table> =
@@ -73,6 +79,7 @@ impl Setting {
             servers,
             values,
             random,
+            seeds,
             r,
             s,
             shares,
@@ -96,6 +103,17 @@ impl Setting {
 
     pub fn totals_bytes(&self) -> usize {
         6 + 4 * self.published
+    }
+
+    // What making from seeds writes.
+    pub fn seeded_bytes(&self) -> usize {
+        self.share_bytes() + (6 + SEED) * (self.servers as usize - 1)
+    }
+
+    // The seed message of server `own`, not 0.
+    pub fn seed_message(&self, own: u32) -> Vec<u8> {
+        let seed = &self.seeds[SEED * (own as usize - 1)..][..SEED];
+        [&[38], &ID.to_le_bytes()[..], &[own as u8], seed].concat()
     }
 
     // The share message of server `own`.

@@ -4,7 +4,7 @@
 // bytes that it allots; allotting and giving back counts, but for a table that is opened, which is given back
 // unmeasured. The library and the lent form write into lent buffers.
 use crate::series::{series, Call};
-use crate::setting::{Setting, ID, LIMIT, ROOM};
+use crate::setting::{Setting, FREE, ID, LIMIT, ROOM};
 use crate::tables::{Lent, Ours};
 use crate::{pool, timing};
 use second::{fast, Sheet};
@@ -76,6 +76,22 @@ fn make(x: &Setting) -> [f64; 2] {
     timing::compare(&mut || our_make(x, &mut out), &mut || second_make(x))
 }
 
+fn make_seeded(x: &Setting) -> [f64; 2] {
+    let mut out = vec![0; ROOM];
+    let free = &x.random[..FREE];
+    timing::compare(
+        &mut || {
+            let values = black_box(&x.values);
+            let made = pool::make_seeded(&x.sheet, x.servers, ID, values, free, &x.seeds, &mut out);
+            black_box(made.expect("made"));
+        },
+        &mut || {
+            let values = black_box(&x.values);
+            black_box(fast::make_seeded(&x.sheet, x.servers, ID, values, free, &x.seeds, ROOM).expect("made"));
+        },
+    )
+}
+
 fn join(x: &Setting) -> [f64; 2] {
     let mut out = vec![0; ROOM];
     timing::compare(
@@ -104,7 +120,7 @@ pub fn run(settings: &[Setting]) {
     let two = settings.iter().filter(|x| x.servers == 2);
     table(two, ["ours", "fast"], &[("sizes", &sizes), ("circuit", &circuit)]);
     println!();
-    table(settings.iter(), ["ours", "fast"], &[("make", &make), ("join", &join)]);
+    table(settings.iter(), ["ours", "fast"], &[("make", &make), ("make seeded", &make_seeded), ("join", &join)]);
     table(settings.iter().filter(|x| x.points > 0), ["ours", "fast"], &[("line", &line)]);
     println!();
     table(
@@ -113,6 +129,7 @@ pub fn run(settings: &[Setting]) {
         &[
             ("open", &|x| on_table(x, Call::Open, 0)),
             ("share", &|x| on_table(x, Call::Share, 0)),
+            ("share, seed", &|x| on_table(x, Call::Seed, 0)),
             ("round one", &|x| on_table(x, Call::RoundOne, 0)),
             ("round two", &|x| on_table(x, Call::RoundTwo, 0)),
             ("enter", &|x| on_table(x, Call::Enter, 0)),

@@ -13,6 +13,7 @@ mod columns;
 pub(crate) mod constants;
 mod making;
 mod plan;
+pub(crate) mod seeds;
 
 pub use crate::circuit::{circuit, read_circuit};
 pub use crate::joining::join;
@@ -23,6 +24,7 @@ pub use crate::shelf::{shelve, unshelve};
 pub use crate::sizes::{sizes, Sizes};
 pub use crate::table::{close, drop, enter, round_one, round_two, share, Stage};
 pub use making::make;
+pub use seeds::make_seeded;
 
 /// A server's table in the fast form.
 pub type Table = crate::table::Table<plan::Plan>;

@@ -15,10 +15,10 @@ mod rng;
 mod scripts;
 mod sheets;
 
-pub use cases::{Case, CaseAnswer, Exchange, Fit, Shelf};
+pub use cases::{Case, CaseAnswer, Exchange, Fit, Seeded, Shelf};
 pub use circuits::{circuit, damaged_circuit};
 pub use hex::Hex;
-pub use returns::{added_up, lets_in, pair, Origin, Return};
+pub use returns::{added_up, elements_of, lets_in, pair, Origin, Return};
 pub use rng::Rng;
 pub use scripts::{Answer, Call, Script, Server, Step};
 pub use sheets::{

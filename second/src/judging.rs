@@ -6,6 +6,7 @@ use crate::circuit::Circuit;
 use crate::field::{self, P};
 use crate::making::{combine, points, SHARE};
 use crate::refusal;
+use crate::seeds::{SEED, SEED_LENGTH};
 use crate::sheet::Sheet;
 
 pub(crate) use rounds::{
@@ -31,10 +32,18 @@ pub(crate) fn basis(degree: u64, x: u64) -> Vec<u64> {
         .collect()
 }
 
+/// What a share message holds, "shown as that part of the message it was given, not copied".
+#[derive(Clone, Copy, Debug, PartialEq, Eq)]
+pub enum Held<'a> {
+    /// The bytes of elements.
+    Elements(&'a [u8]),
+    /// The seed that they come from.
+    Seed(&'a [u8; SEED_LENGTH]),
+}
+
 /// Checks a share message's header (refusal 7: wrong kind byte, length or server). Gives
-/// the id and the element bytes, "shown as that part of the message it was given, not
-/// copied".
-pub fn share_parts<'a>(sheet: &Sheet, own: u32, message: &'a [u8]) -> Result<(u32, &'a [u8]), u32> {
+/// the id and what the message holds.
+pub fn share_parts<'a>(sheet: &Sheet, own: u32, message: &'a [u8]) -> Result<(u32, Held<'a>), u32> {
     parts_of_length(sheet.share_length(), own, message)
 }
 
@@ -43,15 +52,19 @@ pub(crate) fn parts_of_length(
     length: usize,
     own: u32,
     message: &[u8],
-) -> Result<(u32, &[u8]), u32> {
-    match message {
-        [SHARE, i0, i1, i2, i3, server, elements @ ..]
-            if u32::from(*server) == own && message.len() == length =>
-        {
-            Ok((u32::from_le_bytes([*i0, *i1, *i2, *i3]), elements))
-        }
-        _ => Err(refusal::SHARE),
-    }
+) -> Result<(u32, Held<'_>), u32> {
+    let [kind, i0, i1, i2, i3, server, rest @ ..] = message else {
+        return Err(refusal::SHARE);
+    };
+    let held = match *kind {
+        SHARE if message.len() == length => Some(Held::Elements(rest)),
+        // "Servers 1 to S - 1 may get a seed." "A seed message for server 0 is refused 7."
+        SEED if own != 0 => rest.try_into().ok().map(Held::Seed),
+        _ => None,
+    };
+    let held = held.filter(|_| u32::from(*server) == own);
+    let id = u32::from_le_bytes([*i0, *i1, *i2, *i3]);
+    Ok((id, held.ok_or(refusal::SHARE)?))
 }
 
 /// The parts of a share (or of a whole return) of L + 2M + 6 elements.

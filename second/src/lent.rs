@@ -69,17 +69,22 @@ mod slot;
 mod totals;
 mod walk;
 
+use crate::fast::seeds::fill;
 use crate::field;
 use crate::judging::{
     check_challenges, parts_of_length, round_one_message, round_one_sums, round_two_message,
-    round_two_sums, sigma, Findings, ROUND_ONE_LENGTH, ROUND_TWO_LENGTH,
+    round_two_sums, sigma, Findings, Held, ROUND_ONE_LENGTH, ROUND_TWO_LENGTH,
 };
 use crate::limits::{check_limit, check_servers};
 use crate::refusal;
+use crate::sheet::{MAX_ENTRIES, MAX_MULTIPLICATIONS};
 use crate::table::{Verdict, CLOSING};
 use layout::{Table, Word};
 use shape::Shape;
 pub use slot::{Slot, AWAITS_ENTRY, AWAITS_ONE, AWAITS_TWO, FREE, SLOTS};
+
+/// L + 2M + 6, at most.
+const MAX_ELEMENTS: usize = (MAX_ENTRIES + 2 * MAX_MULTIPLICATIONS) as usize + 6;
 
 /// The length of a table's bytes with this sheet and N. Order of refusals: sheet, N, 4.
 pub fn length(sheet: &[u8], limit: u32) -> Result<usize, u32> {
@@ -125,7 +130,7 @@ pub fn open(
     Ok(length)
 }
 
-/// Takes a share into the first free record; writes the server's round one message, which has r
+/// Takes a share, in a long message or a seed message, into the first free record; writes the server's round one message, which has r
 /// and s too, and gives its length. Order of refusals: 11, 13, 7, 8, 10, 9, 14.
 pub fn share(
     table: &mut [u8],
@@ -142,8 +147,9 @@ pub fn share(
     if table.decided + table.waiting >= table.ids.len() {
         return Err(refusal::FULL);
     }
-    let (id, bytes) = parts_of_length(shape.share_length(), table.own(), message)?;
-    if !field::all_elements(bytes) {
+    let (id, held) = parts_of_length(shape.share_length(), table.own(), message)?;
+    // What comes of a seed is below p.
+    if matches!(held, Held::Elements(bytes) if !field::all_elements(bytes)) {
         return Err(refusal::ELEMENT);
     }
     if table.has_decided(id) || table.waits(id).is_some() {
@@ -152,7 +158,15 @@ pub fn share(
     check_challenges(shape.gates, r, s)?;
     let out = out.first_chunk_mut().ok_or(refusal::ROOM)?;
 
-    let (words, _) = bytes.as_chunks();
+    let mut expanded;
+    let words: &[Word] = match held {
+        Held::Elements(bytes) => bytes.as_chunks().0,
+        Held::Seed(seed) => {
+            expanded = [Word::default(); MAX_ELEMENTS];
+            fill(seed, id, &mut expanded[..shape.elements()]);
+            &expanded[..shape.elements()]
+        }
+    };
     let found = judge::find(table.sheet, &shape, table.own() == 0, words, r, s);
     note_share(&mut table, free, words, &found);
     table.slots[free] = Slot {

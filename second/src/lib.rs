@@ -5,7 +5,8 @@
 //!
 //! * the plain form, one module for each part of the paper: [`field`], [`sheet`],
 //!   [`mod@circuit`], [`mod@sizes`], [`limits`], [`values`], [`listing`], [`making`],
-//!   [`judging`], [`table`], [`joining`], [`mod@line`], [`mod@recount`] and [`shelf`];
+//!   [`chacha`], [`seeds`], [`judging`], [`table`], [`joining`], [`mod@line`],
+//!   [`mod@recount`] and [`shelf`];
 //! * the fast form, [`fast`], with the same calls and the same answers;
 //! * the lent form, [`lent`], with the calls on a table in three parts that the host lends.
 //!
@@ -19,6 +20,7 @@
 #![forbid(unsafe_code)]
 #![warn(missing_docs)]
 
+pub mod chacha;
 pub mod circuit;
 pub mod fast;
 pub mod field;
@@ -32,6 +34,7 @@ pub mod listing;
 pub mod making;
 pub mod recount;
 pub mod refusal;
+pub mod seeds;
 pub mod sheet;
 pub mod shelf;
 pub mod sizes;
@@ -44,6 +47,7 @@ pub use line::{line, Line};
 pub use listing::{every_return, Listing};
 pub use making::make;
 pub use recount::recount;
+pub use seeds::make_seeded;
 pub use sheet::{Column, Sheet};
 pub use shelf::{shelve, unshelve};
 pub use sizes::{sizes, Sizes};

@@ -19,6 +19,14 @@ pub(crate) struct Order {
     pub entries: Vec<u64>,
 }
 
+/// Making's first refusals, in order: sheet, S, 5.
+pub(crate) fn check_values(sheet: &[u8], servers: u32, values: &[u8]) -> Result<Order, u32> {
+    let sheet = Sheet::read(sheet)?;
+    check_servers(servers)?;
+    let entries = values::encode(&sheet, values)?;
+    Ok(Order { sheet, entries })
+}
+
 /// Making's refusals, in order: sheet, S, 5, 6, 14.
 pub(crate) fn check(
     sheet: &[u8],
@@ -27,10 +35,8 @@ pub(crate) fn check(
     random: &[u8],
     room: usize,
 ) -> Result<Order, u32> {
-    let sheet = Sheet::read(sheet)?;
-    check_servers(servers)?;
-    let servers = servers as usize;
-    let entries = values::encode(&sheet, values)?;
+    let order = check_values(sheet, servers, values)?;
+    let (servers, sheet) = (servers as usize, &order.sheet);
     // "(S - 1) × (L + 2M + 6) + 4 random elements".
     let needed = (servers - 1) * sheet.share_elements() + 4;
     if random.len() != field::WIDTH * needed || !field::all_elements(random) {
@@ -39,7 +45,7 @@ pub(crate) fn check(
     if room < servers * sheet.share_length() {
         return Err(refusal::ROOM);
     }
-    Ok(Order { sheet, entries })
+    Ok(order)
 }
 
 /// Makes a return: the S share messages one after another in server order.

@@ -2,9 +2,12 @@
 
 mod state;
 
+use std::borrow::Cow;
+
 use crate::circuit::Circuit;
 use crate::field;
-use crate::judging::{find, Findings, ROUND_ONE_LENGTH, ROUND_TWO_LENGTH};
+use crate::judging::{find, Findings, Held, ROUND_ONE_LENGTH, ROUND_TWO_LENGTH};
+use crate::seeds::{self, SEED_LENGTH};
 use crate::sheet::Sheet;
 use state::State;
 
@@ -39,6 +42,9 @@ pub trait Form {
     /// What is fixed when a table is opened.
     fn of(sheet: &Sheet) -> Self;
 
+    /// The bytes of so many elements from a seed.
+    fn expand(&self, seed: &[u8; SEED_LENGTH], id: u32, count: usize) -> Vec<u8>;
+
     /// Works on the L + 2M + 6 elements of a share, all below p, with challenges in range.
     /// `first` tells whether this is server 0.
     fn work(&mut self, sheet: &Sheet, first: bool, elements: &[u8], r: u64, s: u64) -> Worked;
@@ -55,6 +61,11 @@ pub struct Worked {
 impl Form for Circuit {
     fn of(sheet: &Sheet) -> Circuit {
         Circuit::of(sheet)
+    }
+
+    fn expand(&self, seed: &[u8; SEED_LENGTH], id: u32, count: usize) -> Vec<u8> {
+        let elements = seeds::expand(seed, id, count);
+        elements.into_iter().flat_map(field::bytes).collect()
     }
 
     fn work(&mut self, sheet: &Sheet, first: bool, elements: &[u8], r: u64, s: u64) -> Worked {
@@ -137,7 +148,7 @@ pub fn open(servers: u32, own: u32, sheet: &[u8], limit: u32, least: u32) -> Res
     open_as(servers, own, sheet, limit, least)
 }
 
-/// Takes a share; gives the server's round one message, which has r and s too. Order of
+/// Takes a share, in a long message or a seed message; gives the server's round one message, which has r and s too. Order of
 /// refusals: 11, 13, 7, 8, 10, 9, 14.
 pub fn share<F: Form>(
     table: &mut Table<F>,
@@ -147,8 +158,12 @@ pub fn share<F: Form>(
     room: usize,
 ) -> Result<[u8; ROUND_ONE_LENGTH], u32> {
     let Table { state, form } = table;
-    let (id, elements) = state.check_share(message, r, s, room)?;
-    let worked = form.work(&state.sheet, state.first(), elements, r, s);
+    let (id, held) = state.check_share(message, r, s, room)?;
+    let elements = match held {
+        Held::Elements(bytes) => Cow::Borrowed(bytes),
+        Held::Seed(seed) => Cow::Owned(form.expand(seed, id, state.sheet.share_elements())),
+    };
+    let worked = form.work(&state.sheet, state.first(), &elements, r, s);
     state.note_share(id, r, s, worked)
 }
 

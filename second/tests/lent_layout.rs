@@ -5,7 +5,7 @@ mod common;
 use common::twins::Twins;
 use common::*;
 use second::field;
-use second::gen::{Answer, Call, Script, Server};
+use second::gen::{elements_of, Answer, Call, Script, Server};
 use second::lent::Slot;
 use second::{round_one, Sheet, Table, Verdict};
 
@@ -83,7 +83,7 @@ impl Model {
         let id = id_of(message);
         let free = self.slots.iter().position(|slot| slot.stage == 0).unwrap();
         let (d, e) = pair_of(plain.waiting_message(id).unwrap());
-        let elements = field::elements(&message[6..]).unwrap();
+        let elements = elements_of(&self.sheet, message).unwrap();
         let (rh, tau) = self.found(&elements, id, plain);
         self.slots[free] = Slot {
             id,

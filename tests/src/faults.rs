@@ -10,7 +10,7 @@ use crate::calls::{found, Call, Function};
 use crate::layout::put_word;
 use crate::suite::{Suite, Verdict};
 pub use rounds::{round_one, round_two};
-pub use tables::{close, drop, enter, open, share};
+pub use tables::{close, drop, enter, open, share, share_seed};
 
 const P: u64 = 2_147_483_647;
 
@@ -150,6 +150,41 @@ pub fn make(suite: &mut Suite) -> Verdict {
     faults.extend(randoms(3, count));
     faults.extend(rooms(4, base.room));
     alone_and_in_pairs(suite, &base, &faults)
+}
+
+/// Seeds that are refused 6: not two of them.
+fn seeds(order: u32) -> Vec<Fault> {
+    let length = |length: usize| fault(order, 6, "seeds", move |call| call.seeds.resize(length, 0));
+    [0, 1, 32, 63, 65, 96, 224, 2 * 32 + 4].map(length).into()
+}
+
+/// Making from seeds: the sheet, S, 5, 6, 14.
+pub fn make_seeded(suite: &mut Suite) -> Verdict {
+    let mut rng: Rng = suite.seed(18);
+    let bytes = vec![17, 18, 3, 19, 4, 20, 5, 0, 0, 0, 21, 2];
+    let sheet = Sheet::read(&bytes).map_err(|number| format!("refused {number}"))?;
+    let base = Call {
+        sheet: bytes,
+        servers: 3,
+        id: 7,
+        values: gen::values(&mut rng, &sheet),
+        random: gen::elements(&mut rng, 4),
+        seeds: rng.bytes(64),
+        room: sheet.share_length() + 2 * 38,
+        ..Call::of(Function::MakeSeeded)
+    };
+    let mut faults = sheets(0);
+    faults.extend(servers(1));
+    faults.extend(values(2));
+    faults.extend(randoms(3, 4));
+    faults.extend(seeds(3));
+    faults.extend(rooms(4, base.room));
+    alone_and_in_pairs(suite, &base, &faults)?;
+    // Another S within its limits: the seeds are too few or too many.
+    for servers in [2, 4, 5, 8] {
+        suite.number(&Call { servers, ..base.clone() }, 6)?;
+    }
+    Ok(())
 }
 
 /// Three totals messages of the sheets 17, 18 3, 19 24 and 17, 18 3, 20 16,777,215 and 17, 21 12.

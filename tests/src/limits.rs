@@ -211,6 +211,9 @@ pub fn rooms(suite: &mut Suite) -> Verdict {
             ..Call::of(Function::Make)
         };
         room(suite, &make, servers as usize * sheet.share_length())?;
+        let (random, seeds) = (make.random[..16].to_vec(), rng.bytes(32 * (servers as usize - 1)));
+        let seeded = Call { function: Function::MakeSeeded, random, seeds, ..make };
+        room(suite, &seeded, sheet.share_length() + 38 * (servers as usize - 1))?;
         let open = Call::open_table(servers, 0, &bytes, 2);
         room(suite, &open, 14 + bytes.len() + 4 * sheet.published() + 8)?;
         opening_rooms(suite, &open, 8 * (sheet.entries() + 2 * sheet.multiplications() + 8))?;

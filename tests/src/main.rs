@@ -16,6 +16,7 @@ mod guard;
 mod hall;
 mod layout;
 mod least;
+mod libcrypto;
 mod limits;
 mod lines;
 mod lists;
@@ -29,6 +30,7 @@ mod records;
 mod recount;
 mod reference;
 mod scripts;
+mod seeds;
 mod shelf;
 mod sizes;
 mod stack;
@@ -56,12 +58,13 @@ const POOL_BLOCKS: (u64, u64) = (3, 30);
 const MIXED_BLOCKS: (u64, u64) = (6, 40);
 
 /// The refusals of each function, by the header.
-const REFUSALS: [(Function, &[u32]); 16] = [
+const REFUSALS: [(Function, &[u32]); 17] = [
     (Function::Sizes, &[0, 1, 2]),
     (Function::Circuit, &[0, 1, 2, 14]),
     (Function::ReadCircuit, &[0, 1, 2, 3]),
     (Function::EveryReturn, &[0, 1, 2, 14, 17]),
     (Function::Make, &[0, 1, 2, 5, 6, 14]),
+    (Function::MakeSeeded, &[0, 1, 2, 5, 6, 14]),
     (Function::Open, &[0, 1, 2, 4, 14]),
     (Function::Share, &[0, 7, 8, 9, 10, 11, 13, 14]),
     (Function::RoundOne, &[0, 11, 12, 14, 16]),
@@ -131,9 +134,10 @@ fn named(tally: &mut Tally, suite: &mut Suite, text: &str) {
 fn fixed(tally: &mut Tally) {
     let mut suite = Suite::new();
     named(tally, &mut suite, "");
-    let (before, met) = (suite.calls, scripts::met(&suite));
+    let (before, met, taken) = (suite.calls, scripts::met(&suite), suite.seeded);
     tally.blocks(&mut suite, "whole runs", SCRIPT_BLOCKS, scripts::script);
     tally.note("whole runs: entries, challenges that differ, lines", scripts::often(&suite, met));
+    tally.note("whole runs: shares from seeds", scripts::seeded(&suite, taken));
     tally.blocks(&mut suite, "single calls", CASE_BLOCKS, scripts::cases);
     tally.blocks(&mut suite, "pools made by the library", POOL_BLOCKS, pools::pool);
     tally.blocks(&mut suite, "mixed returns", MIXED_BLOCKS, mixed::mix);

@@ -135,7 +135,7 @@ fn any_return(rng: &mut Rng, sheet: &Sheet, servers: u32, number: u32) -> Return
         _ => Origin::LuckyTriple,
     };
     let id = number << rng.pick([0, 8, 16, 24]) | number;
-    Return::random(rng, sheet, servers, id, origin)
+    Return::mixed(rng, sheet, servers, id, origin)
 }
 
 /// A call that is refused, on a table as the mix left it: a share, a round, an entry or a drop that is not its turn.

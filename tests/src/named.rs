@@ -3,13 +3,13 @@
 use crate::suite::{Suite, Verdict};
 use crate::{
     challenges, circuits, counts, decided, entering, examples, faults, least, limits, lines, lists, mixed, orders,
-    points, pools, records, shelf, sizes, stack, stopped, tables, tops, waiting,
+    points, pools, records, seeds, shelf, sizes, stack, stopped, tables, tops, waiting,
 };
 
 pub type Test = fn(&mut Suite) -> Verdict;
 
 /// In the order in which they are run.
-pub const NAMED: [(&str, Test); 134] = [
+pub const NAMED: [(&str, Test); 144] = [
     ("header: constants", sizes::constants),
     ("header: a slot", sizes::slot),
     ("header: sizes", sizes::lengths),
@@ -27,8 +27,10 @@ pub const NAMED: [(&str, Test); 134] = [
     ("faults alone and in pairs: read_circuit", circuits::order),
     ("faults alone and in pairs: every_return", lists::order),
     ("faults alone and in pairs: make", faults::make),
+    ("faults alone and in pairs: make_seeded", faults::make_seeded),
     ("faults alone and in pairs: open", faults::open),
     ("faults alone and in pairs: share", faults::share),
+    ("faults alone and in pairs: share from a seed", faults::share_seed),
     ("faults alone and in pairs: round_one", faults::round_one),
     ("faults alone and in pairs: round_two", faults::round_two),
     ("faults alone and in pairs: enter", faults::enter),
@@ -140,6 +142,14 @@ pub const NAMED: [(&str, Test); 134] = [
     ("shelf: rooms", shelf::exact_rooms),
     ("shelf: every R, many W", shelf::every_size),
     ("shelf: share messages", shelf::shares),
+    ("seeds: told by hand", seeds::by_hand),
+    ("seeds: words of 31 ones", seeds::all_ones),
+    ("seeds: a message that is none", seeds::no_message),
+    ("seeds: for server 0 and for another server", seeds::servers),
+    ("seeds: as the long message of their elements", seeds::as_elements),
+    ("seeds: damaged messages", seeds::damaged),
+    ("seeds: the largest pools", seeds::large),
+    ("seeds: the key stream by libcrypto", seeds::outside),
     ("pools: the largest sheets", pools::large),
     ("pools: 1,024 returns", pools::many),
     ("pools: the highest totals", pools::highest),

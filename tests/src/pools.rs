@@ -4,11 +4,13 @@
 mod honest;
 
 use second::gen::{self, Rng};
+use second::seeds::SEED_MESSAGE_LENGTH;
 use second::Sheet;
 
 use crate::calls::{Call, Done, Function};
 use crate::layout::{id_of, Parts};
 use crate::reference::{ONE_BYTES, TWO_BYTES};
+use crate::seeds::long;
 use crate::suite::{Suite, Verdict};
 pub use honest::{highest, large, many, pool};
 
@@ -58,6 +60,45 @@ impl Pool {
         };
         let made = done(suite, &call)?.bytes;
         Ok(made.chunks(self.sheet.share_length()).map(<[u8]>::to_vec).collect())
+    }
+
+    /// Makes a return from seeds; gives its S messages, server 0's long one first.
+    pub fn make_seeded(
+        &self,
+        suite: &mut Suite,
+        rng: &mut Rng,
+        id: u32,
+        values: &[u8],
+    ) -> Result<Vec<Vec<u8>>, String> {
+        let others = self.servers as usize - 1;
+        let call = Call {
+            sheet: self.bytes.clone(),
+            servers: self.servers,
+            id,
+            values: values.to_vec(),
+            random: gen::elements(rng, 4),
+            seeds: (0..others).flat_map(|_| rng.seed()).collect(),
+            room: self.sheet.share_length() + SEED_MESSAGE_LENGTH * others,
+            ..Call::of(Function::MakeSeeded)
+        };
+        let made = done(suite, &call)?.bytes;
+        let (first, rest) = made.split_at(self.sheet.share_length());
+        let mut shares = vec![first.to_vec()];
+        shares.extend(rest.chunks(SEED_MESSAGE_LENGTH).map(<[u8]>::to_vec));
+        Ok(shares)
+    }
+
+    /// Makes a return one way or the other; some hosts expand seeds themselves and send long messages.
+    pub fn make_any(&self, suite: &mut Suite, rng: &mut Rng, id: u32, values: &[u8]) -> Result<Vec<Vec<u8>>, String> {
+        if rng.chance(40) {
+            return self.make(suite, rng, id, values);
+        }
+        let mut shares = self.make_seeded(suite, rng, id, values)?;
+        let percent = rng.pick([0, 50]);
+        for share in shares[1..].iter_mut().filter(|_| rng.chance(percent)) {
+            *share = long(&self.sheet, share);
+        }
+        Ok(shares)
     }
 
     /// Makes a return of values that are all 0.

@@ -42,6 +42,7 @@ fn by_layout(call: &Call) -> Outcome {
         Function::ReadCircuit => read_circuit(call),
         Function::EveryReturn => every_return(call),
         Function::Make => make(call),
+        Function::MakeSeeded => make_seeded(call),
         Function::Open => tables::open(call),
         Function::Share => tables::share(call),
         Function::RoundOne => tables::round_one(call),
@@ -78,6 +79,11 @@ fn every_return(call: &Call) -> Outcome {
 fn make(call: &Call) -> Outcome {
     let made = fast::make(&call.sheet, call.servers, call.id, &call.values, &call.random, call.room)?;
     plain(Vec::new(), made)
+}
+
+fn make_seeded(call: &Call) -> Outcome {
+    let Call { servers, id, room, sheet, values, random, seeds, .. } = call;
+    plain(Vec::new(), fast::make_seeded(sheet, *servers, *id, values, random, seeds, *room)?)
 }
 
 fn join(call: &Call) -> Outcome {

@@ -1,7 +1,7 @@
 //! Random runs: the second program's scripts of calls at S servers, and its single calls.
 
 use second::gen::Call as Step;
-use second::gen::{Answer, Case, CaseAnswer, Exchange, Fit, Rng, Script, Shelf};
+use second::gen::{Answer, Case, CaseAnswer, Exchange, Fit, Rng, Script, Seeded, Shelf};
 use second::refusal;
 use second::Verdict::{Accepted, Rejected};
 
@@ -16,6 +16,7 @@ const MESSAGE_ROOM: usize = 1_100;
 const CIRCUIT_ROOM: usize = 7_200;
 const LISTS_ROOM: usize = 196_700;
 const MAKE_ROOM: usize = 25_000;
+const SEEDED_ROOM: usize = 3_400;
 const SHELF_ROOM: usize = 262_200;
 
 /// A script's call on a table.
@@ -113,6 +114,14 @@ pub fn often(suite: &Suite, before: [u64; 4]) -> Verdict {
     Ok(())
 }
 
+/// Shares were often taken from seeds since so many.
+pub fn seeded(suite: &Suite, before: u64) -> Verdict {
+    match suite.seeded - before {
+        0..10_000 => Err(format!("{} shares were taken from seeds\nmust be 10000", suite.seeded - before)),
+        _ => Ok(()),
+    }
+}
+
 /// Where an orderly script's pool reaches Q, the closing messages join to the sums that its returns add up to.
 fn truth(suite: &mut Suite, script: &Script) -> Verdict {
     let (Some(truth), Some(first)) = (&script.truth, script.joins.first()) else {
@@ -128,6 +137,13 @@ fn truth(suite: &mut Suite, script: &Script) -> Verdict {
 fn shelf_call(function: Function, shelf: Shelf) -> Call {
     let Shelf { messages, width, run, room } = shelf;
     Call { messages, width, message: run, room: room.min(SHELF_ROOM), ..Call::of(function) }
+}
+
+/// Making from seeds.
+fn seeded_call(seeded: Seeded) -> Call {
+    let Seeded { sheet, servers, id, values, random, seeds, room } = seeded;
+    let room = room.min(SEEDED_ROOM);
+    Call { sheet, servers, id, values, random, seeds, room, ..Call::of(Function::MakeSeeded) }
 }
 
 /// The line of a column.
@@ -149,6 +165,7 @@ fn case_call(case: &Case) -> Option<Call> {
             let room = room.min(MAKE_ROOM);
             Call { sheet, servers, id, values, random, room, ..Call::of(Function::Make) }
         }
+        Case::MakeSeeded(x) => seeded_call(x),
         Case::Open { servers, own, sheet, limit, least } => {
             Call { least, ..Call::open_table(servers, own, &sheet, limit) }
         }
@@ -201,7 +218,7 @@ fn exchanged(suite: &mut Suite, exchange: &Exchange) -> Verdict {
 pub fn cases(suite: &mut Suite, seed: u64) -> Verdict {
     let mut rng = suite.seed(seed);
     for _ in 0..50 {
-        let case = match rng.below(14) {
+        let case = match rng.below(15) {
             0 => Case::random_sizes(&mut rng),
             1 | 2 => Case::random_circuit(&mut rng),
             3 | 4 => Case::random_read_circuit(&mut rng),
@@ -210,6 +227,7 @@ pub fn cases(suite: &mut Suite, seed: u64) -> Verdict {
             8 => Case::random_shelf(&mut rng),
             9 => Case::random_every_return(&mut rng),
             10 | 11 => Case::random_line(&mut rng),
+            12 => Case::random_make_seeded(&mut rng),
             _ => Case::random_join(&mut rng),
         };
         let exchange = Exchange::of(case);

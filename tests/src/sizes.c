@@ -7,6 +7,10 @@ size_t sizes_random(uint32_t servers, uint32_t share_bytes) { return POOL_RANDOM
 
 size_t sizes_make(uint32_t servers, uint32_t share_bytes) { return POOL_MAKE_BYTES(servers, share_bytes); }
 
+size_t sizes_seeds(uint32_t servers) { return POOL_SEEDS_BYTES(servers); }
+
+size_t sizes_make_seeded(uint32_t servers, uint32_t share_bytes) { return POOL_MAKE_SEEDED_BYTES(servers, share_bytes); }
+
 size_t sizes_totals(uint32_t published) { return POOL_TOTALS_BYTES(published); }
 
 size_t sizes_join(uint32_t published) { return POOL_JOIN_BYTES(published); }
@@ -48,6 +52,8 @@ size_t sizes_constant(uint32_t number)
         POOL_MAX_TABLE_BYTES, POOL_MAX_SHELF_MESSAGES, POOL_MAX_SHELF_WIDTH, POOL_MAX_SHELF_BYTES,
         POOL_MAX_LISTS, POOL_MAX_EVERY_RETURN_BYTES,
         POOL_SLOTS, POOL_MAX_ELEMENTS, POOL_FREE, POOL_AWAITS_ONE, POOL_AWAITS_TWO, POOL_AWAITS_ENTRY,
+        POOL_SEED_BYTES, POOL_SEED_MESSAGE_BYTES, POOL_SEEDED_RANDOM_BYTES, POOL_MAX_SEEDS_BYTES,
+        POOL_MAX_MAKE_SEEDED_BYTES,
     };
     return number < sizeof constants / sizeof constants[0] ? constants[number] : (size_t)-1;
 }
@@ -64,6 +70,8 @@ uint32_t (*const type_circuit)(in, size_t, out, size_t, size_t *) = pool_circuit
 uint32_t (*const type_read_circuit)(uint32_t, in, size_t, number, number, number) = pool_read_circuit;
 uint32_t (*const type_every_return)(in, size_t, out, size_t, number, size_t *) = pool_every_return;
 uint32_t (*const type_make)(in, size_t, uint32_t, uint32_t, in, size_t, in, size_t, out, size_t, size_t *) = pool_make;
+uint32_t (*const type_make_seeded)(in, size_t, uint32_t, uint32_t, in, size_t, in, size_t, in, size_t, out, size_t,
+                                   size_t *) = pool_make_seeded;
 uint32_t (*const type_open)(uint32_t, uint32_t, in, size_t, uint32_t, uint32_t, out, size_t, slots, size_t, number,
                             size_t, size_t *) = pool_open;
 uint32_t (*const type_share)(in, size_t, slots, size_t, number, size_t, in, size_t, uint64_t, uint64_t, out, size_t,

@@ -16,6 +16,8 @@ extern "C" {
     fn sizes_values(columns: u32) -> usize;
     fn sizes_random(servers: u32, share_bytes: u32) -> usize;
     fn sizes_make(servers: u32, share_bytes: u32) -> usize;
+    fn sizes_seeds(servers: u32) -> usize;
+    fn sizes_make_seeded(servers: u32, share_bytes: u32) -> usize;
     fn sizes_totals(published: u32) -> usize;
     fn sizes_join(published: u32) -> usize;
     fn sizes_table(sheet_len: usize, published: u32, returns: u32) -> usize;
@@ -31,8 +33,9 @@ const REFUSALS: [usize; 20] = [0, 1, 2, 3, 4, 5, 6, 7, 8, 9, 10, 11, 12, 13, 14,
 
 /// After the refusals: p, S from and to, the most returns and entries, the column kinds, the lengths of round one and
 /// round two messages, and the largest sizes; R and W at most, and their product; lists at most, and their bytes; slots,
-/// the most numbers, and a slot's stages.
-const CONSTANTS: [usize; 28] = [
+/// the most numbers, and a slot's stages; a seed, its message, the random elements beside seeds, the most bytes of seeds,
+/// and of what is made from them.
+const CONSTANTS: [usize; 33] = [
     2_147_483_647,
     2,
     8,
@@ -61,6 +64,11 @@ const CONSTANTS: [usize; 28] = [
     1,
     2,
     3,
+    32,
+    38,
+    16,
+    224,
+    3368,
 ];
 
 /// A slot: its size and alignment; where id, stage, r, s, d and e stand, and their sizes.
@@ -152,13 +160,24 @@ pub fn lengths(suite: &mut Suite) -> Verdict {
         let (room, joined) = unsafe { (sizes_make(servers, share), sizes_join(published)) };
         let make = Call { sheet: sheet.clone(), servers, values, random, room, ..Call::of(Function::Make) };
         suite.number(&make, 0)?;
-        suite.number(&Call { room: room - 1, ..make }, 14)?;
+        suite.number(&Call { room: room - 1, ..make.clone() }, 14)?;
+        seeded(suite, &make, share)?;
         let message = (0..servers as u8).flat_map(|own| [&[36, own][..], &vec![0; totals - 2]].concat()).collect();
         let join = Call { sheet, servers, returns, message, room: joined, ..Call::of(Function::Join) };
         suite.number(&join, 0)?;
         suite.number(&Call { room: joined - 1, ..join }, 14)?;
     }
     Ok(())
+}
+
+/// Making from seeds is done with the sizes that the header's macros give, and refused with other ones.
+fn seeded(suite: &mut Suite, make: &Call, share: u32) -> Verdict {
+    let (seeds, room) = unsafe { (sizes_seeds(make.servers), sizes_make_seeded(make.servers, share)) };
+    let (random, seeds) = (vec![0; 16], vec![0; seeds]);
+    let call = Call { function: Function::MakeSeeded, random, seeds, room, ..make.clone() };
+    suite.number(&call, 0)?;
+    suite.number(&Call { seeds: vec![0; call.seeds.len() - 1], ..call.clone() }, 6)?;
+    suite.number(&Call { room: room - 1, ..call }, 14)
 }
 
 /// Opening is done with these rooms, and refused with less of either.

@@ -3,7 +3,8 @@
 use second::gen;
 
 use crate::calls::{Call, Function};
-use crate::fixture::Fixture;
+use crate::fixture::{Fixture, NEXT};
+use crate::seeds::seed_message;
 use crate::suite::{Suite, Verdict};
 use crate::tops::{largest_sheet, longest_sheet, top_column};
 
@@ -49,6 +50,14 @@ fn on_totals(sheet: Vec<u8>, read: &second::Sheet) -> [Call; 3] {
     [line(1), line(read.columns().len() - 4), join]
 }
 
+/// Making from seeds at eight servers, and a share from a seed at server 7.
+fn from_seeds(sheet: &[u8], read: &second::Sheet, fixture: &Fixture) -> [Call; 2] {
+    let (values, random, seeds) = (vec![0; 4 * read.columns().len()], vec![1; 16], vec![7; 7 * 32]);
+    let make = Call { sheet: sheet.to_vec(), servers: 8, values, random, seeds, ..Call::of(Function::MakeSeeded) };
+    let message = seed_message(NEXT, 7, &[9; 32]);
+    [Call { room: 3_368, ..make }, Call { message, ..fixture.share() }]
+}
+
 /// The largest sheets: every function at its most.
 fn measure(suite: &mut Suite) -> Result<usize, String> {
     let mut rng = suite.seed(64);
@@ -79,6 +88,7 @@ fn measure(suite: &mut Suite) -> Result<usize, String> {
         let values = gen::values(&mut rng, &read);
         let random = gen::elements(&mut rng, 7 * read.share_elements() + 4);
         calls.push(Call { sheet: sheet.clone(), servers: 8, values, random, room: 25_000, ..Call::of(Function::Make) });
+        calls.extend(from_seeds(&sheet, &read, &fixture));
         calls.push(Call::open_table(8, 0, &sheet, 2));
         calls.extend(on_totals(sheet, &read));
         for call in &calls {

@@ -27,11 +27,13 @@ pub struct Suite {
     pub seen: BTreeMap<(Function, u32), u64>,
     /// After how many calls of a mix eight returns waited, some of them for entry.
     pub crowded: u64,
+    /// How many shares were taken from seeds.
+    pub seeded: u64,
 }
 
 impl Suite {
     pub fn new() -> Suite {
-        Suite { rng: Rng::new(0), seed: 0, calls: 0, seen: BTreeMap::new(), crowded: 0 }
+        Suite { rng: Rng::new(0), seed: 0, calls: 0, seen: BTreeMap::new(), crowded: 0, seeded: 0 }
     }
 
     /// Starts over from a seed; gives the stream for the test's own choices.
@@ -66,6 +68,8 @@ impl Suite {
             Ok(actual) if actual == expected => {
                 let number = expected.as_ref().err().copied().unwrap_or(0);
                 *self.seen.entry((call.function, number)).or_insert(0) += 1;
+                let seed = call.function == Function::Share && call.message.first() == Some(&38);
+                self.seeded += u64::from(seed && number == 0);
                 Ok(actual)
             }
             Ok(actual) => Err(self.failure(call, &compared(&actual, &expected))),
@@ -102,6 +106,7 @@ impl Suite {
     pub fn add(&mut self, other: Suite) {
         self.calls += other.calls;
         self.crowded += other.crowded;
+        self.seeded += other.seeded;
         for (key, count) in other.seen {
             *self.seen.entry(key).or_insert(0) += count;
         }

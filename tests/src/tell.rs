@@ -45,6 +45,10 @@ impl fmt::Display for Call {
                 write!(f, "pool_make sheet={sheet} servers={servers} id={id} ")?;
                 write!(f, "values={} random={} out_len={room}", Hex(&self.values), Hex(&self.random))
             }
+            Function::MakeSeeded => {
+                write!(f, "pool_make_seeded sheet={sheet} servers={servers} id={id} values={} ", Hex(&self.values))?;
+                write!(f, "random={} seeds={} out_len={room}", Hex(&self.random), Hex(&self.seeds))
+            }
             Function::Open => {
                 write!(f, "pool_open servers={servers} own={} sheet={sheet} ", self.own)?;
                 write!(f, "returns={returns} least={} table_len={room} ", self.least)?;

@@ -34,16 +34,20 @@ fn split(id: u32, whole: &[u64], shares: &[u8], out: &mut Vec<u8>) {
             *sum += u64::from(element);
         }
     }
-    // Server 0's share is what remains of the whole.
-    out.extend_from_slice(&header(id, 0));
-    for (&all, &taken) in whole.iter().zip(&taken) {
-        // At most 7 elements were taken.
-        let remains = strict(all + 7 * P - taken) as u32;
-        out.extend_from_slice(&remains.to_le_bytes());
-    }
+    remainder(id, whole, &taken, out);
     for (server, share) in (1u8..).zip(shares) {
         out.extend_from_slice(&header(id, server));
         out.extend_from_slice(share);
+    }
+}
+
+/// Writes server 0's message: its share is what remains of the whole. `taken` are sums of at most
+/// 7 elements each.
+pub(super) fn remainder(id: u32, whole: &[u64], taken: &[u64], out: &mut Vec<u8>) {
+    out.extend_from_slice(&header(id, 0));
+    for (&all, &taken) in whole.iter().zip(taken) {
+        let remains = strict(all + 7 * P - taken) as u32;
+        out.extend_from_slice(&remains.to_le_bytes());
     }
 }
 
@@ -73,7 +77,7 @@ fn terms(order: &Order, u0: u64, weights: &[u64]) -> Vec<u64> {
 
 /// The whole return, loose: the entries, f(0), g(0), h(0)..h(2M), a, b, c. `free` holds the
 /// bytes of u_0, v_0, a, b.
-fn whole(order: &Order, free: &[u8]) -> Vec<u64> {
+pub(super) fn whole(order: &Order, free: &[u8]) -> Vec<u64> {
     let gates = order.sheet.multiplications();
     let mut free = field::words(free).map(u64::from);
     let [u0, v0, a, b] = std::array::from_fn(|_| free.next().unwrap_or(0));

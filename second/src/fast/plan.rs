@@ -3,8 +3,10 @@
 use super::arithmetic::{fold, mul, negate, powers_sum, product, strict};
 use super::columns::{gate_entries, groups, product_gates, test_wires, Group, Product};
 use super::constants::weights;
+use super::seeds::fill;
 use crate::field::{self, P};
 use crate::judging::Findings;
+use crate::seeds::SEED_LENGTH;
 use crate::sheet::Sheet;
 use crate::table::{Form, Worked};
 
@@ -66,6 +68,12 @@ impl Form for Plan {
             high_after: vec![1; gates],
             tests: Vec::with_capacity(sheet.tests()),
         }
+    }
+
+    fn expand(&self, seed: &[u8; SEED_LENGTH], id: u32, count: usize) -> Vec<u8> {
+        let mut words = vec![[0; field::WIDTH]; count];
+        fill(seed, id, &mut words);
+        words.into_flattened()
     }
 
     fn work(&mut self, _: &Sheet, first: bool, elements: &[u8], r: u64, s: u64) -> Worked {

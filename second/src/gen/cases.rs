@@ -1,5 +1,5 @@
 //! Single calls that no table takes part in: sizes, sheet to circuit, reading a circuit,
-//! every return, making, opening, joining, lines, recount and the shelf.
+//! every return, making in both ways, opening, joining, lines, recount and the shelf.
 
 mod random;
 
@@ -10,7 +10,7 @@ use crate::listing::{every_return, Listing};
 use crate::recount::recount;
 use crate::shelf::{shelve, unshelve};
 use crate::sizes::{sizes, Sizes};
-use crate::{fast, making, table};
+use crate::{fast, making, seeds, table};
 
 /// One call with its arguments.
 #[derive(Clone, Debug, PartialEq, Eq)]
@@ -33,6 +33,8 @@ pub enum Case {
         random: Vec<u8>,
         room: usize,
     },
+    /// Making a return from seeds.
+    MakeSeeded(Seeded),
     /// Opening a table.
     Open {
         servers: u32,
@@ -57,6 +59,19 @@ pub enum Case {
     Shelve(Shelf),
     /// Messages brought back.
     Unshelve(Shelf),
+}
+
+/// The arguments of making from seeds.
+#[derive(Clone, Debug, PartialEq, Eq)]
+#[allow(missing_docs)]
+pub struct Seeded {
+    pub sheet: Vec<u8>,
+    pub servers: u32,
+    pub id: u32,
+    pub values: Vec<u8>,
+    pub random: Vec<u8>,
+    pub seeds: Vec<u8>,
+    pub room: usize,
 }
 
 /// The arguments of the line of a column.
@@ -135,21 +150,22 @@ fn counts(circuit: Circuit) -> CaseAnswer {
 
 /// How a form makes returns and opens tables.
 type Make = fn(&[u8], u32, u32, &[u8], &[u8], usize) -> Result<Vec<u8>, u32>;
+type MakeSeeded = fn(&[u8], u32, u32, &[u8], &[u8], &[u8], usize) -> Result<Vec<u8>, u32>;
 type Open<T> = fn(u32, u32, &[u8], u32, u32) -> Result<T, u32>;
 
 impl Case {
     /// The plain form's answer.
     pub fn plain(&self) -> CaseAnswer {
-        self.answer(making::make, table::open)
+        self.answer(making::make, seeds::make_seeded, table::open)
     }
 
     /// The fast form's answer.
     pub fn fast(&self) -> CaseAnswer {
-        self.answer(fast::make, fast::open)
+        self.answer(fast::make, fast::make_seeded, fast::open)
     }
 
     /// The answer of a form; the forms differ in making and opening alone.
-    fn answer<T>(&self, make: Make, open: Open<T>) -> CaseAnswer {
+    fn answer<T>(&self, make: Make, make_seeded: MakeSeeded, open: Open<T>) -> CaseAnswer {
         let answer = match self {
             Case::Sizes { sheet } => sizes(sheet).map(CaseAnswer::Sizes),
             Case::Circuit { sheet, room } => circuit(sheet, *room).map(CaseAnswer::Bytes),
@@ -165,6 +181,11 @@ impl Case {
                 random,
                 room,
             } => make(sheet, *servers, *id, values, random, *room).map(CaseAnswer::Bytes),
+            Case::MakeSeeded(x) => {
+                let (sheet, values, random, seeds) = (&x.sheet, &x.values, &x.random, &x.seeds);
+                make_seeded(sheet, x.servers, x.id, values, random, seeds, x.room)
+                    .map(CaseAnswer::Bytes)
+            }
             Case::Open {
                 servers,
                 own,

@@ -5,10 +5,14 @@ mod entries;
 use super::Rng;
 use crate::circuit::Circuit;
 use crate::field::{self, P};
-use crate::judging::{basis, Parts};
+use crate::judging::{basis, share_parts, Held, Parts};
 use crate::making::{self, combine, points};
+use crate::seeds::{self, expand, SEED, SEED_LENGTH};
 use crate::sheet::{Column, Sheet};
 use entries::{false_bits, false_entries, true_entries};
+
+/// A seed.
+type Seed = [u8; SEED_LENGTH];
 
 /// Where a return comes from.
 #[derive(Clone, Copy, Debug, PartialEq, Eq)]
@@ -66,14 +70,22 @@ pub fn pair(rng: &mut Rng, multiplications: usize) -> (u64, u64) {
 }
 
 impl Return {
-    /// A random return of an origin under an id.
+    /// A random return of an origin under an id, in long messages.
     pub fn random(rng: &mut Rng, sheet: &Sheet, servers: u32, id: u32, origin: Origin) -> Return {
-        let entries = match origin {
-            Origin::FalseEntries => false_entries(rng, sheet),
-            Origin::Forged | Origin::Lucky => false_bits(rng, sheet),
-            _ => true_entries(rng, sheet),
-        };
-        Return::of(rng, sheet, servers, id, origin, &entries)
+        let entries = entries_of(rng, sheet, origin);
+        let seeds = vec![None; servers as usize - 1];
+        Return::of(rng, sheet, id, origin, &entries, &seeds)
+    }
+
+    /// A random return of an origin under an id, in which servers 1 to S - 1 get a seed or a long
+    /// message: all the same, or each by itself.
+    pub fn mixed(rng: &mut Rng, sheet: &Sheet, servers: u32, id: u32, origin: Origin) -> Return {
+        let entries = entries_of(rng, sheet, origin);
+        let percent = rng.pick([0, 30, 70, 100]);
+        let seeds: Vec<Option<Seed>> = (1..servers)
+            .map(|_| rng.chance(percent).then(|| rng.seed()))
+            .collect();
+        Return::of(rng, sheet, id, origin, &entries, &seeds)
     }
 
     /// A return of L entries, valid or not, with the polynomials that belong to them.
@@ -84,31 +96,42 @@ impl Return {
         id: u32,
         entries: &[u64],
     ) -> Return {
-        Return::of(rng, sheet, servers, id, Origin::FalseEntries, entries)
+        let seeds = vec![None; servers as usize - 1];
+        Return::of(rng, sheet, id, Origin::FalseEntries, entries, &seeds)
     }
 
-    /// A return of these entries, with the origin's fault.
+    /// A return of these entries, with the origin's fault; those of servers 1 to S - 1 that have
+    /// a seed get it in place of elements.
     fn of(
         rng: &mut Rng,
         sheet: &Sheet,
-        servers: u32,
         id: u32,
         origin: Origin,
         entries: &[u64],
+        seeds: &[Option<Seed>],
     ) -> Return {
         let circuit = Circuit::of(sheet);
         let (r, s) = pair(rng, sheet.multiplications());
         let free = [(); 4].map(|()| rng.element());
         let mut whole = making::whole(&circuit, entries, &free);
         falsify(rng, sheet, &circuit, origin, &mut whole, r);
-        let random: Vec<u64> = (whole.len()..servers as usize * whole.len())
-            .map(|_| rng.element())
+        let random: Vec<u64> = seeds
+            .iter()
+            .flat_map(|seed| match seed {
+                Some(seed) => expand(seed, id, whole.len()),
+                None => whole.iter().map(|_| rng.element()).collect(),
+            })
             .collect();
         let messages = making::messages(id, &whole, &random);
         let mut shares: Vec<Vec<u8>> = messages
             .chunks_exact(sheet.share_length())
             .map(<[u8]>::to_vec)
             .collect();
+        for (server, (share, seed)) in (1u8..).zip(shares[1..].iter_mut().zip(seeds)) {
+            if let Some(seed) = seed {
+                *share = seeds::message(id, server, seed).to_vec();
+            }
+        }
         if origin == Origin::Altered {
             alter(rng, &mut shares, whole.len());
         }
@@ -119,6 +142,15 @@ impl Return {
             r,
             s,
         }
+    }
+}
+
+/// Entries for a return of an origin.
+fn entries_of(rng: &mut Rng, sheet: &Sheet, origin: Origin) -> Vec<u64> {
+    match origin {
+        Origin::FalseEntries => false_entries(rng, sheet),
+        Origin::Forged | Origin::Lucky => false_bits(rng, sheet),
+        _ => true_entries(rng, sheet),
     }
 }
 
@@ -150,10 +182,15 @@ fn falsify(
     }
 }
 
-/// Changes an element or more of shares of so many elements.
+/// Changes an element or more of shares of so many elements; of a seed a byte.
 fn alter(rng: &mut Rng, shares: &mut [Vec<u8>], elements: usize) {
     for _ in 0..rng.between(1, 3) {
         let server = rng.index(shares.len());
+        if shares[server][0] == SEED {
+            let at = 6 + rng.index(SEED_LENGTH);
+            shares[server][at] ^= rng.between(1, 255) as u8;
+            continue;
+        }
         let at = 6 + 4 * rng.index(elements);
         let element = &mut shares[server][at..at + 4];
         let old = field::words(element).map(u64::from).sum();
@@ -217,14 +254,21 @@ fn sigma_sum(circuit: &Circuit, whole: &[u64], r: u64) -> u64 {
     field::add(gap, field::sub(parts.c, field::mul(parts.a, parts.b)))
 }
 
+/// The elements that a share message stands for: those that it holds, or those of its seed. `None`
+/// when it does not fit the sheet.
+pub fn elements_of(sheet: &Sheet, message: &[u8]) -> Option<Vec<u64>> {
+    let own = u32::from(*message.get(5)?);
+    match share_parts(sheet, own, message).ok()? {
+        (_, Held::Elements(bytes)) => field::elements(bytes),
+        (id, Held::Seed(seed)) => Some(expand(seed, id, sheet.share_elements())),
+    }
+}
+
 /// The added-up elements of S share messages; `None` when they do not fit the sheet.
 pub fn added_up(sheet: &Sheet, shares: &[Vec<u8>]) -> Option<Vec<u64>> {
     let mut whole = vec![0; sheet.share_elements()];
     for share in shares {
-        let elements = field::elements(share.get(6..)?)?;
-        if elements.len() != whole.len() {
-            return None;
-        }
+        let elements = elements_of(sheet, share)?;
         for (sum, element) in whole.iter_mut().zip(elements) {
             *sum = field::add(*sum, element);
         }

@@ -53,6 +53,13 @@ impl Rng {
         (0..length).map(|_| self.next_u64() as u8).collect()
     }
 
+    /// A seed; now and then all its bytes are the same.
+    pub fn seed(&mut self) -> [u8; 32] {
+        let byte = self.pick([0, 1, 127, 128, 255]);
+        let same = self.chance(10);
+        [(); 32].map(|()| if same { byte } else { self.next_u64() as u8 })
+    }
+
     /// An element; now and then one at the edges.
     pub fn element(&mut self) -> u64 {
         if self.chance(10) {

@@ -4,7 +4,7 @@ use super::{Stage, Verdict, Worked, CLOSING, PLACES};
 use crate::field::{self, P};
 use crate::judging::{
     check_challenges, round_one_message, round_one_sums, round_two_message, round_two_sums,
-    share_parts, sigma, Findings, ROUND_ONE_LENGTH, ROUND_TWO_LENGTH,
+    share_parts, sigma, Findings, Held, ROUND_ONE_LENGTH, ROUND_TWO_LENGTH,
 };
 use crate::limits::{check_opening, check_servers};
 use crate::refusal;
@@ -114,14 +114,14 @@ impl State {
     }
 
     /// A share's refusals: 11, 13, 7, 8, 10, 9, 14. Gives the id and the bytes of
-    /// L + 2M + 6 elements, all below p.
+    /// L + 2M + 6 elements, all below p, or their seed.
     pub fn check_share<'a>(
         &self,
         message: &'a [u8],
         r: u64,
         s: u64,
         room: usize,
-    ) -> Result<(u32, &'a [u8]), u32> {
+    ) -> Result<(u32, Held<'a>), u32> {
         // "A ninth return, an id not waiting, or a close while any waits is refused 11."
         if self.closed || self.free().is_none() {
             return Err(refusal::STAGE);
@@ -130,8 +130,9 @@ impl State {
         if self.decided.len() + self.waiting().count() >= self.limit as usize {
             return Err(refusal::FULL);
         }
-        let (id, elements) = share_parts(&self.sheet, self.own, message)?;
-        if !field::all_elements(elements) {
+        let (id, held) = share_parts(&self.sheet, self.own, message)?;
+        // What comes of a seed is below p.
+        if matches!(held, Held::Elements(bytes) if !field::all_elements(bytes)) {
             return Err(refusal::ELEMENT);
         }
         // "An id that waits is refused 10."
@@ -142,7 +143,7 @@ impl State {
         if room < ROUND_ONE_LENGTH {
             return Err(refusal::ROOM);
         }
-        Ok((id, elements))
+        Ok((id, held))
     }
 
     /// "A share leads to the first wait." Gives the round one message. Refusal 11 where no

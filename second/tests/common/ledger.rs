@@ -4,7 +4,7 @@ use std::collections::{BTreeMap, BTreeSet};
 
 use super::{challenges_of, closing, each_message, id_of, sums, ONE_BYTES, TWO_BYTES};
 use second::field;
-use second::gen::{Answer, Call, Script};
+use second::gen::{elements_of, Answer, Call, Script};
 use second::{Sheet, Verdict};
 
 const STAGE: Answer = Answer::Refused(11);
@@ -60,7 +60,7 @@ impl Ledger {
         assert_eq!(*answer != STAGE, takes, "{call}");
         match call {
             _ if !takes => {}
-            Call::Share { message, r, s, .. } => self.share(script.limit, message, *r, *s, answer),
+            Call::Share { message, r, s, .. } => self.share(script, message, (*r, *s), answer),
             Call::RoundOne { id, joined, .. } => self.round_one(*id, joined, answer),
             Call::RoundTwo { id, joined } => self.round_two(*id, joined, answer),
             Call::Enter { id } => {
@@ -78,8 +78,8 @@ impl Ledger {
     }
 
     /// 13 with N decided and waiting; 10 only for an id that is, or was, one of them.
-    fn share(&mut self, limit: u32, message: &[u8], r: u64, s: u64, answer: &Answer) {
-        let full = self.decided() + self.waiting.len() >= limit as usize;
+    fn share(&mut self, script: &Script, message: &[u8], (r, s): (u64, u64), answer: &Answer) {
+        let full = self.decided() + self.waiting.len() >= script.limit as usize;
         assert_eq!(*answer == Answer::Refused(13), full);
         if *answer == Answer::Refused(10) {
             assert!(self.taken.contains_key(&id_of(message)));
@@ -90,7 +90,8 @@ impl Ledger {
         assert_eq!(written.len(), ONE_BYTES);
         assert_eq!(challenges_of(written), (r, s));
         let id = id_of(message);
-        let elements = field::elements(&message[6..]).unwrap();
+        let sheet = Sheet::read(&script.sheet).unwrap();
+        let elements = elements_of(&sheet, message).unwrap();
         assert!(self.taken.insert(id, (elements, r, s)).is_none());
         self.waiting.insert(id, 1);
         self.most = self.most.max(self.waiting.len());

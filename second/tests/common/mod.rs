@@ -11,6 +11,7 @@ pub mod twins;
 
 use second::field::{self, P};
 use second::gen::{self, Rng};
+use second::seeds::expand;
 use second::{enter, make, open, round_one, round_two, share, Sheet, Table, Verdict};
 
 /// p as a 4-byte number.
@@ -75,6 +76,18 @@ pub fn share_message(id: u32, server: u8, elements: &[u32]) -> Vec<u8> {
     message.push(server);
     message.extend(words(elements));
     message
+}
+
+/// A seed message.
+pub fn seed_message(id: u32, server: u8, seed: &[u8]) -> Vec<u8> {
+    [&[38], &id.to_le_bytes()[..], &[server], seed].concat()
+}
+
+/// The long message that stands for a seed.
+pub fn expanded(sheet: &Sheet, id: u32, server: u8, seed: &[u8; 32]) -> Vec<u8> {
+    let elements = expand(seed, id, sheet.share_elements());
+    let elements: Vec<u32> = elements.iter().map(|&element| element as u32).collect();
+    share_message(id, server, &elements)
 }
 
 /// A closing message.

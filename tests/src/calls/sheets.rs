@@ -90,6 +90,34 @@ impl Call {
         wrote(answer, &out, &written, &[])
     }
 
+    pub(super) fn make_seeded(&self, rng: &mut Rng) -> Result<Outcome, String> {
+        let sheet = Lent::of("sheet", &self.sheet, rng);
+        let values = Lent::of("values", &self.values, rng);
+        let random = Lent::of("random", &self.random, rng);
+        let seeds = Lent::of("seeds", &self.seeds, rng);
+        let mut out = Lent::room("out", self.room, rng);
+        let mut written = word_size("written", rng);
+        let answer = unsafe {
+            c::pool_make_seeded(
+                sheet.pointer(),
+                sheet.length(),
+                self.servers,
+                self.id,
+                values.pointer(),
+                values.length(),
+                random.pointer(),
+                random.length(),
+                seeds.pointer(),
+                seeds.length(),
+                out.pointer_mut(),
+                out.length(),
+                written.pointer(),
+            )
+        };
+        [&sheet, &values, &random, &seeds].into_iter().try_for_each(Lent::kept)?;
+        wrote(answer, &out, &written, &[])
+    }
+
     pub(super) fn join(&self, rng: &mut Rng) -> Result<Outcome, String> {
         let sheet = Lent::of("sheet", &self.sheet, rng);
         let joined = Lent::of("joined", &self.message, rng);

@@ -5,6 +5,7 @@ use crate::calls::{Call, Function};
 use crate::fixture::{other, Fixture, DECIDED, NEXT, UNKNOWN};
 use crate::layout::{put_short, put_word, Parts, AWAITS_ENTRY};
 use crate::reference::ONE_BYTES;
+use crate::seeds::seed_message;
 use crate::suite::{Suite, Verdict};
 
 const SHEET: [u8; 5] = [17, 18, 3, 19, 4];
@@ -90,6 +91,31 @@ pub fn tables(fixture: &Fixture) -> Vec<Fault> {
     wrong.push(Parts::default());
     wrong.push(fixture.first.with(|table| table.bytes.clear()));
     wrong.into_iter().map(|wrong| self::table(11, wrong)).collect()
+}
+
+/// A share from a seed: 11, 13, 7, 10, 9, 14.
+pub fn share_seed(suite: &mut Suite) -> Verdict {
+    for fixture in fixtures(suite)? {
+        let mut faults = tables(&fixture);
+        if fixture.first.waiting() == 8 {
+            faults.push(table(11, fixture.first.clone()));
+        }
+        faults.push(table(13, fixture.full.clone()));
+        let kinds = [0, 32, 33, 34, 35, 36, 37, 39, 255];
+        faults.extend(kinds.map(|kind| fault(2, 7, "kind", move |call| call.message[0] = kind)));
+        faults.extend([0, 2, 3, 255].map(|own| fault(2, 7, "server", move |call| call.message[5] = own)));
+        faults.push(fault(4, 10, "id", |call| put_word(&mut call.message, 1, DECIDED.into())));
+        let m = fixture.multiplications;
+        faults.extend([0, m, P, (1 << 32) + m + 1, u64::MAX].map(|r| fault(5, 9, "r", move |call| call.r = r)));
+        faults.extend([P, 1 << 32, u64::MAX].map(|s| fault(5, 9, "s", move |call| call.s = s)));
+        faults.extend(rooms(6, ONE_BYTES));
+        let resized = |length: usize| fault(2, 7, "length", move |call| call.message.resize(length, 0));
+        faults.extend([0, 1, 6, 34, 37, 39, 42].map(resized));
+        faults.extend(parts(0, 11, fixture.idle.elements.len()));
+        let message = seed_message(NEXT, 1, &[0xFF; 32]);
+        alone_and_in_pairs(suite, &Call { message, ..fixture.share() }, &faults)?;
+    }
+    Ok(())
 }
 
 /// A share: 11, 13, 7, 8, 10, 9, 14.

@@ -89,7 +89,7 @@ fn honest(suite: &mut Suite, rng: &mut Rng, pool: &mut Pool, count: u32) -> Verd
     for id in 0..count {
         entries.close_refused(suite, pool)?;
         let values = gen::values(rng, &pool.sheet);
-        let shares = pool.make(suite, rng, id, &values)?;
+        let shares = pool.make_any(suite, rng, id, &values)?;
         let (r, s) = gen::pair(rng, pool.sheet.multiplications());
         if rng.chance(10) {
             pool.share(suite, &shares, r, s)?;

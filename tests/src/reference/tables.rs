@@ -2,6 +2,7 @@
 //! judging.
 
 use second::field::{self, P};
+use second::gen::elements_of;
 use second::{fast, refusal, Sheet};
 
 use super::{round_message, ONE_BYTES, TWO_BYTES};
@@ -56,7 +57,8 @@ pub fn share(call: &Call) -> Outcome {
     let mut after = call.table.clone();
     let (d, e) = (word(&message, 6), word(&message, 10));
     after.slots[free] = Slot { id, stage: layout::AWAITS_ONE, r: call.r, s: call.s, d, e };
-    let mut place: Vec<u64> = layout::words(&call.message, 6, table.at.share);
+    let sheet = Sheet::read(&table.bytes)?;
+    let mut place = elements_of(&sheet, &call.message).ok_or(refusal::SHARE)?;
     let (rh, tau) = hidden(&mut fresh, &table, &place, &message);
     place.extend([rh, tau]);
     for (to, number) in table.place_mut(&mut after, free).iter_mut().zip(place) {

@@ -1,6 +1,6 @@
 //! Random cases.
 
-use super::{Case, Fit, Shelf};
+use super::{Case, Fit, Seeded, Shelf};
 use crate::circuit::circuit;
 use crate::gen::any::{
     any_id, any_least, any_limit, any_messages, any_room, any_servers, any_sheet, any_width,
@@ -10,10 +10,46 @@ use crate::gen::{circuits, sheets, Rng};
 use crate::listing::every_return;
 use crate::sheet::{Column, Sheet};
 
+/// A sheet, S, values for it and the number of elements of a share. For a damaged sheet the rest
+/// fits another sheet.
+fn making(rng: &mut Rng) -> (Vec<u8>, u32, Vec<u8>, usize) {
+    let max = rng.pick([4, 12, 12, 40, 40, 120]);
+    let sheet = any_sheet(rng, max, 10);
+    let servers = any_servers(rng, 10);
+    let shape = Sheet::read(&sheet).or_else(|_| Sheet::read(&[17]));
+    let (values, elements) = match &shape {
+        Ok(shape) if rng.chance(15) => (sheets::damaged_values(rng, shape), shape.share_elements()),
+        Ok(shape) => (sheets::values(rng, shape), shape.share_elements()),
+        Err(_) => (Vec::new(), 0),
+    };
+    (sheet, servers, values, elements)
+}
+
+/// So many random elements, damaged now and then.
+fn any_elements(rng: &mut Rng, count: usize) -> Vec<u8> {
+    if rng.chance(15) {
+        sheets::damaged_elements(rng, count)
+    } else {
+        sheets::elements(rng, count)
+    }
+}
+
+/// So many seeds; now and then of another length.
+fn any_seeds(rng: &mut Rng, count: usize) -> Vec<u8> {
+    let mut seeds: Vec<u8> = (0..count).flat_map(|_| rng.seed()).collect();
+    if rng.chance(15) {
+        let right = seeds.len();
+        let any = rng.index(300);
+        let length = rng.pick([0, 32, right - 32, right - 1, right + 1, right + 32, any]);
+        seeds.resize(length, 7);
+    }
+    seeds
+}
+
 impl Case {
     /// A random case: half of them good, the rest with one fault or more.
     pub fn random(rng: &mut Rng) -> Case {
-        match rng.below(10) {
+        match rng.below(11) {
             0 => Case::random_sizes(rng),
             1 => Case::random_circuit(rng),
             2 => Case::random_read_circuit(rng),
@@ -23,6 +59,7 @@ impl Case {
             6 => Case::random_join(rng),
             7 => Case::random_recount(rng),
             8 => Case::random_line(rng),
+            9 => Case::random_make_seeded(rng),
             _ => Case::random_shelf(rng),
         }
     }
@@ -71,38 +108,33 @@ impl Case {
 
     /// Making a return.
     pub fn random_make(rng: &mut Rng) -> Case {
-        let max = rng.pick([4, 12, 12, 40, 40, 120]);
-        let sheet = any_sheet(rng, max, 10);
-        let servers = any_servers(rng, 10);
-        let read = Sheet::read(&sheet);
-        let shape = Sheet::read(&[17]);
-        // For a damaged sheet the rest fits another sheet.
-        let (values, count, length) = match read.as_ref().or(shape.as_ref()) {
-            Ok(sheet) => {
-                let values = if rng.chance(15) {
-                    sheets::damaged_values(rng, sheet)
-                } else {
-                    sheets::values(rng, sheet)
-                };
-                (values, sheet.share_elements(), sheet.share_length())
-            }
-            Err(_) => (Vec::new(), 0, 0),
-        };
+        let (sheet, servers, values, elements) = making(rng);
         let small = servers.clamp(2, 8) as usize;
-        let needed = (small - 1) * count + 4;
-        let random = if rng.chance(15) {
-            sheets::damaged_elements(rng, needed)
-        } else {
-            sheets::elements(rng, needed)
-        };
+        let random = any_elements(rng, (small - 1) * elements + 4);
         Case::Make {
             sheet,
             servers,
             id: any_id(rng),
             values,
             random,
-            room: any_room(rng, small * length, 15),
+            room: any_room(rng, small * (6 + 4 * elements), 15),
         }
+    }
+
+    /// Making a return from seeds.
+    pub fn random_make_seeded(rng: &mut Rng) -> Case {
+        let (sheet, servers, values, elements) = making(rng);
+        let small = servers.clamp(2, 8) as usize;
+        let needed = 6 + 4 * elements + 38 * (small - 1);
+        Case::MakeSeeded(Seeded {
+            sheet,
+            servers,
+            id: any_id(rng),
+            values,
+            random: any_elements(rng, 4),
+            seeds: any_seeds(rng, small - 1),
+            room: any_room(rng, needed, 15),
+        })
     }
 
     /// Opening a table.

@@ -123,7 +123,7 @@ impl Builder {
             18 => Origin::FalseTriple,
             _ => Origin::LuckyTriple,
         };
-        let made = Return::random(&mut self.rng, &self.sheet, self.servers, id, origin);
+        let made = Return::mixed(&mut self.rng, &self.sheet, self.servers, id, origin);
         self.returns.push(made);
         self.returns.len() - 1
     }

@@ -8,6 +8,7 @@ use crate::gen::any::{any_id, any_room};
 use crate::gen::{pair, sheets, Rng};
 use crate::judging::{ROUND_ONE, ROUND_ONE_LENGTH, ROUND_TWO, ROUND_TWO_LENGTH};
 use crate::making::header;
+use crate::seeds::SEED;
 
 impl Builder {
     /// Adds up to three refused calls at a server. A call that would be taken is left out.
@@ -59,9 +60,14 @@ impl Builder {
         let elements = self.sheet.share_elements();
         let gates = self.sheet.multiplications();
         let mut message = header(id, server as u8).to_vec();
-        message.extend(sheets::elements(rng, elements));
+        if rng.chance(30) {
+            message[0] = SEED;
+            message.extend(rng.seed());
+        } else {
+            message.extend(sheets::elements(rng, elements));
+        }
         let (mut r, mut s) = pair(rng, gates);
-        damage_share(rng, percent, &mut message, elements);
+        damage_share(rng, percent, &mut message);
         if rng.chance(percent) {
             r = wrong_r(rng, gates as u64);
         }
@@ -108,9 +114,11 @@ impl Builder {
 }
 
 /// Puts faults into a share message, each in so many of a hundred cases.
-fn damage_share(rng: &mut Rng, percent: u64, message: &mut Vec<u8>, elements: usize) {
+fn damage_share(rng: &mut Rng, percent: u64, message: &mut Vec<u8>) {
+    let elements = (message.len() - 6) / 4;
     if rng.chance(percent) {
-        message[0] = rng.pick([0, 17, 32, 34, 35, 36, 255]);
+        // Among them the kind byte of the other message.
+        message[0] = rng.pick([0, 17, 33, 34, 36, 37, 38, 39, 255]);
     }
     if rng.chance(percent) {
         message[5] = rng.pick([0, 1, 2, 7, 8, 255]);

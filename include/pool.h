@@ -8,6 +8,7 @@
  *     every party       pool_sizes -----> what the sheet comes to, and so the length of every buffer
  *     an author         pool_every_return -> every legal return of a small sheet
  *     workshop          pool_make ------> S share messages, one for each server
+ *                       pool_make_seeded -> one share message and S - 1 seed messages of 38 bytes, which stand for shares
  *     each server       pool_open         once: a table, in three parts
  *                       pool_share ------> its round-one message    } for each return: up to eight
  *                       pool_round_one --> its round-two message    } are under way at a time,
@@ -22,6 +23,20 @@
  * The host sends the messages: what a server writes in a round goes to every server. It also draws the random numbers, and
  * chooses r and s, for each return anew and the same for every server, after the shares have been sent and in a way that no
  * workshop can foretell.
+ *
+ * Share messages. A server takes its share in one of two forms, told by byte 0:
+ *
+ *     byte 0       33, a share message           38, a seed message
+ *     bytes 1-4    the id                        the id
+ *     byte 5       the server                    the server, never 0
+ *     from 6 on    the elements of the share     a seed of 32 bytes, from which the server works out the elements
+ *     length       share_bytes (42 to 3,102)     POOL_SEED_MESSAGE_BYTES
+ *
+ * A seed stands for (share_bytes - 6) / 4 elements: element k, from 0, is made of bytes 4k to 4k + 3 of the key stream of ChaCha20
+ * (RFC 8439) with the seed as its key, blocks counted from 0, and as its nonce bytes 1 to 4 of the message followed by eight zero
+ * bytes. These 4 bytes are read as a number, its top bit is cleared, and it is taken modulo p: so 0x7fffffff and 0xffffffff give 0. A
+ * seed of 32 zero bytes under the id 0 gives 769702006, 272495008, 1701469504, 683509331 and so on. Server 0 gets a share message, the
+ * remainder, and any other either form. From then on there is no difference: rounds, verdicts and totals are those of the elements.
  *
  * Round messages. A server is handed the S messages of a round of one return one after another as they arrived: in any order,
  * which may be another at each server; one of each server, the own one, unaltered, among them. They need no sorting, for each
@@ -74,7 +89,10 @@
  * erases the table; those of all S tables, closed or not, added up modulo p, are the totals. The slots and the rest of the bytes
  * hold what the servers agree on or tell one another: ids, counts, r, s, d and e. The library erases in the parts that it is
  * lent; older copies and the share message are the host's to erase. Share messages that a host stores stay as secret as they
- * were, in any order of their bytes: those of all S servers, added up, are the returns.
+ * were, in any order of their bytes: those of all S servers, added up, are the returns. A seed is as secret as the share that it
+ * stands for, from the moment it is drawn. No part of a table holds it: once pool_share is done and the table is stored nothing
+ * needs it, and the server wipes the seed message as it wipes a share message. The workshop wipes the seeds and the random elements
+ * once the messages are made, and the messages once they are sent.
  *
  * Several returns under way. Each call names its return: a share by the id in its message, the other calls by an id. What
  * becomes of a return that was taken does not depend on the calls on others between its own, and returns may be finished in
@@ -149,7 +167,7 @@
  * dropping ends it. The keepers compare the r and s that each server was given for the id: they stand in its slot and in its
  * message. Where the slots have one pair, a message was altered on its way. They drop the id at every server: none can have a
  * verdict, for round two needs a message of each. The id stays used, and the shares are never judged again: the workshop makes its
- * return anew, with new random elements and under a new id, and a new pair is given, the same at every server.
+ * return anew, with new random elements and seeds and under a new id, and a new pair is given, the same at every server.
  *
  * Small pools. The totals of few returns show much of each. So a table opens with a least count Q, from 1 to N, the same at every
  * server: with fewer than Q returns entered pool_close is refused 15 and gives no totals. Nothing has changed then: the table
@@ -180,9 +198,9 @@ extern "C" {
 #define POOL_WIRE 3     /* circuit: a wire not yet made, or an entry that does not exist */
 #define POOL_WRAP 4     /* N returns could make a total of p or more */
 #define POOL_VALUE 5    /* not one value for each column, or a value outside its column */
-#define POOL_RANDOM 6   /* not the right number of random elements, or one not below p */
-#define POOL_SHARE 7    /* share message of the wrong kind byte, length or server */
-#define POOL_ELEMENT 8  /* share element not below p */
+#define POOL_RANDOM 6   /* not the right number of random elements or seeds, or an element not below p */
+#define POOL_SHARE 7    /* share or seed message of the wrong kind byte, length or server, or a seed message for server 0 */
+#define POOL_ELEMENT 8  /* share element not below p; those of a seed are always below p */
 #define POOL_PAIR 9     /* r or s outside its range */
 #define POOL_DECIDED 10 /* the id was decided or waits */
 #define POOL_STAGE 11   /* table unsound or closed, nothing waits under that id in that stage, eight wait, or a close while one waits */
@@ -258,6 +276,11 @@ typedef struct {
 #define POOL_VALUES_BYTES(columns) (4 * (size_t)(columns))
 #define POOL_RANDOM_BYTES(servers, share_bytes) (((size_t)(servers) - 1) * ((size_t)(share_bytes) - 6) + 16)
 #define POOL_MAKE_BYTES(servers, share_bytes) ((size_t)(servers) * (size_t)(share_bytes))
+#define POOL_SEED_BYTES 32
+#define POOL_SEED_MESSAGE_BYTES 38
+#define POOL_SEEDED_RANDOM_BYTES 16
+#define POOL_SEEDS_BYTES(servers) (((size_t)(servers) - 1) * POOL_SEED_BYTES)
+#define POOL_MAKE_SEEDED_BYTES(servers, share_bytes) ((size_t)(share_bytes) + ((size_t)(servers) - 1) * POOL_SEED_MESSAGE_BYTES)
 #define POOL_ROUND_ONE_BYTES 22
 #define POOL_ROUND_TWO_BYTES 14
 #define POOL_TOTALS_BYTES(published) (6 + 4 * (size_t)(published))
@@ -279,6 +302,8 @@ typedef struct {
 #define POOL_MAX_RANDOM_BYTES 21688
 #define POOL_MAX_SHARE_BYTES 3102
 #define POOL_MAX_MAKE_BYTES 24816
+#define POOL_MAX_SEEDS_BYTES 224
+#define POOL_MAX_MAKE_SEEDED_BYTES 3368
 #define POOL_MAX_TOTALS_BYTES 1030
 #define POOL_MAX_JOIN_BYTES 1024
 #define POOL_MAX_TABLE_BYTES 5390 /* N = 1,024; a sheet has at most 5 bytes for each entry, its total included, as 256 yes/no have */
@@ -344,6 +369,31 @@ uint32_t pool_make(const uint8_t *sheet, size_t sheet_len, uint32_t servers, uin
                    uint8_t *out, size_t out_len, size_t *written);
 
 /*
+ * Makes a return with seeds in place of the shares of servers 1 to S - 1. It writes server 0's share message, share_bytes, then the
+ * seed messages of servers 1 to S - 1 in this order, POOL_SEED_MESSAGE_BYTES each: POOL_MAKE_SEEDED_BYTES in all. Server 0's message
+ * begins at out, that of server i, from 1 on, at out + share_bytes + (i - 1) x POOL_SEED_MESSAGE_BYTES.
+ *     id, values  as in pool_make
+ *     random      POOL_SEEDED_RANDOM_BYTES: four random elements, each drawn evenly below p, never used twice
+ *     seeds       POOL_SEEDS_BYTES: the seeds of servers 1 to S - 1 one after another. Each is 32 random bytes of the system, any
+ *                 bytes, drawn by itself, used for one server of one return, and told to this server only
+ * It is the return that pool_make makes of these four elements and the elements of the seeds, and a host may work out the elements of
+ * a seed itself and send the share message instead. The id goes into the elements: a seed message is not renamed.
+ *
+ * Never use a seed twice. The elements depend on the seed and the id, not on the server: with one seed for two servers both have the
+ * same share, and each knows the other's. With the same id and seeds for two returns server 0's shares differ by what these differ by.
+ *
+ * When it is worth it. The workshop sends less: with S = 8 and the largest sheet 3,368 bytes instead of 24,816, and draws 240 random
+ * bytes instead of 21,688. In general (S - 1) x (share_bytes - 38) bytes are saved: next to nothing with one yes/no, whose
+ * share_bytes are 42, and more with each entry and server. A server pays with the key stream, one block of 64 bytes for 16 elements.
+ * Shares of random elements hide a return from all servers but one whatever these can compute; those of seeds hide it as well as
+ * ChaCha20 keeps its key stream from being told from random bytes.
+ * Refusals: the sheet's, 2 for S, 5, 6 for other than four elements, one not below p, or other than S - 1 seeds, 14.
+ */
+uint32_t pool_make_seeded(const uint8_t *sheet, size_t sheet_len, uint32_t servers, uint32_t id,
+                          const uint8_t *values, size_t values_len, const uint8_t *random, size_t random_len,
+                          const uint8_t *seeds, size_t seeds_len, uint8_t *out, size_t out_len, size_t *written);
+
+/*
  * Opens a table of server `own` (0 to S - 1): writes its three parts. S, sheet, N and Q are the same at every server.
  *     returns   N, 1 to 1,024: how many returns it takes, decided and waiting together. One above the sheet's greatest_returns
  *               is refused
@@ -361,10 +411,14 @@ uint32_t pool_open(uint32_t servers, uint32_t own, const uint8_t *sheet, size_t 
 /*
  * Takes a share into the first free slot and its place, and writes the server's round-one message, POOL_ROUND_ONE_BYTES, which
  * tells r and s. The bytes of the table stay as they are.
+ *     message   a share message, share_bytes, or a seed message, POOL_SEED_MESSAGE_BYTES, told by byte 0 (see Share messages). The place
+ *               in the elements is filled with the elements of the share, whichever it is. Servers of one return may have either
  *     r         from M + 1 to p - 1; s from 0 to p - 1: the same at every server, or each refuses round one 16
  * A ninth share is refused 11 and handed in again, before any later share and with the same r and s, once a return is decided.
  * Refusals: 11 for a table that is unsound (other than eight slots or too few numbers included) or closed, or in which eight
- * returns wait; 13 for N returns that are decided or wait; 7, 8, 10 for an id that was decided or waits, 9, 14.
+ * returns wait; 13 for N returns that are decided or wait; 7 for a byte 0 other than 33 and 38, a length that is not the one of this
+ * kind, another server than the own one, or a seed message at server 0; 8, for a share message only; 10 for an id that was decided or
+ * waits; 9, 14. A seed that was altered on its way is no fault here: it gives other elements, and round two rejects the return.
  */
 uint32_t pool_share(const uint8_t *table, size_t table_len, pool_slot *slots, size_t slots_len,
                     uint32_t *elements, size_t elements_len, const uint8_t *message, size_t message_len,
@@ -461,7 +515,8 @@ uint32_t pool_line(uint32_t servers, const uint8_t *sheet, size_t sheet_len, uin
 /*
  * Stores messages by place: the first byte of each, then the second of each, and so on. So equal places in a season's shares
  * stand together: the kind bytes, the ids, each entry. The share messages that one server gets on one sheet are all share_bytes
- * long; a keeper stores up to 64 of them in one run, and notes R and W beside it. The run is as secret as the messages.
+ * long, its seed messages POOL_SEED_MESSAGE_BYTES; a keeper stores up to 64 of one length in one run, and notes R and W beside it. The
+ * run is as secret as the messages.
  *     messages  R, 1 to 64
  *     width     W, the length of each message, 1 to 4,096
  *     run       the messages one after another, POOL_SHELF_BYTES: any bytes, sound shares or not

@@ -1,10 +1,11 @@
 /*
- * A whole pool on one machine: eleven watchmakers' workshops, three servers, one sheet. Up to eight returns wait at a server
- * at a time, and they are finished in another order than they came. The messages of a round are handed in as they arrive, in
- * another order at each server. Returns are accepted first and entered second: one server stops between the two, goes on later
- * from its stored table and enters what the others have entered; one return is accepted and then dropped by all. One keeper types
- * r wrongly for a return: no server judges it, and it is dropped and filed anew. With fewer returns entered than the least count no
- * server closes; one more workshop files, and they do. From the totals comes the line that fits the hours on a plate to its diameter.
+ * A whole pool on one machine: eleven watchmakers' workshops, three servers, one sheet. Some workshops send shares to all servers,
+ * some a share to server 0 and seeds to the others. Up to eight returns wait at a server at a time, and they are finished in another
+ * order than they came. The messages of a round are handed in as they arrive, in another order at each server. Returns are accepted
+ * first and entered second: one server stops between the two, goes on later from its stored table and enters what the others have
+ * entered; one return is accepted and then dropped by all. One keeper types r wrongly for a return: no server judges it, and it is
+ * dropped and filed anew. With fewer returns entered than the least count no server closes; one more workshop files, and they do.
+ * From the totals comes the line that fits the hours on a plate to its diameter.
  * Prints what happens to each return, the totals and the line, and checks them against the plain sums, which no real pool has.
  *
  * Exit status: 0, or 1 where a call has another answer than it must have or totals and line are not those of the plain sums.
@@ -88,8 +89,13 @@ static void arrive(int k)
     host_must("pool_make", answer);
     if (w->conduct == CHEATS)
         alter(u->shares);
-    for (size_t i = 0; i < SERVERS; i++)
-        printf(" %11u", (unsigned)host_u32(u->shares + i * sizes.share_bytes + 6));
+    for (uint32_t i = 0; i < SERVERS; i++) {
+        struct message m = message_for(k, i);
+        if (m.len == POOL_SEED_MESSAGE_BYTES)
+            printf(" %11s", "a seed");
+        else
+            printf(" %11u", (unsigned)host_u32(m.at + 6));
+    }
     say(take_shares(k) ? "taken" : "refused 11, to come again");
 }
 
@@ -133,6 +139,8 @@ int main(void)
     for (uint32_t i = 0; i < SERVERS; i++)
         done("pool_open", i, host_open(SERVERS, i, sheet, sizeof sheet, RETURNS, LEAST, &tables[i]));
     printf("%d workshops answer it. Each splits its return into %d shares, one for each server.\n", KRUSE, SERVERS);
+    printf("Some send all servers but the first a seed in place of a share: %u bytes in all instead of %u.\n",
+           (unsigned)POOL_MAKE_SEEDED_BYTES(SERVERS, sizes.share_bytes), (unsigned)POOL_MAKE_BYTES(SERVERS, sizes.share_bytes));
     printf("What each server sees of the first answer, and how many returns wait at each server:\n\n");
     printf("  %-7s %11s %11s %11s\n", "", "server 0", "server 1", "server 2");
     for (int k = 0; k < KRUSE; k++)

@@ -1,7 +1,7 @@
 /*
  * host.h: what a C host of the pool brings along: refusals in words, what a sheet comes to, a table with how many returns wait in
- * it and what for, numbers in buffers, the value of a point, the r and s of a message, random numbers from the system. Functions are
- * static, so that a program has only to include it.
+ * it and what for, numbers in buffers, the value of a point, the r and s of a message, random numbers and seeds from the system, where
+ * the messages of a return made from seeds begin, wiping. Functions are static, so that a program has only to include it.
  */
 #ifndef POOL_HOST_H
 #define POOL_HOST_H
@@ -23,8 +23,8 @@ static inline const char *host_words(uint32_t refusal)
         "circuit: a wire not yet made, or an entry that does not exist",
         "so many returns could make a total of p or more",
         "not one value for each column, or a value outside its column",
-        "not the right number of random elements, or one not below p",
-        "share message of the wrong kind, length or server",
+        "not the right number of random elements or seeds, or an element not below p",
+        "share or seed message of the wrong kind, length or server, or a seed message for server 0",
         "share element not below p",
         "r or s outside its range",
         "the id was decided or waits",
@@ -155,6 +155,27 @@ static inline void host_elements(uint8_t *out, size_t len)
 {
     for (size_t at = 0; at < len; at += 4)
         host_put_u32(out + at, host_element());
+}
+
+/* Draws the seeds of servers 1 to S - 1, POOL_SEEDS_BYTES, for one return: any bytes are a seed. */
+static inline void host_seeds(uint8_t *out, uint32_t servers) { host_random(out, POOL_SEEDS_BYTES(servers)); }
+
+/* Where the message for server i begins in what pool_make_seeded wrote, and its length. */
+static inline size_t host_seeded_at(uint32_t i, uint32_t share_bytes)
+{
+    return i == 0 ? 0 : share_bytes + (i - 1) * (size_t)POOL_SEED_MESSAGE_BYTES;
+}
+
+static inline size_t host_seeded_len(uint32_t i, uint32_t share_bytes)
+{
+    return i == 0 ? share_bytes : POOL_SEED_MESSAGE_BYTES;
+}
+
+/* Overwrites what is secret and no longer needed; the compiler may not leave it out. */
+static inline void host_wipe(void *at, size_t len)
+{
+    for (volatile uint8_t *byte = at; len > 0; len--)
+        *byte++ = 0;
 }
 
 /* A random challenge r: from M + 1 to p - 1. */

@@ -16,6 +16,7 @@ enum { COLUMNS = 4, SINGLE = COLUMNS - 1, POINT_BYTES = 2, POINT_BITS = 6, POINT
 static const uint8_t sheet[] = {POOL_YES_NO, POOL_CHOICE, 4, POOL_TOP, 200, 0, 0, 0, POOL_POINT, POINT_BITS};
 
 enum conduct { HONEST, CHEATS, SLIPS };
+enum form { SHARES, SEEDS }; /* what a workshop sends to servers 1 to S - 1 */
 enum { ALBERS, BRANDT, CLASEN, DORN, EBERT, FUCHS, GROSS, HARMS, IHDE, JANSEN, KRUSE, WORKSHOPS }; /* Kruse files late */
 
 static const struct workshop {
@@ -23,11 +24,14 @@ static const struct workshop {
     uint32_t values[SINGLE]; /* yes or no, the option from 0, the number */
     uint32_t x, y;           /* the plate's diameter in mm, and the hours on the plate */
     enum conduct conduct;
+    enum form form;
 } workshops[WORKSHOPS] = {
-    {"Albers", {1, 0, 3}, 28, 2, HONEST},   {"Brandt", {0, 2, 11}, 34, 5, HONEST}, {"Clasen", {1, 1, 6}, 30, 3, HONEST},
-    {"Dorn", {1, 3, 150}, 36, 60, CHEATS},  {"Ebert", {1, 2, 9}, 36, 5, HONEST},   {"Fuchs", {0, 1, 40}, 32, 4, HONEST},
-    {"Gross", {0, 2, 200}, 44, 63, HONEST}, {"Harms", {0, 1, 255}, 26, 2, SLIPS},  {"Ihde", {1, 0, 75}, 42, 9, HONEST},
-    {"Jansen", {0, 3, 14}, 38, 7, HONEST},  {"Kruse", {1, 1, 25}, 40, 7, HONEST},
+    {"Albers", {1, 0, 3}, 28, 2, HONEST, SHARES},   {"Brandt", {0, 2, 11}, 34, 5, HONEST, SEEDS},
+    {"Clasen", {1, 1, 6}, 30, 3, HONEST, SHARES},   {"Dorn", {1, 3, 150}, 36, 60, CHEATS, SEEDS},
+    {"Ebert", {1, 2, 9}, 36, 5, HONEST, SEEDS},     {"Fuchs", {0, 1, 40}, 32, 4, HONEST, SHARES},
+    {"Gross", {0, 2, 200}, 44, 63, HONEST, SHARES}, {"Harms", {0, 1, 255}, 26, 2, SLIPS, SEEDS},
+    {"Ihde", {1, 0, 75}, 42, 9, HONEST, SHARES},    {"Jansen", {0, 3, 14}, 38, 7, HONEST, SEEDS},
+    {"Kruse", {1, 1, 25}, 40, 7, HONEST, SHARES},
 };
 
 /* Orders in which the messages of a round arrive: another at each server. */
@@ -49,21 +53,54 @@ static uint32_t plain[PUBLISHED], plain_count;
 
 static uint32_t id_of(int k) { return (uint32_t)k + 1; }
 
-/*
- * A workshop makes its return under this id, or is refused. The share of server i begins at shares + i * sizes.share_bytes. The
- * challenges are drawn after it: the workshop could not know them.
- */
+static uint32_t make_shares(struct under_way *u, uint32_t id, const uint8_t *values, size_t len)
+{
+    uint8_t random[POOL_MAX_RANDOM_BYTES];
+    size_t random_len = POOL_RANDOM_BYTES(SERVERS, sizes.share_bytes), written;
+    host_elements(random, random_len);
+    uint32_t answer = pool_make(sheet, sizeof sheet, SERVERS, id, values, len, random, random_len, u->shares, sizeof u->shares,
+                                &written);
+    host_wipe(random, random_len);
+    return answer;
+}
+
+static uint32_t make_seeds(struct under_way *u, uint32_t id, const uint8_t *values, size_t len)
+{
+    uint8_t random[POOL_SEEDED_RANDOM_BYTES], seeds[POOL_SEEDS_BYTES(SERVERS)];
+    size_t written;
+    host_elements(random, sizeof random);
+    host_seeds(seeds, SERVERS);
+    uint32_t answer = pool_make_seeded(sheet, sizeof sheet, SERVERS, id, values, len, random, sizeof random, seeds, sizeof seeds,
+                                       u->shares, sizeof u->shares, &written);
+    host_wipe(random, sizeof random);
+    host_wipe(seeds, sizeof seeds);
+    return answer;
+}
+
+/* A message for a server. */
+struct message {
+    uint8_t *at;
+    size_t len;
+};
+
+/* What workshop k sends to server i. */
+static struct message message_for(int k, uint32_t i)
+{
+    uint8_t *shares = under_way[k].shares;
+    if (workshops[k].form == SEEDS)
+        return (struct message){shares + host_seeded_at(i, sizes.share_bytes), host_seeded_len(i, sizes.share_bytes)};
+    return (struct message){shares + i * sizes.share_bytes, sizes.share_bytes};
+}
+
+/* A workshop makes its return under this id, or is refused. The challenges are drawn after it: the workshop could not know them. */
 static uint32_t file(int k, uint32_t id)
 {
     struct under_way *u = &under_way[k];
-    uint8_t values[POOL_VALUES_BYTES(COLUMNS)], random[POOL_MAX_RANDOM_BYTES];
-    size_t random_len = POOL_RANDOM_BYTES(SERVERS, sizes.share_bytes), written;
+    uint8_t values[POOL_VALUES_BYTES(COLUMNS)];
     for (int n = 0; n < SINGLE; n++)
         host_put_u32(values + 4 * n, workshops[k].values[n]);
     host_put_u32(values + 4 * SINGLE, host_point(POINT_BITS, workshops[k].x, workshops[k].y));
-    host_elements(random, random_len);
-    uint32_t answer = pool_make(sheet, sizeof sheet, SERVERS, id, values, sizeof values, random, random_len, u->shares,
-                                sizeof u->shares, &written);
+    uint32_t answer = (workshops[k].form == SEEDS ? make_seeds : make_shares)(u, id, values, sizeof values);
     u->id = id;
     u->r = host_challenge(sizes.multiplications);
     u->s = host_element();
@@ -81,23 +118,24 @@ static void done(const char *call, size_t i, uint32_t answer)
 }
 
 /*
- * Every server takes its share of return k. Says whether they did: with eight returns waiting they refuse it, and it is
- * handed in again later.
+ * Every server takes its share of return k, or the seed that stands for it. Says whether they did: with eight returns waiting they
+ * refuse it, and it is handed in again later. What was taken is stored in the table, and the message is wiped.
  */
 static int take_shares(int k)
 {
     struct under_way *u = &under_way[k];
     size_t written;
-    for (size_t i = 0; i < SERVERS; i++) {
+    for (uint32_t i = 0; i < SERVERS; i++) {
         struct host_table *t = &tables[i];
+        struct message m = message_for(k, i);
         /* The last keeper slips for Ihde's first return: he types the r of another one. */
         int slips = i == LAST && u->id == id_of(IHDE);
-        uint32_t answer = pool_share(HOST_TABLE(t), u->shares + i * sizes.share_bytes, sizes.share_bytes,
-                                     slips ? under_way[ALBERS].r : u->r, u->s, u->ones + i * POOL_ROUND_ONE_BYTES,
-                                     POOL_ROUND_ONE_BYTES, &written);
+        uint32_t answer = pool_share(HOST_TABLE(t), m.at, m.len, slips ? under_way[ALBERS].r : u->r, u->s,
+                                     u->ones + i * POOL_ROUND_ONE_BYTES, POOL_ROUND_ONE_BYTES, &written);
         if (answer == POOL_STAGE && host_waiting(t->slots) == POOL_SLOTS)
             return 0; /* the servers took the same shares before: the others refuse it too */
         done("pool_share", i, answer);
+        host_wipe(m.at, m.len);
     }
     return 1;
 }

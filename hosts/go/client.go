@@ -1,7 +1,6 @@
 package pool
 
 import (
-	"crypto/rand"
 	"encoding/binary"
 	"io"
 )
@@ -14,7 +13,7 @@ type Client struct {
 }
 
 // Make splits a return into one share message for each server, in server order. Values are one for each column of the
-// sheet. An id is for one return only, whatever becomes of it.
+// sheet. An id is for one return only, whatever becomes of it. MakeSeeded makes shorter messages.
 func (c *Client) Make(id uint32, values []uint32) ([][]byte, error) {
 	var random, out []byte
 	// Outside these limits nothing is drawn: the core refuses before it looks at random elements.
@@ -22,6 +21,7 @@ func (c *Client) Make(id uint32, values []uint32) ([][]byte, error) {
 		random = make([]byte, c.Sheet.randomBytes(c.Servers))
 		out = make([]byte, c.Sheet.makeBytes(c.Servers))
 	}
+	defer wipe(random)
 	if err := drawElements(c.Random, random); err != nil {
 		return nil, err
 	}
@@ -74,12 +74,9 @@ func drawElements(random io.Reader, run []byte) error {
 // drawBelow draws a number below a limit of at most 2^31, each as likely as any: 31 random bits, drawn again where they
 // come to the limit or more.
 func drawBelow(random io.Reader, limit uint32) (uint32, error) {
-	if random == nil {
-		random = rand.Reader
-	}
-	var b [4]byte
+	var b [elementBytes]byte
 	for {
-		if _, err := io.ReadFull(random, b[:]); err != nil {
+		if err := drawBytes(random, b[:]); err != nil {
 			return 0, err
 		}
 		if x := binary.LittleEndian.Uint32(b[:]) & (1<<31 - 1); x < limit {

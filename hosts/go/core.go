@@ -7,6 +7,8 @@ package pool
 // // The sizes of buffers, which the header gives as macros of what pool_sizes tells.
 // static size_t random_bytes(uint32_t servers, uint32_t share) { return POOL_RANDOM_BYTES(servers, share); }
 // static size_t make_bytes(uint32_t servers, uint32_t share) { return POOL_MAKE_BYTES(servers, share); }
+// static size_t seeds_bytes(uint32_t servers) { return POOL_SEEDS_BYTES(servers); }
+// static size_t make_seeded_bytes(uint32_t servers, uint32_t share) { return POOL_MAKE_SEEDED_BYTES(servers, share); }
 // static size_t join_bytes(uint32_t published) { return POOL_JOIN_BYTES(published); }
 import "C"
 
@@ -30,6 +32,12 @@ const (
 	maxEvery     = C.POOL_MAX_EVERY_RETURN_BYTES
 	maxShelf     = C.POOL_MAX_SHELF_MESSAGES
 	maxWidth     = C.POOL_MAX_SHELF_WIDTH
+
+	seedBytes         = C.POOL_SEED_BYTES
+	seedMessageBytes  = C.POOL_SEED_MESSAGE_BYTES
+	seededRandomBytes = C.POOL_SEEDED_RANDOM_BYTES
+	kindShare         = 33 // of a share message
+	kindSeed          = 38 // of a seed message
 )
 
 // randomBytes is the length of the random elements of a return for so many servers.
@@ -40,6 +48,14 @@ func (s *Sheet) randomBytes(servers uint32) int {
 // makeBytes is the length of the share messages of a return for so many servers.
 func (s *Sheet) makeBytes(servers uint32) int {
 	return int(C.make_bytes(C.uint32_t(servers), C.uint32_t(s.sizes.ShareBytes)))
+}
+
+// seedsBytes is the length of the seeds of a return for so many servers.
+func seedsBytes(servers uint32) int { return int(C.seeds_bytes(C.uint32_t(servers))) }
+
+// makeSeededBytes is the length of the messages of a return made from seeds for so many servers.
+func (s *Sheet) makeSeededBytes(servers uint32) int {
+	return int(C.make_seeded_bytes(C.uint32_t(servers), C.uint32_t(s.sizes.ShareBytes)))
 }
 
 // joinBytes is the length of the joined totals.
@@ -95,6 +111,17 @@ func coreMake(sheet []byte, servers, id uint32, values, random, out []byte) (wri
 	x, nx := lend(random)
 	to, room := lend(out)
 	answer = uint32(C.pool_make(at, n, C.uint32_t(servers), C.uint32_t(id), v, nv, x, nx, to, room, &w))
+	return int(w), answer
+}
+
+func coreMakeSeeded(sheet []byte, servers, id uint32, values, random, seeds, out []byte) (written int, answer uint32) {
+	var w C.size_t
+	at, n := lend(sheet)
+	v, nv := lend(values)
+	x, nx := lend(random)
+	s, ns := lend(seeds)
+	to, room := lend(out)
+	answer = uint32(C.pool_make_seeded(at, n, C.uint32_t(servers), C.uint32_t(id), v, nv, x, nx, s, ns, to, room, &w))
 	return int(w), answer
 }
 

@@ -1,9 +1,10 @@
 // Package pool is the figures pool's core for Go programs, over the C functions of pool.h.
 //
 // A return is one value for each column of a sheet. A workshop splits it into shares (Client.Make), one for each
-// server; a share alone says nothing. The servers check the form of a return together, in two rounds of short messages,
-// enter what all of them accept into their totals (Table), and publish these (Join), never those of fewer returns than a least count.
-// From the totals of a column of points comes the line that fits them best (FitLine).
+// server; a share alone says nothing. In place of shares it can send all servers but one short seeds (Client.MakeSeeded). The servers
+// check the form of a return together, in two rounds of short messages, enter what all of them accept into their totals (Table), and
+// publish these (Join), never those of fewer returns than a least count. From the totals of a column of points comes the line that
+// fits them best (FitLine).
 //
 // Up to eight returns are under way in a table at a time, so that servers far apart need not wait for one another's messages.
 //

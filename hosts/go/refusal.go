@@ -19,8 +19,8 @@ const (
 	Wire    Refusal = 3  // circuit: a wire not yet made, or an entry that does not exist
 	Wrap    Refusal = 4  // N returns could make a total of p or more
 	Value   Refusal = 5  // not one value for each column, or a value outside its column
-	Random  Refusal = 6  // not the right number of random elements, or one not below p
-	Share   Refusal = 7  // share message of the wrong kind, length or server
+	Random  Refusal = 6  // not the right number of random elements or seeds, or an element not below p
+	Share   Refusal = 7  // share or seed message of the wrong kind, length or server, or a seed message for server 0
 	Element Refusal = 8  // share element not below p
 	Range   Refusal = 9  // r or s outside its range
 	Decided Refusal = 10 // the id was decided or waits
@@ -41,8 +41,8 @@ var words = [...]string{
 	Wire:    "circuit: a wire not yet made, or an entry that does not exist",
 	Wrap:    "so many returns could make a total of p or more",
 	Value:   "not one value for each column, or a value outside its column",
-	Random:  "not the right number of random elements, or one not below p",
-	Share:   "share message of the wrong kind, length or server",
+	Random:  "not the right number of random elements or seeds, or an element not below p",
+	Share:   "share or seed message of the wrong kind, length or server, or a seed message for server 0",
 	Element: "share element not below p",
 	Range:   "r or s outside its range",
 	Decided: "the id was decided or waits: an id is for one return only",

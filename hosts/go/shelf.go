@@ -7,7 +7,8 @@ import (
 
 // Shelve stores messages by place: the first byte of each, then the second of each, and so on. So equal places of a
 // season's shares stand together. It takes 1 to 64 messages of one length, 1 to 4,096 bytes: the share messages that one
-// server gets on one sheet are all Sizes.ShareBytes long. Note their number and length beside the run: Unshelve needs both.
+// server gets on one sheet are all Sizes.ShareBytes long, its seed messages SeedMessageBytes. Note their number and length beside the
+// run: Unshelve needs both.
 //
 // The run is as secret as the messages in it.
 func Shelve(messages [][]byte) ([]byte, error) {

@@ -52,7 +52,8 @@ func Open(servers, own uint32, sheet *Sheet, returns, least uint32) (*Table, err
 	return t, nil
 }
 
-// Share takes the server's share of a return and gives its round-one message, which tells the pair: the same one at every server.
+// Share takes the server's share of a return, or the seed message that stands for it, and gives its round-one message, which tells the
+// pair: the same one at every server. What a table holds of a return does not show which of the two it was; no table holds a seed.
 // A ninth return is refused (Stage): hand it in again, before any later share and with the same pair, once one of the eight is
 // decided. The servers take the shares of returns in the same order.
 func (t *Table) Share(message []byte, pair Pair) ([]byte, error) {

@@ -2,8 +2,8 @@
 //
 //	workshop -sheet '17 19 8' -id 7 -values '1 40' 127.0.0.1:7000 127.0.0.1:7001
 //
-// The servers' addresses stand in server order. The value of a point is written as x:y, say 34:5. The example sends shares in the
-// clear, on one machine: a pool encrypts them.
+// The servers' addresses stand in server order. The value of a point is written as x:y, say 34:5. With -seeds all servers but the first
+// get a seed in place of a share. The example sends shares and seeds in the clear, on one machine: a pool encrypts them.
 package main
 
 import (
@@ -24,13 +24,14 @@ func main() {
 	var id frame.Number
 	flag.Var(&id, "id", "the return's id, given to no other return")
 	valueText := flag.String("values", "", "one value for each column; x:y for a point")
+	seeds := flag.Bool("seeds", false, "send all servers but the first a seed of 32 bytes in place of a share")
 	flag.Parse()
-	if err := run(*sheetText, uint32(id), *valueText, flag.Args()); err != nil {
+	if err := run(*sheetText, uint32(id), *valueText, *seeds, flag.Args()); err != nil {
 		log.Fatal(err)
 	}
 }
 
-func run(sheetText string, id uint32, valueText string, servers []string) error {
+func run(sheetText string, id uint32, valueText string, seeds bool, servers []string) error {
 	b, err := frame.Bytes(sheetText)
 	if err != nil {
 		return err
@@ -44,7 +45,11 @@ func run(sheetText string, id uint32, valueText string, servers []string) error 
 		return err
 	}
 	client := pool.Client{Sheet: sheet, Servers: uint32(len(servers))}
-	shares, err := client.Make(id, values)
+	making := client.Make
+	if seeds {
+		making = client.MakeSeeded
+	}
+	shares, err := making(id, values)
 	if err != nil {
 		return err
 	}

@@ -1,5 +1,6 @@
 /* calls.c: the calls that need no table. See calls.h. */
 #include "lines.h"
+#include "seeds.h"
 #include "watch.h"
 
 uint32_t call_sizes(const struct run *sheet, struct sheet_sizes *sizes)
@@ -75,6 +76,23 @@ uint32_t call_make(const struct run *sheet, uint32_t servers, uint32_t id, const
     kept(v);
     kept(x);
     take(o, &w, answer, out);
+    return end_call(answer);
+}
+
+uint32_t call_make_seeded(const struct run *sheet, uint32_t servers, uint32_t id, const struct run *values,
+                          const struct run *random, const struct run *seeds, size_t room, struct run *out)
+{
+    start_call("pool_make_seeded");
+    int s = lend(sheet), v = lend(values), x = lend(random), d = lend(seeds), o = lend_room(room);
+    struct result_size w = RESULT_SIZE;
+    uint32_t answer = pool_make_seeded(LENT(s), servers, id, LENT(v), LENT(x), LENT(d), LENT(o), &w.value);
+    answered(answer, SHEET | MAY(POOL_VALUE) | MAY(POOL_RANDOM) | MAY(POOL_ROOM));
+    kept(s);
+    kept(v);
+    kept(x);
+    kept(d);
+    take(o, &w, answer, out);
+    check_seeded(sheet, servers, id, random, seeds, room, answer, out);
     return end_call(answer);
 }
 

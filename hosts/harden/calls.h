@@ -7,7 +7,8 @@
  * accepted verdict, leaves anything of a return in the slot and the place of one that it decides, adds anything but the published
  * entries of one that it enters to the totals, takes or refuses the messages of a round wrongly (check_round), takes a table whose
  * least count or stages are out of their range (check_limits), closes or refuses to close wrongly (check_close), or gives another line
- * or refusal than the totals that it is handed have (check_line).
+ * or refusal than the totals that it is handed have (check_line), takes or refuses a message of a workshop wrongly (check_message), or
+ * makes other messages from seeds than it must (check_seeded).
  *
  * Memory outside is watched in one of two ways. GUARDED: a buffer ends right before, or begins right after, a page that
  * can not be touched. HEAP: a buffer is a block of malloc, for valgrind and for the sanitizers' own malloc. The library
@@ -84,6 +85,8 @@ uint32_t call_read_circuit(uint32_t entries, const struct run *circuit, struct c
 uint32_t call_every_return(const struct run *sheet, size_t room, uint32_t *lists, struct run *out);
 uint32_t call_make(const struct run *sheet, uint32_t servers, uint32_t id, const struct run *values,
                    const struct run *random, size_t room, struct run *out);
+uint32_t call_make_seeded(const struct run *sheet, uint32_t servers, uint32_t id, const struct run *values,
+                          const struct run *random, const struct run *seeds, size_t room, struct run *out);
 uint32_t call_open(uint32_t servers, uint32_t own, const struct run *sheet, uint32_t returns, uint32_t least,
                    struct rooms rooms, struct table *table);
 uint32_t call_share(struct table *table, size_t extra, const struct run *message, uint64_t r, uint64_t s, size_t room,

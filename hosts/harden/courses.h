@@ -2,6 +2,8 @@
 #ifndef POOL_COURSES_H
 #define POOL_COURSES_H
 
+#include <stdbool.h>
+
 #include "driver.h"
 
 enum { NOT_YET, AWAITS_ONE, AWAITS_TWO, AWAITS_ENTRY, ENDED }; /* where a return is at a server */
@@ -21,6 +23,8 @@ extern struct course {
     uint32_t accepted; /* what the verdict must be */
     uint32_t sums[POOL_MAX_ENTRIES];
     uint8_t shares[POOL_MAX_MAKE_BYTES];
+    uint8_t seeds[POOL_MAX_SEEDS_BYTES]; /* of servers 1 to S - 1: they stand for the same shares */
+    bool seeded[POOL_MAX_SERVERS];       /* which servers get the seed */
     struct pair {
         uint64_t r, s;
     } pairs[POOL_MAX_SERVERS];
@@ -35,11 +39,15 @@ uint8_t least_stage(const struct course *c);
 /* What a round one with the messages of all servers answers. */
 uint32_t round_answer(const struct course *c);
 
-/* The share of a return for server i, or its messages of a round in any order: zeros for those that are not yet written. */
+/*
+ * The share of a return for server i, as elements or as a seed, or its messages of a round in any order: zeros for those that are
+ * not yet written.
+ */
 void message_of(const struct course *c, uint32_t i, int round, struct run *message);
 
 /* tries.c: calls on copies of the table of server i that must be refused, and what a share must come to there. */
 void refused_shares(uint32_t i);
+void damaged_seeds(uint32_t i);
 void refused_calls(uint32_t i);
 
 /* Other orders and faults in the messages of a return, where they are all there for the round that it awaits at server i. */

@@ -1,9 +1,9 @@
 /*
  * driver.c: random pools from a seed. Each call that a pool needs is made soundly, and must be done; beside it
  * functions are called with arguments gone wild, on copies of the tables. Up to eight returns are under way in a table,
- * each server at its own pace; what all have accepted is entered, or dropped by all. While too few are entered to close, more
- * returns are played. The totals at the end and their lines are held to the plain sums; a pool with N decided and too few entered
- * ends without.
+ * each server at its own pace; a share comes as elements or as a seed. What all have accepted is entered, or dropped by all. While too
+ * few are entered to close, more returns are played. The totals at the end and their lines are held to the plain sums; a pool with N
+ * decided and too few entered ends without.
  *
  *     driver guard|heap SEED POOLS SECONDS
  *
@@ -82,6 +82,7 @@ int main(int argc, char **argv)
             most_lists();
             wide_sheets();
             many_lines();
+            odd_seeds();
         }
         play_pool();
     }

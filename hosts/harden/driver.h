@@ -13,6 +13,7 @@ extern struct pool {
     uint32_t servers, returns, least;
     struct table tables[POOL_MAX_SERVERS];
     struct run values, random, shares; /* of the return that was made last */
+    struct run seeds;                  /* for the same shares of servers 1 to S - 1; empty where there are none */
     uint32_t plain[POOL_MAX_ENTRIES], entered; /* of the returns that were played */
     uint32_t first_id, decided;                /* they have the ids from the first one on, and are decided everywhere */
 } pool;
@@ -73,10 +74,15 @@ void most_lists(void);
 
 /* One random value for each column, added to `sums` in entry order of the published entries. */
 void new_values(uint32_t *sums);
-void new_random(void);
 
-/* Makes the return of these values, after wild tries, into pool.shares. */
+/* Random elements for a return: all drawn, or four drawn and the others those of seeds. */
+void new_random(uint32_t id);
+
+/* Makes the return of these values, after wild tries, into pool.shares; where there are seeds, from these too. */
 void make_return(uint32_t id);
+
+/* Seeds whose streams have a word that is p, or p with the top bit. */
+void odd_seeds(void);
 
 /*
  * Makes the return again by a sheet with the highest tops of as many bits, with these as the values: the shares have the

@@ -8,6 +8,7 @@
 #include <string.h>
 
 #include "input.h"
+#include "seeds.h"
 
 enum { SERVERS = 2, ANSWERS = POOL_RUN + 1, RETURNS = 10, IDS = 16 };
 
@@ -22,7 +23,7 @@ enum { SOME_ENTRY = POOL_SLOTS + 1, CLOSED_KIND = 2 * SOME_ENTRY, NOT_EIGHT, ARB
 __attribute__((section("__libfuzzer_extra_counters"))) static uint8_t seen[NOTED][NOTED][KINDS][ANSWERS];
 
 static struct table tables[SERVERS];
-static struct run sheet, values, random_elements, shares[IDS], totals, message, out;
+static struct run sheet, values, random_elements, seeds, shares[IDS], totals, message, out;
 /* What the servers wrote for each return. */
 static uint8_t ones[IDS][SERVERS * POOL_ROUND_ONE_BYTES], twos[IDS][SERVERS * POOL_ROUND_TWO_BYTES];
 static struct sheet_sizes sizes;
@@ -48,27 +49,38 @@ static uint32_t kind_of(const struct table *table)
     return waiting + entry * SOME_ENTRY;
 }
 
+/* A return is made from seeds where the top bit of its id is set. */
 static void make_return(void)
 {
     size_t each = sizes.share_bytes;
-    uint8_t id = byte() % IDS;
+    uint8_t told = byte(), id = told % IDS;
+    int seeded = told >> 7;
     values.len = POOL_VALUES_BYTES(sizes.columns);
     memset(values.at, 0, values.len);
     for (size_t k = 0; k < values.len; k += 4)
         values.at[k] = byte() & 1;
     alter(&values);
-    random_elements.len = POOL_RANDOM_BYTES(SERVERS, sizes.share_bytes);
+    random_elements.len = seeded ? POOL_SEEDED_RANDOM_BYTES : POOL_RANDOM_BYTES(SERVERS, each);
     for (size_t k = 0; k < random_elements.len; k += 4)
         put_u32(random_elements.at + k, (uint32_t)(k * 2654435761u) % POOL_PRIME);
     alter(&random_elements);
-    note(MAKE, 0, call_make(&sheet, SERVERS, id, &values, &random_elements, POOL_MAKE_BYTES(SERVERS, each), &shares[id]));
+    if (!seeded) {
+        note(MAKE, 0, call_make(&sheet, SERVERS, id, &values, &random_elements, POOL_MAKE_BYTES(SERVERS, each), &shares[id]));
+        return;
+    }
+    seeds.len = POOL_SEEDS_BYTES(SERVERS);
+    for (size_t k = 0; k < seeds.len; k++)
+        seeds.at[k] = (uint8_t)(id * 29 + k * 7);
+    alter(&seeds);
+    note(MAKE, 1, call_make_seeded(&sheet, SERVERS, id, &values, &random_elements, &seeds, POOL_MAKE_SEEDED_BYTES(SERVERS, each),
+                                   &shares[id]));
 }
 
 static void take_share(uint32_t own)
 {
     size_t each = sizes.share_bytes;
     uint32_t id = byte() % IDS, r = sizes.multiplications + byte(), s = byte(), kind = kind_of(&tables[own]);
-    message.len = shares[id].len < SERVERS * each ? 0 : each;
+    message.len = shares[id].len == 0 ? 0 : own == 0 ? each : shares[id].len - each; /* the rest is a share or a seed message */
     memcpy(message.at, shares[id].at + own * each, message.len);
     alter(&message);
     uint32_t answer = call_share(&tables[own], 0, &message, r, s, POOL_ROUND_ONE_BYTES, &out);

@@ -1,7 +1,10 @@
 /* making.c: random returns and their shares. */
-#include "driver.h"
+#include <string.h>
 
-static struct run a, b, c, out; /* for calls gone wild */
+#include "driver.h"
+#include "seeds.h"
+
+static struct run a, b, c, d, out; /* for calls gone wild */
 
 /* Adds a value to the sums of its column. */
 static void add_value(const struct column *column, uint32_t v, uint32_t *sums)
@@ -37,11 +40,68 @@ void new_values(uint32_t *sums)
         fail("the count of columns or published entries");
 }
 
-void new_random(void)
+void new_random(uint32_t id)
 {
+    size_t each = pool.sizes.share_bytes - ELEMENTS_AT;
     pool.random.len = POOL_RANDOM_BYTES(pool.servers, pool.sizes.share_bytes);
     for (size_t at = 0; at < pool.random.len; at += 4)
         put_u32(pool.random.at + at, random_below(16) ? random_below(POOL_PRIME) : POOL_PRIME - 1);
+    pool.seeds.len = random_below(2) ? POOL_SEEDS_BYTES(pool.servers) : 0;
+    random_fill(pool.seeds.at, pool.seeds.len);
+    for (size_t k = 0; k < pool.seeds.len / POOL_SEED_BYTES; k++) {
+        seed_message(&d, id, 0, pool.seeds.at + k * POOL_SEED_BYTES);
+        memcpy(pool.random.at + POOL_SEEDED_RANDOM_BYTES + k * each, elements_of(&d, each / 4), each);
+    }
+}
+
+/* The four elements that come before the shares. */
+static void copy_four(struct run *to)
+{
+    to->len = 0;
+    append(to, pool.random.at, POOL_SEEDED_RANDOM_BYTES);
+}
+
+/* Makes the return from its seeds: server 0's message is that of pool.shares. */
+static void make_seeded(uint32_t id)
+{
+    size_t room = POOL_MAKE_SEEDED_BYTES(pool.servers, pool.sizes.share_bytes);
+    for (int k = 0; k < 3; k++) {
+        copy(&a, &pool.sheet);
+        copy(&b, &pool.values);
+        copy_four(&c);
+        copy(&d, &pool.seeds);
+        wild((struct run *[]){&a, &b, &c, &d, &d}[random_below(5)]);
+        call_make_seeded(&a, wild32(pool.servers), id, &b, &c, &d, wild_room(room), &out);
+    }
+    copy_four(&c);
+    copy(&d, &pool.seeds);
+    d.len = POOL_SEED_BYTES * ((pool.servers + random_below(POOL_MAX_SERVERS)) % (POOL_MAX_SERVERS + 1));
+    if (call_make_seeded(&pool.sheet, pool.servers, id, &pool.values, &c, &d, wild_room(room), &out) != POOL_RANDOM)
+        fail("a wrong count of seeds");
+    must(call_make_seeded(&pool.sheet, pool.servers, id, &pool.values, &c, &pool.seeds, room, &out), "making from seeds");
+    if (memcmp(out.at, pool.shares.at, pool.sizes.share_bytes) != 0)
+        fail("server 0's share of a return made from seeds");
+}
+
+/* Under the id 7 these seeds, whose other bytes are 0, have the word 0x7fffffff or 0xffffffff in this place: the element is 0. */
+void odd_seeds(void)
+{
+    static const struct {
+        uint32_t start, place;
+    } odd[] = {{320841668, 0}, {428002492, 9}, {258751536, 15}};
+    static struct table t;
+    const struct rooms most = {POOL_MAX_TABLE_BYTES, POOL_SLOTS, POOL_MAX_ELEMENTS};
+    for (size_t k = 0; k < sizeof odd / sizeof odd[0]; k++) {
+        uint8_t seed[POOL_SEED_BYTES] = {0};
+        a.len = 0;
+        append(&a, (const uint8_t[]){POOL_YES_NO, POOL_NUMBER, 8}, 3);
+        put_u32(seed, odd[k].start);
+        seed_message(&d, 7, 1, seed);
+        must(call_open(2, 1, &a, 1, 1, most, &t), "opening for an odd seed");
+        must(call_share(&t, 0, &d, 1000, 5, POOL_ROUND_ONE_BYTES, &out), "an odd seed");
+        if (get_u32(t.elements.at + 4 * odd[k].place) != 0)
+            fail("the element of a word that is p");
+    }
 }
 
 /* A value one past its column, in one of the columns, is refused. */
@@ -93,6 +153,8 @@ void make_return(uint32_t id)
     must(call_make(&pool.sheet, pool.servers, id, &pool.values, &pool.random, room, &pool.shares), "making");
     if (pool.shares.len != room)
         fail("the length of the shares");
+    if (pool.seeds.len > 0)
+        make_seeded(id);
     if (random_below(4) == 0)
         shelve(pool.servers, pool.sizes.share_bytes, &pool.shares);
 }

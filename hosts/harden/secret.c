@@ -1,12 +1,14 @@
 /*
- * secret.c: which branches and places in memory depend on a share's elements, for valgrind. The element bytes of a
- * share message are marked as undefined before pool_share has them, so that valgrind reports each branch and each
- * address that is worked out from them, in this call and in the later ones on the same table. Three returns are under way.
+ * secret.c: which branches and places in memory depend on a share's elements or on a seed, for valgrind. The element bytes of a
+ * share message, and the seed in a seed message, are marked as undefined before pool_share has them, so that valgrind reports each
+ * branch and each address that is worked out from them, in this call and in the later ones on the same table. Three returns are under
+ * way; the last one comes to server 1 as a seed.
  *
  * Nothing is filtered. These reports are expected:
  *   - the check that an element is below p, of a share message and, in every call on a table, of the shares that wait
  *     and of the totals: for sound elements it always goes the same way;
  *   - in the rounds, the checks of the joined messages and the verdict, on numbers that the servers publish.
+ * Working out the elements of a seed has none of its own: a word of the stream that is p becomes 0 without a branch.
  * Storing shares by place and bringing them back has none. Entering a return has none but those checks.
  * A report in arithmetic (a sum, product or reduction modulo p) shows that the time depends on a secret.
  *
@@ -19,8 +21,9 @@
 #include <valgrind/memcheck.h>
 
 #include "pool.h"
+#include "stream.h"
 
-enum { SERVERS = 2, RETURNS = 4, IDS = 3 };
+enum { SERVERS = 2, RETURNS = 4, IDS = 3, SEEDED = IDS - 1 };
 
 static const uint8_t sheet[] = {POOL_YES_NO, POOL_CHOICE, 3, POOL_NUMBER, 4, POOL_TOP, 200, 0, 0, 0, POOL_POINT, 4};
 static const uint8_t values[] = {1, 0, 0, 0, 2, 0, 0, 0, 9, 0, 0, 0, 150, 0, 0, 0, 0xb5, 0, 0, 0};
@@ -35,7 +38,23 @@ static struct table {
 static uint8_t shares[IDS][SERVERS * POOL_MAX_SHARE_BYTES], random_bytes[POOL_MAX_RANDOM_BYTES];
 static uint8_t ones[IDS][SERVERS * POOL_ROUND_ONE_BYTES], twos[IDS][SERVERS * POOL_ROUND_TWO_BYTES];
 static uint8_t stored[sizeof shares[0]], back[sizeof shares[0]];
+static uint8_t seeds[POOL_SEEDS_BYTES(SERVERS)], seeded[SERVERS * POOL_MAX_SHARE_BYTES]; /* of the last return, made from seeds too */
 static size_t share_len, random_len, written;
+
+/* Makes the last return with the elements of a seed, and from the seed: server 0's share is the same. Not 0 where something failed. */
+static uint32_t make_seeded(void)
+{
+    static const uint8_t id[4] = {SEEDED};
+    uint32_t refused;
+    for (size_t k = 0; k < sizeof seeds; k++)
+        seeds[k] = (uint8_t)(k * 73 + 5);
+    seed_elements(seeds, id, (share_len - 6) / 4, random_bytes + POOL_SEEDED_RANDOM_BYTES);
+    refused = pool_make(sheet, sizeof sheet, SERVERS, SEEDED, values, sizeof values, random_bytes, random_len, shares[SEEDED],
+                        sizeof shares[SEEDED], &written);
+    refused |= pool_make_seeded(sheet, sizeof sheet, SERVERS, SEEDED, values, sizeof values, random_bytes,
+                                POOL_SEEDED_RANDOM_BYTES, seeds, sizeof seeds, seeded, sizeof seeded, &written);
+    return refused | (uint32_t)(memcmp(seeded, shares[SEEDED], share_len) != 0);
+}
 
 /* Not 0 where a call was refused. */
 static uint32_t prepare(void)
@@ -47,9 +66,10 @@ static uint32_t prepare(void)
     random_len = POOL_RANDOM_BYTES(SERVERS, share_bytes);
     for (size_t k = 0; k < random_len; k++)
         random_bytes[k] = (uint8_t)(k % 4 == 3 ? k % 127 : k * 167);
-    for (uint32_t id = 0; id < IDS; id++)
+    for (uint32_t id = 0; id < SEEDED; id++)
         refused |= pool_make(sheet, sizeof sheet, SERVERS, id, values, sizeof values, random_bytes, random_len,
                              shares[id], sizeof shares[id], &written);
+    refused |= make_seeded();
     for (uint32_t i = 0; i < SERVERS; i++) {
         struct table *t = &tables[i];
         refused |= pool_open(SERVERS, i, sheet, sizeof sheet, RETURNS, 1, t->bytes, sizeof t->bytes, t->slots,
@@ -76,14 +96,16 @@ static void say(const char *call) { VALGRIND_PRINTF("secret: %s\n", call); }
 /* Where the message of server i goes: round messages may stand in any order, and here it is the reverse one. */
 static size_t place_of(size_t i, size_t bytes) { return (SERVERS - 1 - i) * bytes; }
 
-/* Every server takes its share of a return, whose elements are secret. */
+/* Every server takes its share of a return, whose elements are secret; of the last one server 1 takes the seed. */
 static uint32_t take_shares(uint32_t id)
 {
     uint32_t refused = 0;
     for (size_t i = 0; i < SERVERS; i++) {
-        uint8_t *message = shares[id] + i * share_len, *out = ones[id] + place_of(i, POOL_ROUND_ONE_BYTES);
-        (void)VALGRIND_MAKE_MEM_UNDEFINED(message + 6, share_len - 6);
-        refused |= pool_share(TABLE(&tables[i]), message, share_len, 123456789, 987654321, out, POOL_ROUND_ONE_BYTES, &written);
+        int seed = id == SEEDED && i > 0;
+        uint8_t *message = seed ? seeded + share_len : shares[id] + i * share_len, *out = ones[id] + place_of(i, POOL_ROUND_ONE_BYTES);
+        size_t len = seed ? POOL_SEED_MESSAGE_BYTES : share_len;
+        (void)VALGRIND_MAKE_MEM_UNDEFINED(message + 6, len - 6);
+        refused |= pool_share(TABLE(&tables[i]), message, len, 123456789, 987654321, out, POOL_ROUND_ONE_BYTES, &written);
         (void)VALGRIND_MAKE_MEM_DEFINED(out, POOL_ROUND_ONE_BYTES);
         (void)VALGRIND_MAKE_MEM_DEFINED(tables[i].slots, sizeof tables[i].slots);
     }
@@ -163,7 +185,9 @@ int main(void)
     say("pool_share");
     refused |= take_shares(0);
     say("pool_share while another return waits");
-    refused |= take_shares(1) | take_shares(2);
+    refused |= take_shares(1);
+    say("pool_share of a seed");
+    refused |= take_shares(SEEDED);
     say("pool_round_one");
     for (uint32_t id = IDS; id-- > 0;)
         refused |= round_one(id);

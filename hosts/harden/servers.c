@@ -2,6 +2,7 @@
 #include <string.h>
 
 #include "courses.h"
+#include "seeds.h"
 
 struct course courses[MOST_RETURNS];
 uint32_t course_count;
@@ -12,7 +13,9 @@ static struct run out, message;
 void message_of(const struct course *c, uint32_t i, int round, struct run *to)
 {
     to->len = 0;
-    if (round == NOT_YET)
+    if (round == NOT_YET && c->seeded[i])
+        seed_message(to, c->id, i, c->seeds + (i - 1) * POOL_SEED_BYTES);
+    else if (round == NOT_YET)
         append(to, c->shares + i * pool.sizes.share_bytes, pool.sizes.share_bytes);
     else
         join_shuffled(to, KIND_OF(round), round == AWAITS_ONE ? c->ones : c->twos, pool.servers);
@@ -48,6 +51,32 @@ static void new_pairs(struct course *c)
         slip->s = (s + 1 + random_below(POOL_PRIME - 1)) % POOL_PRIME;
 }
 
+/* An entry in a share, any: a product of a point, a bit. A yes/no can be 1 where it was 0 then, but its products are not altered. */
+static void alter_entry(struct course *c, uint32_t i)
+{
+    uint8_t *entry = c->shares + i * pool.sizes.share_bytes + 6 + 4 * random_below(pool.sizes.entries);
+    put_u32(entry, (get_u32(entry) + 1 + random_below(1000)) % POOL_PRIME);
+}
+
+/* An altered share, or one bit of the seed that a server gets. */
+static void alter_return(struct course *c)
+{
+    uint32_t i = random_below(pool.servers);
+    if (c->seeded[i])
+        c->seeds[(i - 1) * POOL_SEED_BYTES + random_below(POOL_SEED_BYTES)] ^= (uint8_t)(1 << random_below(8));
+    else
+        alter_entry(c, i);
+    c->accepted = 0;
+}
+
+/* Where the return was made from seeds, some servers get theirs, and some the share. */
+static void choose_forms(struct course *c)
+{
+    memcpy(c->seeds, pool.seeds.at, pool.seeds.len);
+    for (uint32_t i = 1; i < pool.servers; i++)
+        c->seeded[i] = pool.seeds.len > 0 && random_below(4) != 0;
+}
+
 /* A random return: honest, altered, past its tops, to be dropped or with a slip. */
 static void new_course(struct course *c, uint32_t id)
 {
@@ -56,18 +85,15 @@ static void new_course(struct course *c, uint32_t id)
     c->conduct = random_below(2) ? HONEST : (enum conduct)random_below(SLIPPED + 1);
     new_pairs(c);
     new_values(c->sums);
-    new_random();
+    new_random(id);
     make_return(id);
     c->accepted = 1;
     if (c->conduct == PAST_TOP)
         c->accepted = !make_with_higher_tops(id, pool.shares.len);
     memcpy(c->shares, pool.shares.at, pool.shares.len);
-    if (c->conduct == ALTERED) {
-        /* Any entry: a product of a point, a bit. A yes/no can be 1 where it was 0 then, but its products are not altered. */
-        uint8_t *entry = c->shares + random_below(pool.servers) * pool.sizes.share_bytes + 6 + 4 * random_below(pool.sizes.entries);
-        put_u32(entry, (get_u32(entry) + 1 + random_below(1000)) % POOL_PRIME);
-        c->accepted = 0;
-    }
+    choose_forms(c);
+    if (c->conduct == ALTERED)
+        alter_return(c);
 }
 
 uint8_t least_stage(const struct course *c)
@@ -126,6 +152,8 @@ static void try_calls(uint32_t i)
     wild_call(i);
     if (random_below(4) == 0 || counts_at(i).waiting == POOL_SLOTS)
         refused_shares(i);
+    if (random_below(4) == 0)
+        damaged_seeds(i);
     if (random_below(4) == 0 || counts_at(i).waiting == 0)
         try_close(i);
     if (random_below(4) == 0)

@@ -11,10 +11,11 @@
 
 #include "pool.h"
 
-enum { STACK = 1024 * 1024, PROMISED = 64 * 1024, PAINT = 0xa7, SERVERS = 8, RETURNS = 64 };
+enum { STACK = 1024 * 1024, PROMISED = 64 * 1024, PAINT = 0xa7, SERVERS = 8, RETURNS = 64, SEEDED = 99 };
 
 static uint8_t sheet[POOL_MAX_SHEET_BYTES], circuit[POOL_MAX_CIRCUIT_BYTES], values[POOL_MAX_VALUES_BYTES];
 static uint8_t random_bytes[POOL_MAX_RANDOM_BYTES], shares[POOL_MAX_MAKE_BYTES];
+static uint8_t seeds[POOL_MAX_SEEDS_BYTES], seeded[POOL_MAX_MAKE_SEEDED_BYTES];
 static uint8_t joined[SERVERS * POOL_MAX_TOTALS_BYTES], other[sizeof joined];
 static struct table {
     uint8_t bytes[POOL_MAX_TABLE_BYTES];
@@ -59,6 +60,13 @@ static void make(void)
                          POOL_RANDOM_BYTES(SERVERS, share_bytes), shares, sizeof shares, &written);
 }
 
+static void make_seeded(void)
+{
+    refused |= pool_make_seeded(sheet, sheet_len, SERVERS, SEEDED, values, POOL_VALUES_BYTES(columns), random_bytes,
+                                POOL_SEEDED_RANDOM_BYTES, seeds, sizeof seeds, seeded, sizeof seeded, &written);
+    refused |= written != POOL_MAKE_SEEDED_BYTES(SERVERS, share_bytes);
+}
+
 static void open_tables(void)
 {
     for (uint32_t i = 0; i < SERVERS; i++) {
@@ -91,6 +99,16 @@ static void drop_seven(void)
     for (uint32_t id = 1; id < POOL_SLOTS; id++)
         for (size_t i = 0; i < SERVERS; i++)
             refused |= pool_drop(TABLE(&tables[i]), id);
+}
+
+/* All servers but the first take seeds, while seven returns wait, and drop the return. */
+static void take_seeds(void)
+{
+    for (size_t i = 1; i < SERVERS; i++) {
+        refused |= pool_share(TABLE(&tables[i]), seeded + share_bytes + (i - 1) * POOL_SEED_MESSAGE_BYTES, POOL_SEED_MESSAGE_BYTES,
+                              123456789, 987654321, other, POOL_ROUND_ONE_BYTES, &written);
+        refused |= pool_drop(TABLE(&tables[i]), SEEDED);
+    }
 }
 
 static void round_one(void)
@@ -181,11 +199,11 @@ static const struct {
     const char *name;
     void (*step)(void);
 } steps[] = {
-    {"sizes", tell_sizes},    {"circuit", write_circuit}, {"read_circuit", read_circuit}, {"make", make},
-    {"open", open_tables},    {"share", take_share},      {"shares", take_seven_more},    {"round_one", round_one},
-    {"round_two", round_two}, {"enter", enter},           {"drop", drop_seven},           {"close", close_tables},
-    {"join", join},           {"line", line},             {"shelve", shelve},             {"unshelve", unshelve},
-    {"every_return", every_return},
+    {"sizes", tell_sizes},        {"circuit", write_circuit}, {"read_circuit", read_circuit}, {"make", make},
+    {"make_seeded", make_seeded}, {"open", open_tables},      {"share", take_share},          {"shares", take_seven_more},
+    {"round_one", round_one},     {"round_two", round_two},   {"enter", enter},               {"seeds", take_seeds},
+    {"drop", drop_seven},         {"close", close_tables},    {"join", join},                 {"line", line},
+    {"shelve", shelve},           {"unshelve", unshelve},     {"every_return", every_return},
 };
 
 /* Runs every step; gives the number of those that need more than was promised. */

@@ -2,7 +2,7 @@
 #include <string.h>
 
 #include "parts.h"
-#include "runs.h"
+#include "seeds.h"
 
 /* A part that was opened: so many bytes are 0, and the rest is as it was. */
 static void take_zeros(int k, uint32_t answer, size_t len, struct run *part)
@@ -42,7 +42,7 @@ uint32_t call_open(uint32_t servers, uint32_t own, const struct run *sheet, uint
     return end_call(answer);
 }
 
-/* After a share: the first free slot has the id, r, s, d and e, and its place the elements. */
+/* After a share: the first free slot has the id, r, s, d and e, and its place the elements, those of a seed too. */
 static void shared(struct lent_table t, const struct table *was, const struct run *message, uint64_t r, uint64_t s,
                    const struct run *out)
 {
@@ -54,7 +54,7 @@ static void shared(struct lent_table t, const struct table *was, const struct ru
         fail("the slot of a share");
     if (get_u32(out->at + R_AT) != r || get_u32(out->at + S_AT) != s)
         fail("a round-one message that tells another pair");
-    if (memcmp(lents[t.elements].at + k * place, message->at + 6, place - 8) != 0)
+    if (memcmp(lents[t.elements].at + k * place, elements_of(message, place / 4 - 2), place - 8) != 0)
         fail("the elements of a share");
 }
 
@@ -68,6 +68,7 @@ uint32_t call_share(struct table *table, size_t extra, const struct run *message
     uint32_t answer = pool_share(LENT_TABLE(t), LENT(m), r, s, LENT(o), &w.value);
     answered(answer, MAY(POOL_STAGE) | MAY(POOL_FULL) | MAY(POOL_SHARE) | MAY(POOL_ELEMENT) | MAY(POOL_DECIDED) |
                          MAY(POOL_PAIR) | MAY(POOL_ROOM));
+    check_message(table, message, answer);
     kept(m);
     take(o, &w, answer, out);
     if (answer == 0 ? out->len != POOL_ROUND_ONE_BYTES : answer == POOL_ROOM && room >= POOL_ROUND_ONE_BYTES)

@@ -1,5 +1,6 @@
 /* tries.c: calls on copies of the tables, sound ones and such that have gone wild. */
 #include "courses.h"
+#include "seeds.h"
 
 static struct table t;
 static struct run b, out, message;
@@ -54,13 +55,18 @@ void wild_call(uint32_t i)
     }
 }
 
+/* The refusal of any share at server i: eight wait, or N are decided or wait. Without one, POOL_DONE. */
+static uint32_t early_refusal(uint32_t i)
+{
+    struct counts n = counts_at(i);
+    return n.waiting == POOL_SLOTS ? POOL_STAGE : n.waiting + n.decided >= pool.returns ? POOL_FULL : POOL_DONE;
+}
+
 /* What a sound share comes to at server i: under an id that is new there, and under one that waits or was decided. */
 void refused_shares(uint32_t i)
 {
-    struct counts n = counts_at(i);
-    uint32_t early = n.waiting == POOL_SLOTS ? POOL_STAGE : n.waiting + n.decided >= pool.returns ? POOL_FULL : POOL_DONE;
     const struct course *c = &courses[random_below(course_count)];
-    uint32_t known = early ? early : c->at[i] == NOT_YET ? POOL_DONE : POOL_DECIDED;
+    uint32_t early = early_refusal(i), known = early ? early : c->at[i] == NOT_YET ? POOL_DONE : POOL_DECIDED;
     for (int fresh = 0; fresh < 2; fresh++) {
         message_of(c, i, 0, &message);
         if (fresh)
@@ -69,6 +75,22 @@ void refused_shares(uint32_t i)
         if (call_share(&t, 0, &message, c->pairs[i].r, c->pairs[i].s, POOL_ROUND_ONE_BYTES, &out) != (fresh ? early : known))
             fail("the refusal of a share: eight wait, N are decided or wait, or its id is used");
     }
+}
+
+/* A seed message with a fault at server i, and at server 0 any: refused 7, whatever the id, the pair and the room. */
+void damaged_seeds(uint32_t i)
+{
+    const struct course *c = &courses[random_below(course_count)];
+    uint32_t early = early_refusal(i);
+    uint8_t seed[POOL_SEED_BYTES];
+    random_fill(seed, sizeof seed);
+    seed_message(&message, c->id, i, seed);
+    if (i > 0 || random_below(2))
+        spoil_seed(&message, i, pool.sizes.share_bytes);
+    copy_table(&t, &pool.tables[i]);
+    if (call_share(&t, 0, &message, wild64(c->pairs[i].r), wild64(c->pairs[i].s), wild_room(POOL_ROUND_ONE_BYTES), &out) !=
+        (early ? early : POOL_SHARE))
+        fail("a damaged seed message is not refused 7");
 }
 
 /* The messages that the servers wrote last for a return, or all of them with another id. */

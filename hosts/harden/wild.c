@@ -14,8 +14,8 @@ void must(uint32_t answer, const char *what)
     }
 }
 
-static const uint8_t odd_bytes[] = {0,  1,  2,  3,  8,  9,  12, 13, 17,  18,  19, 20,
-                                    21, 22, 25, 33, 34, 35, 36, 64, 65, 127, 128, 255};
+static const uint8_t odd_bytes[] = {0,  1,  2,  3,  8,  9,  12, 13, 17, 18, 19,  20,  21,
+                                    22, 25, 33, 34, 35, 36, 37, 38, 39, 64, 65, 127, 128, 255};
 
 static uint8_t odd_byte(void) { return odd_bytes[random_below(sizeof odd_bytes)]; }
 

@@ -172,6 +172,23 @@ extern "C" {
         written: *mut usize,
     ) -> u32;
 
+    pub fn pool_state(
+        table: *const u8,
+        table_len: usize,
+        slots: *const pool_slot,
+        slots_len: usize,
+        elements: *const u32,
+        elements_len: usize,
+        servers: *mut u32,
+        own: *mut u32,
+        returns: *mut u32,
+        least: *mut u32,
+        closed: *mut u32,
+        decided: *mut u32,
+        entered: *mut u32,
+        waiting: *mut u32,
+    ) -> u32;
+
     pub fn pool_join(
         servers: u32,
         sheet: *const u8,

@@ -22,7 +22,9 @@ pub use crate::listing::{every_return, Listing};
 pub use crate::recount::recount;
 pub use crate::shelf::{shelve, unshelve};
 pub use crate::sizes::{sizes, Sizes};
-pub use crate::table::{close, drop, enter, round_one, round_two, share, Stage};
+pub use crate::table::{
+    close, drop, enter, round_one, round_two, share, standing, Stage, Standing,
+};
 pub use making::make;
 pub use seeds::make_seeded;
 

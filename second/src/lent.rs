@@ -78,7 +78,7 @@ use crate::judging::{
 use crate::limits::{check_limit, check_servers};
 use crate::refusal;
 use crate::sheet::{MAX_ENTRIES, MAX_MULTIPLICATIONS};
-use crate::table::{Verdict, CLOSING};
+use crate::table::{Standing, Verdict, CLOSING};
 use layout::{Table, Word};
 use shape::Shape;
 pub use slot::{Slot, AWAITS_ENTRY, AWAITS_ONE, AWAITS_TWO, FREE, SLOTS};
@@ -295,6 +295,25 @@ pub fn close(
     out[6..].copy_from_slice(table.totals.as_flattened());
     table.close();
     Ok(length)
+}
+
+/// Tells where the pool stands, also of a closed table. Nothing changes. Refusal: 11.
+pub fn standing(
+    table: &mut [u8],
+    slots: &mut [Slot],
+    elements: &mut [u32],
+) -> Result<Standing, u32> {
+    let table = Table::any(table, slots, elements)?;
+    Ok(Standing {
+        servers: table.servers(),
+        own: table.own(),
+        limit: table.ids.len() as u32,
+        least: table.least as u32,
+        closed: table.closed(),
+        decided: table.decided as u32,
+        entered: table.entered as u32,
+        waiting: table.waiting as u32,
+    })
 }
 
 /// Where the return that waits under an id has its record, when it is at this stage (refusal

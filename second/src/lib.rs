@@ -52,5 +52,6 @@ pub use sheet::{Column, Sheet};
 pub use shelf::{shelve, unshelve};
 pub use sizes::{sizes, Sizes};
 pub use table::{
-    close, drop, enter, open, round_one, round_two, share, Stage, Table, Verdict, PLACES,
+    close, drop, enter, open, round_one, round_two, share, standing, Stage, Standing, Table,
+    Verdict, PLACES,
 };

@@ -37,6 +37,27 @@ pub enum Verdict {
     Rejected,
 }
 
+/// Where a pool stands, as a table tells it.
+#[derive(Clone, Copy, Debug, PartialEq, Eq)]
+pub struct Standing {
+    /// S.
+    pub servers: u32,
+    /// The own number.
+    pub own: u32,
+    /// N.
+    pub limit: u32,
+    /// Q.
+    pub least: u32,
+    /// Whether the table is closed.
+    pub closed: bool,
+    /// How many returns are decided, entered ones among them.
+    pub decided: u32,
+    /// How many are entered.
+    pub entered: u32,
+    /// How many wait.
+    pub waiting: u32,
+}
+
 /// How a table works on a share.
 pub trait Form {
     /// What is fixed when a table is opened.
@@ -194,6 +215,11 @@ pub fn enter<F>(table: &mut Table<F>, id: u32) -> Result<(), u32> {
 /// Drops the return that waits under an id, accepted or not; the id stays used. Refusal: 11.
 pub fn drop<F>(table: &mut Table<F>, id: u32) -> Result<(), u32> {
     table.state.drop(id)
+}
+
+/// Tells where the pool stands. Nothing changes.
+pub fn standing<F>(table: &Table<F>) -> Standing {
+    table.state.standing()
 }
 
 /// Closes the table when at least Q returns are entered; gives the closing message. Order of

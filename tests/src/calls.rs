@@ -30,6 +30,7 @@ pub enum Function {
     Enter,
     Drop,
     Close,
+    State,
     Join,
     Line,
     Shelve,
@@ -123,6 +124,11 @@ impl Call {
         Call { servers, own, sheet, returns, least: 1, room, ..Call::of(Function::Open) }
     }
 
+    /// The state of a table.
+    pub fn state_of(table: &Parts) -> Call {
+        Call { table: table.clone(), ..Call::of(Function::State) }
+    }
+
     /// Carries the call out. An error tells which lent byte was changed that had to stay.
     pub fn run(&self, rng: &mut Rng) -> Result<Outcome, String> {
         match self.function {
@@ -139,6 +145,7 @@ impl Call {
             Function::Enter => self.by_id(rng, c::pool_enter),
             Function::Drop => self.by_id(rng, c::pool_drop),
             Function::Close => self.close(rng),
+            Function::State => self.state(rng),
             Function::Join => self.join(rng),
             Function::Line => self.line(rng),
             Function::Shelve => self.shelve(rng),

@@ -34,6 +34,7 @@ mod seeds;
 mod shelf;
 mod sizes;
 mod stack;
+mod state;
 mod stopped;
 mod suite;
 mod tables;
@@ -58,7 +59,7 @@ const POOL_BLOCKS: (u64, u64) = (3, 30);
 const MIXED_BLOCKS: (u64, u64) = (6, 40);
 
 /// The refusals of each function, by the header.
-const REFUSALS: [(Function, &[u32]); 17] = [
+const REFUSALS: [(Function, &[u32]); 18] = [
     (Function::Sizes, &[0, 1, 2]),
     (Function::Circuit, &[0, 1, 2, 14]),
     (Function::ReadCircuit, &[0, 1, 2, 3]),
@@ -72,6 +73,7 @@ const REFUSALS: [(Function, &[u32]); 17] = [
     (Function::Enter, &[0, 11]),
     (Function::Drop, &[0, 11]),
     (Function::Close, &[0, 11, 14, 15]),
+    (Function::State, &[0, 11]),
     (Function::Join, &[0, 1, 2, 4, 12, 14]),
     (Function::Line, &[0, 1, 2, 4, 12, 18]),
     (Function::Shelve, &[0, 2, 14, 19]),

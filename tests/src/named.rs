@@ -3,13 +3,13 @@
 use crate::suite::{Suite, Verdict};
 use crate::{
     challenges, circuits, counts, decided, entering, examples, faults, least, limits, lines, lists, mixed, orders,
-    points, pools, records, seeds, shelf, sizes, stack, stopped, tables, tops, waiting,
+    points, pools, records, seeds, shelf, sizes, stack, state, stopped, tables, tops, waiting,
 };
 
 pub type Test = fn(&mut Suite) -> Verdict;
 
 /// In the order in which they are run.
-pub const NAMED: [(&str, Test); 144] = [
+pub const NAMED: [(&str, Test); 146] = [
     ("header: constants", sizes::constants),
     ("header: a slot", sizes::slot),
     ("header: sizes", sizes::lengths),
@@ -65,6 +65,8 @@ pub const NAMED: [(&str, Test); 144] = [
     ("records: what is free", records::free),
     ("records: numbers that the share does not give", records::own),
     ("records: an id that waits twice", records::twice),
+    ("state: by hand", state::by_hand),
+    ("state: of a closed table", state::closed_by_hand),
     ("waiting: a ninth share", waiting::ninth),
     ("waiting: decided and waiting are N", waiting::full),
     ("waiting: an id used again", waiting::used),

@@ -4,7 +4,7 @@
 mod lent;
 mod tables;
 
-use second::{fast, Sizes};
+use second::{fast, Sizes, Standing};
 
 use crate::calls::{found, plain, Call, Function, Outcome};
 use crate::layout::put_word;
@@ -50,6 +50,7 @@ fn by_layout(call: &Call) -> Outcome {
         Function::Enter => tables::enter(call),
         Function::Drop => tables::drop(call),
         Function::Close => tables::close(call),
+        Function::State => tables::state(call),
         Function::Join => join(call),
         Function::Line => line(call),
         Function::Shelve => plain(Vec::new(), second::shelve(call.messages, call.width, &call.message, call.room)?),
@@ -63,6 +64,12 @@ pub fn sizes(told: &Sizes) -> Vec<u64> {
     let sheet = [told.columns, told.entries, told.published];
     let circuit = [told.wires, told.multiplications, told.tests];
     [sheet, circuit, lengths].concat().into_iter().map(|number| number as u64).collect()
+}
+
+/// Where a pool stands, in the order of the header's results.
+pub fn standing(told: &Standing) -> Vec<u64> {
+    let Standing { servers, own, limit, least, closed, decided, entered, waiting } = *told;
+    [servers, own, limit, least, u32::from(closed), decided, entered, waiting].map(u64::from).to_vec()
 }
 
 fn read_circuit(call: &Call) -> Outcome {

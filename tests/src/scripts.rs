@@ -3,6 +3,7 @@
 use second::gen::Call as Step;
 use second::gen::{Answer, Case, CaseAnswer, Exchange, Fit, Rng, Script, Seeded, Shelf};
 use second::refusal;
+use second::Standing;
 use second::Verdict::{Accepted, Rejected};
 
 use crate::calls::{plain, Call, Done, Function, Outcome};
@@ -62,8 +63,17 @@ fn open_tables(suite: &mut Suite, rng: &mut Rng, script: &Script) -> Result<Vec<
     Ok(tables)
 }
 
-/// One script: every answer is that of the second program, and every table that of the layout. Now and then a call is
-/// tried on a damaged copy of the table first.
+/// A table tells where the second program's stands.
+fn stands(suite: &mut Suite, table: &Parts, expected: &Standing) -> Verdict {
+    let call = Call::state_of(table);
+    match suite.check(&call)? {
+        Ok(done) if done.numbers == reference::standing(expected) => Ok(()),
+        _ => Err(suite.failure(&call, &format!("as the layout says\nmust be {expected:?}"))),
+    }
+}
+
+/// One script: every answer is that of the second program, and every table that of the layout; so is the state that it
+/// tells after each call. Now and then a call is tried on a damaged copy of the table first.
 pub fn script(suite: &mut Suite, seed: u64) -> Verdict {
     let mut rng = suite.seed(seed);
     let script = Script::random(seed);
@@ -75,7 +85,9 @@ pub fn script(suite: &mut Suite, seed: u64) -> Verdict {
         let table = &mut tables[step.server as usize];
         let call = step_call(&step.call, table);
         if rng.chance(15) {
-            suite.agrees(&Call { table: damaged(&mut rng, table), ..call.clone() })?;
+            let table = damaged(&mut rng, table);
+            suite.agrees(&Call::state_of(&table))?;
+            suite.agrees(&Call { table, ..call.clone() })?;
         }
         let outcome = suite.check(&call)?;
         if !same(&outcome, &step.answer) {
@@ -84,6 +96,7 @@ pub fn script(suite: &mut Suite, seed: u64) -> Verdict {
         if let Ok(done) = outcome {
             *table = done.table;
         }
+        stands(suite, table, &step.standing)?;
     }
     for exchange in &script.joins {
         exchanged(suite, exchange)?;

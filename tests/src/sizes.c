@@ -82,6 +82,8 @@ uint32_t (*const type_round_two)(out, size_t, slots, size_t, number, size_t, uin
 uint32_t (*const type_enter)(out, size_t, slots, size_t, number, size_t, uint32_t) = pool_enter;
 uint32_t (*const type_drop)(out, size_t, slots, size_t, number, size_t, uint32_t) = pool_drop;
 uint32_t (*const type_close)(out, size_t, slots_in, size_t, numbers, size_t, out, size_t, size_t *) = pool_close;
+uint32_t (*const type_state)(in, size_t, slots_in, size_t, numbers, size_t, number, number, number, number, number,
+                             number, number, number) = pool_state;
 uint32_t (*const type_join)(uint32_t, in, size_t, uint32_t, in, size_t, out, size_t, number, size_t *) = pool_join;
 uint32_t (*const type_line)(uint32_t, in, size_t, uint32_t, in, size_t, uint32_t, int64_t *, int64_t *,
                             int64_t *) = pool_line;

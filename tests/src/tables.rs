@@ -10,12 +10,12 @@ use crate::tops::top_column;
 
 const P: u64 = 2_147_483_647;
 
-/// All six calls on a table, each with the arguments that fit its own stage.
+/// All six calls on a table, each with the arguments that fit its own stage, and its state.
 pub fn all_calls(suite: &mut Suite, calls: &[Call], table: &Parts) -> Verdict {
     for call in calls {
         suite.agrees(&Call { table: table.clone(), ..call.clone() })?;
     }
-    Ok(())
+    suite.agrees(&Call::state_of(table))
 }
 
 /// All six calls refuse a table.
@@ -38,6 +38,7 @@ pub fn changed(suite: &mut Suite, calls: &[Call], table: &Parts, good: bool, cha
         return Err(format!("the layout's rule says {} of {damaged}", !good));
     }
     if !good {
+        suite.number(&Call::state_of(&damaged), 11)?;
         return refused(suite, calls, &damaged);
     }
     all_calls(suite, calls, &damaged)

@@ -62,6 +62,7 @@ impl fmt::Display for Call {
             Function::Enter => write!(f, "pool_enter {table} id={id}"),
             Function::Drop => write!(f, "pool_drop {table} id={id}"),
             Function::Close => write!(f, "pool_close {table} out_len={room}"),
+            Function::State => write!(f, "pool_state {table}"),
             Function::Join => {
                 write!(f, "pool_join servers={servers} sheet={sheet} returns={returns} ")?;
                 write!(f, "joined={message} out_len={room}")

@@ -16,13 +16,18 @@ use Rattle.rules.specs.Columns.{publishedIn, columnsOf}
 use Rattle.rules.specs.Messages.{serverIn, oneByOne}
 use Rattle.rules.specs.Joining.{joinRefusal, joinCount, joinTotals, joinBytes}
 use Rattle.rules.specs.Ledger.{Answer, wrote, isClosed, closingMessage, empty}
-use Rattle.rules.specs.Pools.{handedIn, openedAt, ledgerAt, Unaltered, Conditions}
+use Rattle.rules.specs.Table.{Lent}
+use Rattle.rules.specs.Runs.{runTable}
+use Rattle.rules.specs.Pools.{handedIn, openedAt, tableAt, ledgerAt, Unaltered, Conditions}
+use Rattle.rules.specs.State.{State, stateRefusal, stateOf, ledgerTells}
 use Rattle.rules.specs.WholeRun.{Closed, closings}
 use Rattle.rules.proofs.Histories.Origins.{handed-named}
 use Rattle.rules.proofs.Runs.Agreement.{history-at}
 use Rattle.rules.proofs.Computed.Facts.{document01-facts}
+use Rattle.rules.proofs.Tables.Told.{document01-state-told}
 use Rattle.rules.proofs.Runs.WholeRuns.{document01-whole-run}
 use Rattle.rules.proofs.Runs.Resuming.{resumes}
+use Rattle.pool_server.specs.Calls.{TellsState}
 use Rattle.pool_totals.specs.Calls.{Joins}
 use Rattle.calls.specs.Calls.{callOf, Tells}
 use Rattle.calls.specs.Servers.{Servers, over, roundsIn, closingsIn, poolOf, CUnaltered, CConditions, Totals, WholeCalls}
@@ -50,6 +55,17 @@ module _ (𝓢 : Servers) where
   rounds : (i : ℕ) → i < 𝓢 .servers → over (roundsIn (𝓢 .servers)) (𝓢 .log i .calls)
       ≡ handedIn document01 (openedAt document01 (poolOf 𝓢) i) empty (map callOf (𝓢 .log i .calls))
   rounds i h = rounds-same (openedAt document01 (poolOf 𝓢) i) empty (𝓢 .log i .calls) (told i h .by-ledger)
+
+  -- the table that the calls left is that of the rules' fold
+  left : (i : ℕ) → i < 𝓢 .servers → 𝓢 .log i .last ≡ runTable document01 (tableAt document01 (poolOf 𝓢) i) (map callOf (𝓢 .log i .calls))
+  left i h = told i h .last-is ∙ ap (λ (T : Lent). runTable document01 T (map callOf (𝓢 .log i .calls))) (told i h .opened-is)
+
+  states : (i : ℕ) → i < 𝓢 .servers → (before : State) (a : ℕ) (after : State) → TellsState (𝓢 .log i .last) before a after
+      → (a ≡ 0) × (after ≡ ledgerTells document01 (poolOf 𝓢) i)
+  states i h before a after t =
+      let s = document01-state-told (poolOf 𝓢) i h in
+      let none : stateRefusal document01 (𝓢 .log i .last) ≡ 0 = ap (stateRefusal document01) (left i h) ∙ s .not-refused in
+      (t .answer-is ∙ none, t .numbers-are ∙ rw none (ap (stateOf document01) (left i h) ∙ s .told))
 
   -- messages that are not refused name servers that there are
   named : (i : ℕ) → i < 𝓢 .servers → (m : List ℕ)
@@ -124,6 +140,7 @@ module _ (𝓢 : Servers) where
     closed-wrote = λ i h e. closed-wrote (openedAt document01 (poolOf 𝓢) i) empty (𝓢 .log i .calls) (told i h .by-ledger) refl
         (ap closedIn e);
     closes = closes;
+    states = states;
     joins = joins;
     lines = λ 𝓒 m w. line-told (poolOf 𝓢) (oneByOne m (𝓢 .servers)) (joined-are 𝓒 m w) (closed 𝓒 m w);
   }

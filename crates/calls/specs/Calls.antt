@@ -1,5 +1,6 @@
 -- The C functions of a server, called one after another. A call is everything that the function was lent and left; it keeps
--- the promise of its function (pool_server's Calls) and gets the table as the last one left it.
+-- the promise of its function (pool_server's Calls) and gets the table as the last one left it. pool_state leaves the table as it is,
+-- so it is no call of a list: what it tells of the table between two calls is a claim of its own (Servers).
 -- Assumes nothing.
 use mathlib.Core.Path.{_≡_}
 use mathlib.Core.Bool.{cond}

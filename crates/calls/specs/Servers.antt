@@ -19,6 +19,8 @@ use Rattle.rules.specs.Pools.{handedIn, Unaltered, Conditions}
 use Rattle.rules.specs.WholeRun.{WholeRun}
 use Rattle.rules.specs.Line.{namesPoint}
 use Rattle.rules.specs.Resumed.{Resumes}
+use Rattle.rules.specs.State.{State, ledgerTells}
+use Rattle.pool_server.specs.Calls.{TellsState}
 use Rattle.pool_totals.specs.Calls.{Joins, TellsLine}
 use Rattle.calls.specs.Calls.{CCall, pool-share, pool-round-one, pool-round-two, pool-enter, pool-drop, pool-close, callOf}
 use Rattle.calls.specs.Calls.{answerOf, Log, Serves, Tells}
@@ -131,6 +133,9 @@ module _ (𝓢 : Servers) where
     pub closes : (i : ℕ) → i < 𝓢 .servers → (m : List ℕ) → In m (over closingsIn (𝓢 .log i .calls))
         → (ledgerAt document01 poolOf i .progress ≡ isClosed)
         × (m ≡ closingMessage document01 (openedAt document01 poolOf i) (ledgerAt document01 poolOf i))
+    -- pool_state, on the table that a server's calls left, returns 0 and tells what the ledger tells
+    pub states : (i : ℕ) → i < 𝓢 .servers → (before : State) (a : ℕ) (after : State) → TellsState (𝓢 .log i .last) before a after
+        → (a ≡ 0) × (after ≡ ledgerTells document01 poolOf i)
     -- pool_join, handed the bytes that pool_close wrote at each server, in server order
     pub joins : CConditions → (m : ℕ → List ℕ) → ((i : ℕ) → i < 𝓢 .servers → In (m i) (over closingsIn (𝓢 .log i .calls)))
         → (out : List ℕ) (accepted written a : ℕ) (out' : List ℕ) (accepted' written' : ℕ)

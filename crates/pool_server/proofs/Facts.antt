@@ -18,17 +18,19 @@ use Rattle.rules.specs.Columns.{columnsOf}
 use Rattle.rules.specs.Messages.{roundLength}
 use Rattle.rules.specs.Server.{totalsLength, shareRefusal, oneRefusal, twoRefusal, enterRefusal, dropRefusal, closeRefusal}
 use Rattle.rules.specs.WaitingList.{runSize}
-use Rattle.rules.specs.Table.{Lent, tableState, tableSound, shareRefused, shareTable, shareBytes, oneRefused, oneTable, oneBytes}
+use Rattle.rules.specs.Table.{Lent, tableState, tableSound, tableFault, shareRefused, shareTable, shareBytes, oneRefused, oneTable, oneBytes}
 use Rattle.rules.specs.Table.{twoRefused, twoTable, twoVerdict, enterRefused, dropRefused}
 use Rattle.rules.specs.Table.{closeRefused, closeTable, closeBytes, openedIn, openRoom, openLength, openBytes, openedTable}
 use Rattle.rules.proofs.Histories.Opening.{opening}
 use Rattle.waiting.specs.Changes.{lent, unlessRefused}
 use Rattle.opening.specs.Calls.{Opens, refusalOf}
 use Rattle.closing.specs.Calls as closing
+use Rattle.state.specs.Calls as state
+use Rattle.rules.specs.State.{State, stateRefusal, stateOf}
 use Rattle.shares.specs.Calls.{Shares}
 use Rattle.round_one.specs.Calls.{RoundOne}
 use Rattle.round_two.specs.Calls.{RoundTwo}
-use Rattle.pool_server.specs.Calls.{TakesShare, TakesOne, Decides, Closes}
+use Rattle.pool_server.specs.Calls.{TakesShare, TakesOne, Decides, Closes, TellsState}
 use Rattle.pool_server.specs.Calls as promise
 use Rattle.pool_server.proofs.Eight.{unsound-refused, fault-same, left-same, answer-is, in-range, leaves}
 
@@ -154,6 +156,20 @@ closes ys {t} {es} {out} {w} {a} {t'} {out'} {w'} h =
     whole : (b : Bool) → lent (cond b (splice t 1 (1 ∷ [])) t) ys es ≡ cond b (lent (splice t 1 (1 ∷ [])) ys es) (lent t ys es)
     whole true = refl
     whole false = refl
+
+-- ---- the state: nothing changes but the numbers behind the pointers
+state-refuses : (T : Lent) → tableSound document01 T ≡ false → stateRefusal document01 T ≡ 11
+unfolding stateRefusal tableFault
+state-refuses T e = rw e refl
+
+pub tells : (ys : List Slot) {t es : List ℕ} {before : State} {a : ℕ} {after : State}
+    → state.Tells (lent t (eightOf ys) es) before a after → TellsState (lent t ys es) before a after
+tells ys {t} {es} {before} {a} {after} h =
+    let fault : Lent → ℕ = stateRefusal document01 in
+    record {
+      answer-is = h .answer-is ∙ fault-same fault state-refuses t ys es;
+      numbers-are = h .numbers-are ∙ left-same fault state-refuses t ys es (stateOf document01) before;
+    }
 
 -- ---- opening: the call clears bytes and numbers, and the records are cleared where it is not refused
 module _ {servers own : ℕ} {sheet : List ℕ} {returns least : ℕ} {t : List ℕ} {es : List ℕ} {w a : ℕ} {t' es' : List ℕ} {w' : ℕ} where

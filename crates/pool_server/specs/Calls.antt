@@ -6,6 +6,7 @@ use mathlib.Core.Path.{_≡_}
 use mathlib.Core.Bool.{cond}
 use mathlib.Core.List.{List}
 use Prim.Native.Nat.{ℕ}
+use lib.Dec.{eqb}
 use lib.ListN.{length}
 use Rattle.records.specs.Answers.{Writes, ifDone}
 use Rattle.rules.specs.Settings.{document01}
@@ -14,6 +15,7 @@ use Rattle.rules.specs.Server.{totalsLength}
 use Rattle.rules.specs.Table.{Lent, openLength, openedTable, shareRefused, shareTable, shareBytes}
 use Rattle.rules.specs.Table.{oneRefused, oneTable, oneBytes, twoRefused, twoVerdict, twoTable, enterRefused, enterTable}
 use Rattle.rules.specs.Table.{dropRefused, dropTable, closeRefused, closeTable, closeBytes, openedIn}
+use Rattle.rules.specs.State.{State, stateRefusal, stateOf}
 use Rattle.rules.specs.Pools.{opensIn}
 use Rattle.waiting.specs.Changes.{unlessRefused}
 
@@ -64,3 +66,9 @@ Closes T out written a T' out' written' =
     let refusal = closeRefused document01 T (length out) in
     Leaves refusal (closeTable document01 T) T T'
     × Writes refusal (closeBytes document01 T) (totalsLength document01 (openedIn document01 (T .bytes))) out written a out' written'
+
+-- pool_state: the eight numbers behind the pointers, before and after. All three parts of the table are only read, so a list of calls
+-- with pool_state in it comes to what the others come to
+pub record TellsState (T : Lent) (before : State) (a : ℕ) (after : State) : Type 0 where
+  pub answer-is : a ≡ stateRefusal document01 T
+  pub numbers-are : after ≡ cond (eqb (stateRefusal document01 T) 0) (stateOf document01 T) before

@@ -1,10 +1,11 @@
 // The C functions of a server, on its table of three lent parts: bytes, the waiting list, and the run of numbers. All but
 // pool_open copy the eight records and hand them to one call by value; the share, the rounds, the entry and the drop write back the
-// one record that the call changed, and pool_open clears all. None has rules of its own.
+// one record that the call changed, and pool_open clears all; pool_state changes nothing. None has rules of its own.
 // include/pool.h tells a host how to use them. Each takes any arguments and returns 0 or the number of the refusal; the
 // promises (specs/Calls) are equalities with rules' definitions at document 01's setting.
 ghost use Rattle.waiting.specs.Changes.{lent};
-ghost use Rattle.pool_server.specs.Calls.{Opens, TakesShare, TakesOne, Decides, Enters, Drops, Closes};
+ghost use Rattle.state.specs.Calls.{eight};
+ghost use Rattle.pool_server.specs.Calls.{Opens, TakesShare, TakesOne, Decides, Enters, Drops, Closes, TellsState};
 use slots::Slot;
 
 #[no_mangle]
@@ -145,4 +146,40 @@ pub extern "C" fn pool_close(
 {
     let list = slots::copied(slots);
     closing::close(table, list, elements, out, written)
+}
+
+#[no_mangle]
+pub extern "C" fn pool_state(
+    table: &[u8],
+    slots: &[Slot],
+    elements: &[u32],
+    servers: &mut u32,
+    own: &mut u32,
+    returns: &mut u32,
+    least: &mut u32,
+    closed: &mut u32,
+    decided: &mut u32,
+    entered: &mut u32,
+    waiting: &mut u32,
+) -> u32
+    ensures { λ a. ⌜ TellsState (lent (now (table .entry)) (now (slots .entry)) (now (elements .entry)))
+        (eight (now (servers .entry)) (now (own .entry)) (now (returns .entry)) (now (least .entry))
+        (now (closed .entry)) (now (decided .entry)) (now (entered .entry)) (now (waiting .entry)))
+        a (eight (now (servers .exit)) (now (own .exit)) (now (returns .exit)) (now (least .exit))
+        (now (closed .exit)) (now (decided .exit)) (now (entered .exit)) (now (waiting .exit))) ⌝ }
+{
+    let list = slots::copied(slots);
+    state::tell(
+        table,
+        list,
+        elements,
+        servers,
+        own,
+        returns,
+        least,
+        closed,
+        decided,
+        entered,
+        waiting,
+    )
 }

@@ -15,5 +15,6 @@ pub mod Run
 pub mod InAnyOrder
 pub mod Opens
 pub mod Erased
+pub mod Told
 pub mod Greatest
 pub mod RoomTold

@@ -80,10 +80,21 @@ impl<'a> Table<'a> {
         slots: &'a mut [Slot],
         numbers: &'a mut [u32],
     ) -> Result<Self, u32> {
-        match Table::parts(bytes, slots, numbers) {
-            Some(table) if table.sound() && table.header[STAGE] == OPEN => Ok(table),
-            _ => Err(refusal::STAGE),
+        match Table::any(bytes, slots, numbers) {
+            Ok(table) if table.closed() => Err(refusal::STAGE),
+            table => table,
         }
+    }
+
+    /// The same for a table that may be closed.
+    #[inline(always)]
+    pub fn any(
+        bytes: &'a mut [u8],
+        slots: &'a mut [Slot],
+        numbers: &'a mut [u32],
+    ) -> Result<Self, u32> {
+        let table = Table::parts(bytes, slots, numbers);
+        table.filter(Table::sound).ok_or(refusal::STAGE)
     }
 
     /// The parts of a table; `None` when one is too short, the records are not eight, or the
@@ -160,6 +171,10 @@ impl<'a> Table<'a> {
     /// Closes the table.
     pub fn close(&mut self) {
         self.header[STAGE] = CLOSED;
+    }
+
+    pub fn closed(&self) -> bool {
+        self.header[STAGE] == CLOSED
     }
 
     pub fn servers(&self) -> u32 {

@@ -1,6 +1,6 @@
 //! What a table knows, its refusals and its rounds: the same for every form.
 
-use super::{Stage, Verdict, Worked, CLOSING, PLACES};
+use super::{Stage, Standing, Verdict, Worked, CLOSING, PLACES};
 use crate::field::{self, P};
 use crate::judging::{
     check_challenges, round_one_message, round_one_sums, round_two_message, round_two_sums,
@@ -90,6 +90,19 @@ impl State {
             closed: false,
             sheet,
         })
+    }
+
+    pub fn standing(&self) -> Standing {
+        Standing {
+            servers: self.servers,
+            own: self.own,
+            limit: self.limit,
+            least: self.least,
+            closed: self.closed,
+            decided: self.decided.len() as u32,
+            entered: self.entered,
+            waiting: self.waiting().count() as u32,
+        }
     }
 
     /// The returns that wait, in the order of their places.

@@ -2,7 +2,7 @@
 
 use super::lent_table::Lent;
 use second::gen::{Answer, Call, Script, Server};
-use second::{open, Stage, Table};
+use second::{lent, open, standing, Stage, Table};
 
 /// A table in both forms.
 #[derive(Clone, Debug, PartialEq)]
@@ -52,6 +52,9 @@ impl Server for Twins {
             })
             .collect();
         assert_eq!(records, waiting);
+        let mut copy = self.lent.clone();
+        let told = lent::standing(&mut copy.bytes, &mut copy.slots, &mut copy.numbers);
+        assert_eq!(told, Ok(standing(&self.plain)));
         answer
     }
 }

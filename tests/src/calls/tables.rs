@@ -207,4 +207,32 @@ impl Call {
         };
         on_table(wrote(answer, &out, &written, &[])?, &table, &slots, &elements)
     }
+
+    pub(super) fn state(&self, rng: &mut Rng) -> Result<Outcome, String> {
+        let table = Part::read("table", &self.table.bytes, rng);
+        let slots = Part::read("slots", &self.table.slots, rng);
+        let elements = Part::read("elements", &self.table.elements, rng);
+        let names = ["servers", "own", "returns", "least", "closed", "decided", "entered", "waiting"];
+        let mut words = names.map(|name| word32(name, rng));
+        let [servers, own, returns, least, closed, decided, entered, waiting] = &mut words;
+        let answer = unsafe {
+            c::pool_state(
+                table.lent.pointer(),
+                table.lent.length(),
+                slots.lent.pointer(),
+                slots.lent.length(),
+                elements.lent.pointer(),
+                elements.lent.length(),
+                servers.pointer(),
+                own.pointer(),
+                returns.pointer(),
+                least.pointer(),
+                closed.pointer(),
+                decided.pointer(),
+                entered.pointer(),
+                waiting.pointer(),
+            )
+        };
+        on_table(numbers(answer, &words)?, &table, &slots, &elements)
+    }
 }

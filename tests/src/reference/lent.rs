@@ -5,6 +5,7 @@ use second::Verdict;
 
 use crate::calls::{Call, Done, Function, Outcome};
 use crate::layout::{Parts, Slot};
+use crate::reference::standing;
 
 /// The lent form's own records.
 fn theirs(slots: &[Slot]) -> Vec<TheirSlot> {
@@ -17,10 +18,10 @@ fn ours(slots: &[TheirSlot]) -> Vec<Slot> {
 
 /// The answer of the lent form; `None` for a call that is not on a table.
 pub fn answer(call: &Call) -> Option<Outcome> {
-    use Function::{Close, Drop, Enter, Open, RoundOne, RoundTwo, Share};
+    use Function::{Close, Drop, Enter, Open, RoundOne, RoundTwo, Share, State};
     match call.function {
         Open => Some(open(call)),
-        Share | RoundOne | RoundTwo | Enter | Drop | Close => Some(on_table(call)),
+        Share | RoundOne | RoundTwo | Enter | Drop | Close | State => Some(on_table(call)),
         _ => None,
     }
 }
@@ -51,6 +52,7 @@ fn on_table(call: &Call) -> Outcome {
         }
         Function::Enter => lent::enter(t, s, e, id).map(|()| (Vec::new(), 0))?,
         Function::Drop => lent::drop(t, s, e, id).map(|()| (Vec::new(), 0))?,
+        Function::State => (standing(&lent::standing(t, s, e)?), 0),
         _ => (Vec::new(), lent::close(t, s, e, &mut out)?),
     };
     out.truncate(written);

@@ -183,6 +183,14 @@ pub fn drop(call: &Call) -> Outcome {
     done(Vec::new(), Vec::new(), after)
 }
 
+pub fn state(call: &Call) -> Outcome {
+    let table = layout::sound(&call.table).ok_or(refusal::STAGE)?;
+    let opened = [table.servers as usize, table.own as usize, table.returns, table.least];
+    let counts = [usize::from(table.closed), table.decided, table.entered, call.table.waiting()];
+    let numbers = opened.into_iter().chain(counts).map(|number| number as u64).collect();
+    done(numbers, Vec::new(), call.table.clone())
+}
+
 pub fn close(call: &Call) -> Outcome {
     let table = open_table(call)?;
     if call.table.waiting() > 0 {

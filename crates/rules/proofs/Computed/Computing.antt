@@ -58,6 +58,7 @@ use Rattle.rules.specs.Ledger.{notesWith, ledgerTotals, closingMessage, 
 use Rattle.rules.specs.Ledger.{sumsNoted, acceptNoted, ledgerAfter, secondMessage, answerOf, runLedger, ledgerAnswers}
 use Rattle.rules.specs.Runs.{tableRefusal, tableAfter, tableAnswer, runTable, tableAnswers}
 use Rattle.rules.specs.Pools.{notesIn, noteUnder, callMessages, handedIn}
+use Rattle.rules.specs.State.{stateRefusal, closedNumber, stateOf}
 
 unfoldable pub part0 : Unit {0}
 unfolding sum product descending others weight basis interpolate inverseFrom tabulate every countFrom sumOver valueOf
@@ -135,6 +136,7 @@ part17 = tt
 
 unfoldable pub part18 : Unit {0}
 unfolding ledgerAnswers tableRefusal tableAfter tableAnswer runTable tableAnswers notesIn noteUnder callMessages handedIn
+    stateRefusal closedNumber stateOf
 part18 = tt
 
 unfoldable pub part19 : Unit {0}

@@ -9,6 +9,7 @@ use Rattle.rules.specs.OrderExamples.{threeServers, sameSlots, reversed}
 use Rattle.rules.specs.ChallengeExamples.{threePairs, typingSlip}
 use Rattle.rules.specs.LeastExamples.{smallPools}
 use Rattle.rules.specs.EntryExamples.{verdictFirst, whileAccepted}
+use Rattle.rules.specs.StateExamples.{states}
 use Rattle.rules.proofs.Computed.Computing.{everything}
 
 pub limits-hold : every (λ row. row .holds) limits ≡ true
@@ -66,3 +67,7 @@ verdict-first-hold = refl
 pub while-accepted-hold : every (λ row. row .holds) whileAccepted ≡ true
 unfolding everything whileAccepted manyWait
 while-accepted-hold = refl
+
+pub states-hold : every (λ row. row .holds) states ≡ true
+unfolding everything states manyWait
+states-hold = refl

@@ -90,6 +90,7 @@ impl Builder {
             server,
             call,
             answer: answer.clone(),
+            standing: table::standing(&self.tables[server as usize]),
         });
         answer
     }

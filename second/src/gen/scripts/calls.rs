@@ -1,6 +1,6 @@
 //! The calls of a script, their answers, and the tables that take them.
 
-use crate::table::{self, Form, Table, Verdict};
+use crate::table::{self, Form, Standing, Table, Verdict};
 
 /// A call on a table.
 #[derive(Clone, Debug, PartialEq, Eq)]
@@ -60,6 +60,8 @@ pub struct Step {
     pub call: Call,
     /// The plain form's answer.
     pub answer: Answer,
+    /// Where the server's pool stands afterwards, by the plain form.
+    pub standing: Standing,
 }
 
 /// A table that takes the calls of a script.

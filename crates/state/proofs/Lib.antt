@@ -1,0 +1,2 @@
+-- What the call answers, from what the reader of a table finds.
+pub mod Telling

@@ -15,37 +15,19 @@
  *                       pool_round_two --> accepted or rejected     } each in its own stage
  *                       pool_enter         adds an accepted return to the totals, when all servers have accepted it
  *                       pool_drop          in place of a round or of entering, for a return that cannot be finished
+ *                       pool_state ------> where the table stands, at any time
  *                       pool_close ------> its totals message, at the end, when enough returns are entered
  *     anyone            pool_join -------> the count of entered returns and the totals
  *                       pool_line -------> the line that fits the points of a column best
  *     a keeper          pool_shelve -----> share messages stored by place, and pool_unshelve brings them back
  *
- * The host sends the messages: what a server writes in a round goes to every server. It also draws the random numbers, and
- * chooses r and s, for each return anew and the same for every server, after the shares have been sent and in a way that no
- * workshop can foretell.
+ * The host's part: it draws the random numbers, carries the messages, stores the tables, and chooses r and s for each return: anew,
+ * the same for every server, after the shares have been sent and in a way that no workshop can foretell. This page goes on with
+ * calling, messages, tables, a keeper's loop, verdict and entry, dropping, slips, restarts, secrecy and small pools.
  *
- * Share messages. A server takes its share in one of two forms, told by byte 0:
+ * CALLING
  *
- *     byte 0       33, a share message           38, a seed message
- *     bytes 1-4    the id                        the id
- *     byte 5       the server                    the server, never 0
- *     from 6 on    the elements of the share     a seed of 32 bytes, from which the server works out the elements
- *     length       share_bytes (42 to 3,102)     POOL_SEED_MESSAGE_BYTES
- *
- * A seed stands for (share_bytes - 6) / 4 elements: element k, from 0, is made of bytes 4k to 4k + 3 of the key stream of ChaCha20
- * (RFC 8439) with the seed as its key, blocks counted from 0, and as its nonce bytes 1 to 4 of the message followed by eight zero
- * bytes. These 4 bytes are read as a number, its top bit is cleared, and it is taken modulo p: so 0x7fffffff and 0xffffffff give 0. A
- * seed of 32 zero bytes under the id 0 gives 769702006, 272495008, 1701469504, 683509331 and so on. Server 0 gets a share message, the
- * remainder, and any other either form. From then on there is no difference: rounds, verdicts and totals are those of the elements.
- *
- * Round messages. A server is handed the S messages of a round of one return one after another as they arrived: in any order,
- * which may be another at each server; one of each server, the own one, unaltered, among them. They need no sorting, for each
- * says whose it is: byte 0 is 34 in round one and 35 in round two, bytes 1 to 4 are the id, byte 5 is the server. Elements
- * follow: d, e, r and s in round one (r from byte 14 on, s from byte 18), sigma and tau in round two. A server twice or missing,
- * or a byte 5 of S or more, is refused 12. A host takes one message of each server, told by the connection that it came on, and
- * hands them in when it has all S. Totals messages are joined in server order (pool_join).
- *
- * Answers. Every function returns 0 when it is done, and else the number of the refusal (POOL_...). The first refusal in
+ * Answers. Every function but pool_words returns 0 when it is done, and else the number of the refusal. The first refusal in
  * the order given at each function counts. A refusal changes nothing: buffers, all three parts of tables and results behind
  * pointers keep what they held. When a function is done, the bytes of a buffer past the written length keep what they held.
  *
@@ -57,7 +39,37 @@
  * one that is too short. The buffers and results of one call must not overlap. Pointers to results must be valid: not NULL,
  * and aligned as C wants.
  *
- * Tables. A table has three parts, which the host keeps and lends to every call on the table:
+ * Threads. Functions keep nothing between calls. Calls at the same time are allowed on separate buffers; calls on one table
+ * come one after another, whichever returns they name. No function needs more than 64 KiB of stack; none allocates memory.
+ *
+ * MESSAGES
+ *
+ *     byte 0         bytes 1-4   byte 5      from byte 6 on                           length in bytes
+ *     33 share       the id      the server  the elements of the share                share_bytes, 42 to 3,102
+ *     38 seed        the id      the server  a seed of 32 bytes                       38, POOL_SEED_MESSAGE_BYTES
+ *     34 round one   the id      the server  d at 6, e at 10, r at 14, s at 18        22, POOL_ROUND_ONE_BYTES
+ *     35 round two   the id      the server  sigma at 6, tau at 10                    14, POOL_ROUND_TWO_BYTES
+ *
+ *     byte 0         byte 1      bytes 2-5   from byte 6 on
+ *     36 totals      the server  the count   the server's share of each total         POOL_TOTALS_BYTES
+ *
+ * The server is the one that gets the share, or that wrote the message, counted from 0. Messages are not encrypted, have no checksum,
+ * and can say any sender: connections that are encrypted and tell who is at the other end are the host's.
+ *
+ * Shares go from the workshop to one server each, in either form; server 0 gets a share message, the remainder. A seed stands for
+ * (share_bytes - 6) / 4 elements: element k, from 0, is made of bytes 4k to 4k + 3 of the key stream of ChaCha20 (RFC 8439) with the
+ * seed as its key, blocks counted from 0, and as its nonce bytes 1 to 4 of the message followed by eight zero bytes. These 4 bytes are
+ * read as a number, its top bit is cleared, and it is taken modulo p: so 0x7fffffff and 0xffffffff give 0. A seed of 32 zero bytes
+ * under the id 0 gives 769702006, 272495008, 1701469504, 683509331 and so on. Once a share is taken its form makes no difference.
+ *
+ * Round messages go from each server to every server. A server is handed the S messages of a round of one return one after another
+ * as they arrived: in any order, which may be another at each server; one of each server, the own one, unaltered, among them. A server
+ * twice or missing, or a byte 5 of S or more, is refused 12. A host takes one message of each server, told by the connection that it
+ * came on, and hands them in when it has all S. Totals messages are joined in server order (pool_join).
+ *
+ * TABLES
+ *
+ * A table has three parts, which the host keeps and lends to every call on the table:
  *
  *     table       bytes, POOL_TABLE_BYTES           S, the own number, N, Q, the sheet, the counts, the totals, the ids decided
  *     slots       pool_slot, POOL_SLOTS of them     for each return that waits: its id, its stage, r, s, d and e
@@ -66,15 +78,7 @@
  * Slots are aligned to 8 bytes and elements to 4, as C wants; the bytes may stand anywhere. Stored parts are copied back into
  * pool_slot and uint32_t arrays: a cast pointer into a byte buffer need not be aligned. There are exactly eight slots. The
  * bytes and the elements may stand at the start of longer buffers: what lies past them is never read nor written. Slots and
- * elements hold numbers as the machine does. A host may read the slots; it writes to none of the parts. A pool is finished by
- * the version of the library that opened it. A table of an earlier layout is refused 11. Where the layout is the same, the returns
- * that wait go on, with one version at all servers: what an earlier one accepted is entered already; round-one messages of an
- * earlier length are refused 12, and the returns that await round one with them are dropped at every server.
- *
- * THE THREE PARTS ARE STORED TOGETHER, with the message that a call wrote, before the message is sent: so a table survives a
- * restart. A message cannot be written a second time. Parts that were stored at different times are no table: calls cannot
- * always tell, and the totals can become wrong. Never go back to older copies of a table, nor of a part: a share judged
- * twice with two pairs shows more of the return than it may.
+ * elements hold numbers as the machine does.
  *
  * What each part holds. The bytes: of a decided return its id and, if it was entered, what its share added to the totals; of a
  * return that waits nothing. A slot: stage POOL_FREE and zeros, or the return that waits in it (see pool_slot). The elements:
@@ -83,21 +87,25 @@
  * the slot is free. pool_share fills the first free slot and its place. When the return is decided (rejected by pool_round_two,
  * entered or dropped) both are erased: set to 0. pool_open sets all slots and places to 0.
  *
- * Secrecy. Secret are the elements and, in the bytes, the totals. While a return waits, its place in the elements is as secret
- * as the share: keep copies, swap and logs of it as you keep a share. The totals are the server's shares of them: two copies,
- * from before and after one return is entered, show the published entries of its share. They stay in the bytes until the host
- * erases the table; those of all S tables, closed or not, added up modulo p, are the totals. The slots and the rest of the bytes
- * hold what the servers agree on or tell one another: ids, counts, r, s, d and e. The library erases in the parts that it is
- * lent; older copies and the share message are the host's to erase. Share messages that a host stores stay as secret as they
- * were, in any order of their bytes: those of all S servers, added up, are the returns. A seed is as secret as the share that it
- * stands for, from the moment it is drawn. No part of a table holds it: once pool_share is done and the table is stored nothing
- * needs it, and the server wipes the seed message as it wipes a share message. The workshop wipes the seeds and the random elements
- * once the messages are made, and the messages once they are sent.
+ * One writer, no checksum. Only the calls write to a table; a host may read the slots. One process has it at a time: take a lock on
+ * what is stored. A table has no checksum: a call refuses 11 what cannot be a table, and takes other damage as it stands. Store a
+ * checksum of the three parts beside them and test it before the first call after a restart.
  *
- * Several returns under way. Each call names its return: a share by the id in its message, the other calls by an id. What
- * becomes of a return that was taken does not depend on the calls on others between its own, and returns may be finished in
- * any order. A keeper takes what comes, in the order in which it comes (T stands for the three parts with their lengths; out has
- * POOL_ROUND_ONE_BYTES, which is enough for both rounds):
+ * STORE TOGETHER, BEFORE ANYTHING IS SENT: the three parts, with the message that the call wrote, or the verdict, and which ids were
+ * entered (the bytes tell which were decided, not how). Store them all or none: in a file written anew, flushed and renamed, say. A
+ * message cannot be written a second time. Parts that were stored at different times are no table: calls cannot always tell, and the
+ * totals can become wrong. Never go back to older copies of a table, nor of a part: a share judged twice with two pairs shows more
+ * of the return than it may.
+ *
+ * Versions. A pool is finished by the version of the library that opened it. A table of an earlier layout is refused 11. Where the
+ * layout is the same, the returns that wait go on, with one version at all servers: what an earlier one accepted is entered already;
+ * round-one messages of an earlier length are refused 12, and the returns that await round one with them are dropped at every server.
+ *
+ * A KEEPER'S LOOP
+ *
+ * Each call names its return: a share by the id in its message, the other calls by an id. What becomes of a return that was taken does
+ * not depend on the calls on others between its own, and returns may be finished in any order. A keeper takes what comes, in the order
+ * in which it comes (T stands for the three parts with their lengths; out has POOL_ROUND_ONE_BYTES, enough for both rounds):
  *
  *     while (next(&m)) {                        // what is ready: a share with its r and s, all S messages of a round, an entry
  *         out_len = 0;                          // or a drop
@@ -143,19 +151,16 @@
  * The servers take the shares of returns in the same order. Otherwise each could have its eight slots full of returns that
  * another has no slot for, and none could be finished.
  *
- * Verdict and entry. pool_round_two only gives the verdict, the same at every server where no message was altered. A rejected
- * return is decided by it. An accepted one waits in its slot, in no total, until pool_enter adds it, exactly once, or it is dropped.
- * Entries, like drops, must reach every server: a return that is entered at one server and dropped at another, whatever its
- * verdict there, makes the totals wrong, and joining notices only counts that differ. So:
+ * VERDICT AND ENTRY
+ *
+ * pool_round_two only gives the verdict, the same at every server where no message was altered. A rejected return is decided by it. An
+ * accepted one waits in its slot, in no total, until pool_enter adds it, exactly once, or it is dropped. Entries, like drops, must reach
+ * every server: a return that is entered at one server and dropped at another, whatever its verdict there, makes the totals wrong, and
+ * joining notices only counts that differ. So:
  *     1. Each server stores its table with the verdict, and only then tells it to the others.
  *     2. It enters the return once all S servers have told an accepted verdict, its own included. Then none drops it any more.
  *     3. Where one has told a rejected verdict (a message was altered) or that it dropped the return, those that accepted it
  *        drop it.
- * A server that stops between verdict and entry loses nothing. It goes on from its stored table: a slot in POOL_AWAITS_ENTRY is an
- * accepted verdict. It tells it again, asks the others, and enters or drops the return as they do or did; its totals join with
- * theirs. If it does not know whether it has entered a return, it calls pool_enter: that is done, or refused 11 with the id in no
- * slot, for it was decided before. The table holds which ids were decided, not how: note beside it those that were entered, for a
- * server that asks.
  *
  * Dropping. A return that cannot be finished is dropped at every server, by its id; the others that wait go on. One that is
  * neither finished nor dropped keeps its slot, and counts towards N. Until a server has told an accepted verdict no other can have
@@ -169,17 +174,49 @@
  * verdict, for round two needs a message of each. The id stays used, and the shares are never judged again: the workshop makes its
  * return anew, with new random elements and seeds and under a new id, and a new pair is given, the same at every server.
  *
- * Small pools. The totals of few returns show much of each. So a table opens with a least count Q, from 1 to N, the same at every
- * server: with fewer than Q returns entered pool_close is refused 15 and gives no totals. Nothing has changed then: the table
- * takes more returns, up to N decided, and is closed later. Returns that are rejected or dropped count towards N and not towards
- * Q. A table with N decided and fewer than Q entered never closes: its shares are refused 13 and its close 15. That is certain
- * once more than N - Q returns are rejected or dropped. Then open a new pool, for which the workshops make their returns anew
- * (a share of the old one is never judged again), and erase the old tables. Q counts returns, not workshops: who sends them,
- * and how many each, is the host's to know. The four totals of a column of points show more than the one of a number: those of
- * two returns show both x, and both y where the x differ. So with points take a Q well above 2.
+ * RESTARTS
  *
- * Threads. Functions keep nothing between calls. Calls at the same time are allowed on separate buffers; calls on one table
- * come one after another, whichever returns they name. No function needs more than 64 KiB of stack; none allocates memory.
+ * A server that stops, wherever it stops, goes on from what it stored last. What was not stored was not sent either. It tests the
+ * checksum and calls pool_state. Then, for each return:
+ *     its share at hand    it is handed in again, with the same r and s; refused 10, the table has it already
+ *     POOL_AWAITS_ONE      the stored round-one message is sent again, and the others are asked for theirs
+ *     POOL_AWAITS_TWO      so is the round-two message
+ *     POOL_AWAITS_ENTRY    the verdict was accepted: it is told again, and the others are asked for theirs; the return is entered or
+ *                          dropped as they do or did, and the totals join with theirs
+ *     decided              the others are told how, where they ask
+ * and where the table is closed, the stored totals message is sent again. A call that may have been made before is made again: an
+ * entry is done, or refused 11 with the id in no slot, for it was decided before.
+ *
+ * So that one of them can ask again, the servers keep what they have: a share message until the table that took it is stored; the round
+ * messages of the others until the own verdict is stored; the own ones until all have told a verdict, or the return is dropped. Where a
+ * round message is lost for good the return is dropped at every server. A table that is lost or damaged takes the totals with it, for
+ * all S are needed: open a new pool, with returns made anew.
+ *
+ * SECRECY
+ *
+ *     what                                                          is wiped
+ *     random elements and seeds, at the workshop                    once the messages are made
+ *     share and seed messages                                       at the workshop once sent, at the server once the table is stored
+ *     the elements of a table: the shares of the returns that wait  by the call that decides the return, in the parts that it is lent
+ *     the totals in the bytes of a table: the server's share        with the table, by the host, once the totals are published
+ *
+ * These are secret, with all copies, swap and logs of them, and stored messages stay so in any order of their bytes (pool_shelve):
+ * those of all S servers, added up, are the returns, and the totals of all S tables, closed or not, added up modulo p, are the totals.
+ * Two copies of a table, from before and after one return is entered, show the published entries of its share. Older copies are the
+ * host's to wipe. A seed is as secret as the share that it stands for, from the moment it is drawn; no part of a table holds it.
+ * The slots, the rest of the bytes and the round messages hold what the servers agree on or tell one another: ids, counts, r, s, d, e,
+ * sigma and tau. Of these r and s are kept from the workshop until its shares are sent.
+ *
+ * SMALL POOLS
+ *
+ * The totals of few returns show much of each. So a table opens with a least count Q, from 1 to N, the same at every server: with fewer
+ * than Q returns entered pool_close is refused 15 and gives no totals. Nothing has changed then: the table takes more returns, up to N
+ * decided, and is closed later. Returns that are rejected or dropped count towards N and not towards Q. A table with N decided and fewer
+ * than Q entered never closes: its shares are refused 13 and its close 15. That is certain once more than N - Q returns are rejected or
+ * dropped. Then open a new pool, for which the workshops make their returns anew (a share of the old one is never judged again), and
+ * erase the old tables. Q counts returns, not workshops: who sends them, and how many each, is the host's to know. The four totals of a
+ * column of points show more than the one of a number: those of two returns show both x, and both y where the x differ. So with points
+ * take a Q well above 2.
  */
 #ifndef POOL_H
 #define POOL_H
@@ -187,31 +224,39 @@
 #include <stddef.h>
 #include <stdint.h>
 
+#define POOL_VERSION "0.13.0" /* of this header and its library (CHANGELOG.md) */
+
 #ifdef __cplusplus
 extern "C" {
 #endif
 
-/* Refusals. */
+/* Refusals: each by its sentence in pool_refusals.def, which also says what to do. */
 #define POOL_DONE 0
-#define POOL_KIND 1     /* sheet or circuit: unknown kind byte, or the body is cut off */
-#define POOL_LIMIT 2    /* a count, top, constant, S, server number, N, Q, R or W outside its limits, or a column that is not of points */
+#define POOL_KIND 1     /* sheet or circuit: an unknown kind byte, or its body is cut off */
+#define POOL_LIMIT 2    /* a number outside its limits, or a column that is not of points */
 #define POOL_WIRE 3     /* circuit: a wire not yet made, or an entry that does not exist */
 #define POOL_WRAP 4     /* N returns could make a total of p or more */
 #define POOL_VALUE 5    /* not one value for each column, or a value outside its column */
 #define POOL_RANDOM 6   /* not the right number of random elements or seeds, or an element not below p */
-#define POOL_SHARE 7    /* share or seed message of the wrong kind byte, length or server, or a seed message for server 0 */
-#define POOL_ELEMENT 8  /* share element not below p; those of a seed are always below p */
+#define POOL_SHARE 7    /* share or seed message of the wrong kind, length or server, or a seed for server 0 */
+#define POOL_ELEMENT 8  /* share element not below p */
 #define POOL_PAIR 9     /* r or s outside its range */
 #define POOL_DECIDED 10 /* the id was decided or waits */
-#define POOL_STAGE 11   /* table unsound or closed, nothing waits under that id in that stage, eight wait, or a close while one waits */
-#define POOL_JOINED 12  /* joined messages: length, kind, id, server, element, own message or counts wrong; totals out of order */
+#define POOL_STAGE 11   /* table unsound or closed, no return in that stage, eight wait, or a close while one waits */
+#define POOL_JOINED 12  /* joined messages: one altered, cut, of another id or kind, twice, missing or out of order */
 #define POOL_FULL 13    /* N returns are decided or wait */
-#define POOL_ROOM 14    /* an output buffer is too short; in opening also a part of the table, or slots_len is not POOL_SLOTS */
-#define POOL_FEW 15     /* close: fewer than Q returns are entered; take more, or, where N are decided, open a new pool */
-#define POOL_UNEQUAL 16 /* round one: r or s is not the same in all messages; drop the return everywhere (see A slip in r or s) */
+#define POOL_ROOM 14    /* a buffer or a part of the table is too short, or slots_len is not POOL_SLOTS */
+#define POOL_FEW 15     /* fewer than Q returns are entered */
+#define POOL_UNEQUAL 16 /* r or s is not the same in all messages */
 #define POOL_MANY 17    /* the sheet has more than 4,096 legal lists of values */
-#define POOL_NO_LINE 18 /* line: all x are equal, or no return is entered: no one line fits; the totals stand (see pool_line) */
-#define POOL_RUN 19     /* shelf: the run is not R messages of W bytes */
+#define POOL_NO_LINE 18 /* all x are equal, or no return is entered: no one line fits */
+#define POOL_RUN 19     /* the run is not R messages of W bytes */
+
+/*
+ * The refusal in a sentence and, after a semicolon, what to do; "done" for 0, "unknown refusal" for a number that is none. The text
+ * stays and is not freed. It is in pool_words.c: the installed libraries hold it, another build compiles this file besides.
+ */
+const char *pool_words(uint32_t refusal);
 
 /* Limits. */
 #define POOL_PRIME UINT32_C(2147483647)
@@ -411,14 +456,14 @@ uint32_t pool_open(uint32_t servers, uint32_t own, const uint8_t *sheet, size_t 
 /*
  * Takes a share into the first free slot and its place, and writes the server's round-one message, POOL_ROUND_ONE_BYTES, which
  * tells r and s. The bytes of the table stay as they are.
- *     message   a share message, share_bytes, or a seed message, POOL_SEED_MESSAGE_BYTES, told by byte 0 (see Share messages). The place
+ *     message   a share message, share_bytes, or a seed message, POOL_SEED_MESSAGE_BYTES, told by byte 0 (see Messages). The place
  *               in the elements is filled with the elements of the share, whichever it is. Servers of one return may have either
  *     r         from M + 1 to p - 1; s from 0 to p - 1: the same at every server, or each refuses round one 16
- * A ninth share is refused 11 and handed in again, before any later share and with the same r and s, once a return is decided.
  * Refusals: 11 for a table that is unsound (other than eight slots or too few numbers included) or closed, or in which eight
- * returns wait; 13 for N returns that are decided or wait; 7 for a byte 0 other than 33 and 38, a length that is not the one of this
- * kind, another server than the own one, or a seed message at server 0; 8, for a share message only; 10 for an id that was decided or
- * waits; 9, 14. A seed that was altered on its way is no fault here: it gives other elements, and round two rejects the return.
+ * returns wait (see A keeper's loop); 13 for N returns that are decided or wait; 7 for a byte 0 other than 33 and 38, a length that is
+ * not the one of this kind, another server than the own one, or a seed message at server 0; 8, for a share message only; 10 for an id
+ * that was decided or waits; 9, 14. A seed that was altered on its way is no fault here: it gives other elements, and round two rejects
+ * the return.
  */
 uint32_t pool_share(const uint8_t *table, size_t table_len, pool_slot *slots, size_t slots_len,
                     uint32_t *elements, size_t elements_len, const uint8_t *message, size_t message_len,
@@ -429,10 +474,10 @@ uint32_t pool_share(const uint8_t *table, size_t table_len, pool_slot *slots, si
  * POOL_ROUND_TWO_BYTES. Only the slot of this return changes: it awaits round two.
  *     joined    S x POOL_ROUND_ONE_BYTES: one message of each server, one after another in any order, the own one among them as
  *               pool_share wrote it
- * Refused 16, the return goes on awaiting round one until it is dropped (see A slip in r or s).
  * Refusals: 11 for a table that is unsound or closed, or where no return of this id awaits round one; 12 for another length, a
  * message of another round or id, a server twice, missing or not below S, an element, r and s too, not below p, or an own
- * message that was altered, wherever it stands; 16 for r or s not the same in all messages, another's r of 0 to M included; 14.
+ * message that was altered, wherever it stands; 16 for r or s not the same in all messages, another's r of 0 to M included (see A slip
+ * in r or s); 14.
  */
 uint32_t pool_round_one(const uint8_t *table, size_t table_len, pool_slot *slots, size_t slots_len,
                         const uint32_t *elements, size_t elements_len, uint32_t id,
@@ -467,13 +512,25 @@ uint32_t pool_drop(uint8_t *table, size_t table_len, pool_slot *slots, size_t sl
                    uint32_t *elements, size_t elements_len, uint32_t id);
 
 /*
+ * Tells where a table stands, open or closed, and changes nothing. Which ids wait, and for what, stands in the slots.
+ *     servers   S; own the own number; returns N; least Q
+ *     closed    1, or 0 while it is open
+ *     decided   how many returns are decided: entered, rejected or dropped
+ *     entered   how many of these are entered; decided + waiting are at most N, and with entered below Q it does not close
+ *     waiting   how many wait, 0 to POOL_SLOTS
+ * Refusals: 11 for a table that is unsound.
+ */
+uint32_t pool_state(const uint8_t *table, size_t table_len, const pool_slot *slots, size_t slots_len,
+                    const uint32_t *elements, size_t elements_len,
+                    uint32_t *servers, uint32_t *own, uint32_t *returns, uint32_t *least,
+                    uint32_t *closed, uint32_t *decided, uint32_t *entered, uint32_t *waiting);
+
+/*
  * Closes a table in which no return waits, not even for entry, and at least Q are entered; writes the server's totals message,
- * POOL_TOTALS_BYTES. Slots and elements stay as they are. A closed table takes no call.
+ * POOL_TOTALS_BYTES. Slots and elements stay as they are. A closed table takes no call but pool_state.
  * Store the closed table together with this message before the message is sent: an older copy, still open, could take a few more
  * returns, and the difference of two totals messages of every server shows the sums of those few.
- * Refused 15, it gives no totals and nothing has changed: the table takes more returns, up to N decided, and is closed later. With
- * N decided it never closes: open a new pool (see Small pools).
- * Refusals: 11 for a table that is unsound or closed, or in which a return waits; 15 for fewer than Q entered; 14.
+ * Refusals: 11 for a table that is unsound or closed, or in which a return waits; 15 for fewer than Q entered (see Small pools); 14.
  */
 uint32_t pool_close(uint8_t *table, size_t table_len, const pool_slot *slots, size_t slots_len,
                     const uint32_t *elements, size_t elements_len, uint8_t *out, size_t out_len, size_t *written);

@@ -1,34 +1,49 @@
 # The commands of the README, and what is handy beside them.
-.PHONY: help demo run test fuzz bench format
+.PHONY: help demo run test fuzz bench format install uninstall dist
 
-# The core as a C library, the crates with its functions, and the sources that it is made from.
-ARCHIVE := target/staticlib/libpool.a
+# The C functions' crates, the sources that they are made from, and the archives: of the core, and of the whole library.
 PARTS := pool_sheets pool_client pool_server pool_totals pool_shelf
 SOURCES := crates.txt $(shell find crates -name '*.rt' -o -name '*.antt')
+CORE := target/staticlib/libpool_core.a
+ARCHIVE := target/staticlib/libpool.a
 
 help:
-	@echo 'make demo    prove the core and run a whole pool on this machine, from C'
-	@echo 'make run     prove what is needed, then run the worked examples'
-	@echo 'make test    the merge gate: prove everything from nothing and run every test'
-	@echo 'make fuzz    feed arbitrary bytes to the C functions for a minute (FUZZ_SECONDS=..)'
-	@echo 'make bench   measure the library, with the second program beside it'
-	@echo 'make format  lay out the sources'
+	@echo 'make demo       prove the core and run a whole pool on this machine, from C'
+	@echo 'make run        prove what is needed, then run the worked examples'
+	@echo 'make test       the merge gate: prove everything from nothing and run every test'
+	@echo 'make install    install header, libraries, recount and pages (PREFIX=/usr/local, DESTDIR=)'
+	@echo 'make uninstall  remove them'
+	@echo 'make dist       write an archive of what is installed, for hosts without the toolchain'
+	@echo 'make fuzz       feed arbitrary bytes to the C functions for a minute (FUZZ_SECONDS=..)'
+	@echo 'make bench      measure the library, with the second program beside it'
+	@echo 'make format     lay out the sources'
 
-demo: target/hosts/demo
+demo:
+	@tools/kit
+	@$(MAKE) --no-print-directory target/hosts/demo
+	@echo 'Running the demo.'
 	@target/hosts/demo
 
 target/hosts/demo: hosts/c/demo.c hosts/c/host.h hosts/c/servers.h include/pool.h $(ARCHIVE)
 	@mkdir -p target/hosts
+	@echo 'Linking the demo.'
 	@$(CC) -std=c11 -O2 -Wall -Wextra -Iinclude hosts/c/demo.c $(ARCHIVE) -o $@
 
-# One archive of all C functions: the archives of the crates that have them, made one after another, since rt keeps its notes
-# of a crate in one place. With addlib an object never takes the place of another of its name.
-$(ARCHIVE): $(SOURCES)
-	@mkdir -p target/staticlib
-	@echo 'proving the C functions and making the C library'
-	@(rt check $(PARTS) && for part in $(PARTS); do rt staticlib $$part || exit 1; done) >target/staticlib/pool.log 2>&1 || \
-	    { cat target/staticlib/pool.log; exit 1; }
-	@(echo create $@; for part in $(PARTS); do echo addlib target/staticlib/lib$$part.a; done; echo save; echo end) | ar -M
+target/hosts/recount-input: hosts/recount/recount-input.c hosts/c/host.h include/pool.h $(ARCHIVE)
+	@mkdir -p target/hosts
+	@$(CC) -std=c11 -O2 -Wall -Wextra -Iinclude -Ihosts/c hosts/recount/recount-input.c $(ARCHIVE) -o $@
+
+$(CORE): $(SOURCES)
+	@tools/core $@ $(PARTS)
+
+target/staticlib/pool_words.o: include/pool_words.c include/pool_refusals.def include/pool.h
+	@mkdir -p $(@D)
+	@$(CC) -std=c11 -O2 -fPIC -Wall -Wextra -Iinclude -c $< -o $@
+
+$(ARCHIVE): $(CORE) target/staticlib/pool_words.o
+	@cp $(CORE) $@.new
+	@ar rDs $@.new target/staticlib/pool_words.o
+	@mv $@.new $@
 
 target/staticlib/lib%.a: $(SOURCES)
 	@mkdir -p target/staticlib
@@ -56,3 +71,5 @@ bench:
 
 format:
 	@rt fmt
+
+include hosts/install/install.mk

@@ -1,7 +1,7 @@
 /*
- * host.h: what a C host of the pool brings along: refusals in words, what a sheet comes to, a table with how many returns wait in
- * it and what for, numbers in buffers, the value of a point, the r and s of a message, random numbers and seeds from the system, where
- * the messages of a return made from seeds begin, wiping. Functions are static, so that a program has only to include it.
+ * host.h: what a C host of the pool brings along: what a sheet comes to, a table with where it stands, how many returns wait in it and
+ * what for, numbers in buffers, the value of a point, the r and s of a message, random numbers and seeds from the system, where the
+ * messages of a return made from seeds begin, wiping. Functions are static, so that a program has only to include it.
  */
 #ifndef POOL_HOST_H
 #define POOL_HOST_H
@@ -13,40 +13,12 @@
 
 #include "pool.h"
 
-/* The refusal in words. */
-static inline const char *host_words(uint32_t refusal)
-{
-    static const char *const words[] = {
-        "done",
-        "sheet or circuit: an unknown kind, or its body is cut off",
-        "a count, top, constant, number of servers, server number, N, Q, R or W outside its limits, or a column that is not of points",
-        "circuit: a wire not yet made, or an entry that does not exist",
-        "so many returns could make a total of p or more",
-        "not one value for each column, or a value outside its column",
-        "not the right number of random elements or seeds, or an element not below p",
-        "share or seed message of the wrong kind, length or server, or a seed message for server 0",
-        "share element not below p",
-        "r or s outside its range",
-        "the id was decided or waits",
-        "table unsound or closed, nothing waits under that id in that stage, eight wait, or a close while one waits",
-        "joined messages: length, kind, id, element, own message or counts wrong, a server twice or missing, or totals out of order",
-        "N returns are decided or wait",
-        "an output buffer is too short; in opening also a part of the table, or slots_len is not POOL_SLOTS",
-        "fewer returns are entered than the least count: take more and close again; where N are decided, open a new pool",
-        "r or s differs among the servers: see whose is wrong, drop the return at each, have it made anew under a new id, with one pair",
-        "the sheet has more than 4,096 legal lists of values",
-        "all x are equal, or no return is entered: no one line fits best; publish the totals without a line",
-        "the run is not so many messages of this length",
-    };
-    return refusal < sizeof words / sizeof words[0] ? words[refusal] : "unknown refusal";
-}
-
 /* Ends the program, with the answer's number and words, unless it is this one: POOL_DONE or a refusal. */
 static inline void host_expect(const char *call, uint32_t answer, uint32_t want)
 {
     if (answer == want)
         return;
-    fprintf(stderr, "%s: %u, %s; expected %u\n", call, (unsigned)answer, host_words(answer), (unsigned)want);
+    fprintf(stderr, "%s: %u, %s; expected %u\n", call, (unsigned)answer, pool_words(answer), (unsigned)want);
     exit(1);
 }
 
@@ -80,6 +52,16 @@ static inline uint32_t host_open(uint32_t servers, uint32_t own, const uint8_t *
 {
     return pool_open(servers, own, sheet, sheet_len, returns, least, t->bytes, sizeof t->bytes, t->slots, POOL_SLOTS,
                      t->elements, POOL_MAX_ELEMENTS, &t->bytes_len);
+}
+
+/* Where a table stands. */
+struct host_state {
+    uint32_t servers, own, returns, least, closed, decided, entered, waiting;
+};
+
+static inline uint32_t host_state_of(const struct host_table *t, struct host_state *s)
+{
+    return pool_state(HOST_TABLE(t), &s->servers, &s->own, &s->returns, &s->least, &s->closed, &s->decided, &s->entered, &s->waiting);
 }
 
 /* How many returns wait in a table. With eight of them a share is refused 11, and handed in again later. */

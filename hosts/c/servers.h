@@ -158,6 +158,26 @@ static void arrived(int k, size_t i, const uint8_t *messages, size_t length, uin
         memcpy(joined + n * length, messages + from[n] * length, length);
 }
 
+/* Ends the program unless a number is what it must be. */
+static void must_be(const char *what, uint32_t is, uint32_t want)
+{
+    if (is == want)
+        return;
+    fprintf(stderr, "%s: %u; expected %u\n", what, (unsigned)is, (unsigned)want);
+    exit(1);
+}
+
+/* The server whose r is no other server's: each round-one message says with which pair its server took the share. */
+static uint32_t slipped(const uint8_t *ones)
+{
+    uint32_t r[SERVERS], i = 0;
+    for (size_t n = 0; n < SERVERS; n++)
+        r[n] = host_message_r(ones + n * POOL_ROUND_ONE_BYTES);
+    while (i < SERVERS && (r[i] == r[(i + 1) % SERVERS] || r[i] == r[(i + 2) % SERVERS]))
+        i++;
+    return i;
+}
+
 /* Every server refuses round one 16 where r or s differs in the messages, as those of Ihde's first return do. */
 static void round_one(int k)
 {
@@ -173,6 +193,7 @@ static void round_one(int k)
         else
             done("pool_round_one", i, answer);
     }
+    must_be("the server that slipped", slipped(u->ones), u->id == id_of(IHDE) ? LAST : SERVERS);
 }
 
 /* The verdict, the same at every server: an accepted return awaits entry, a rejected one is decided. */
@@ -184,11 +205,8 @@ static void round_two(int k)
     for (size_t i = 0; i < SERVERS; i++) {
         arrived(k, i, u->twos, POOL_ROUND_TWO_BYTES, joined);
         done("pool_round_two", i, pool_round_two(HOST_TABLE(&tables[i]), u->id, joined, sizeof joined, &accepted));
-        if (accepted != (workshops[k].conduct == HONEST) ||
-            host_stage(tables[i].slots, u->id) != (accepted ? POOL_AWAITS_ENTRY : POOL_FREE)) {
-            fputs("another verdict, or another stage after it\n", stderr);
-            exit(1);
-        }
+        must_be("the verdict", accepted, workshops[k].conduct == HONEST);
+        must_be("the stage after it", host_stage(tables[i].slots, u->id), accepted ? POOL_AWAITS_ENTRY : POOL_FREE);
     }
 }
 
@@ -226,12 +244,15 @@ static void stop(int k)
     add_plain(&workshops[k]);
 }
 
-/* It goes on from its stored table, in which the return still awaits entry, and enters it too. */
-static void go_on(int k)
+/* It goes on from its stored table, in which the return still awaits entry. */
+static void restart(int k)
 {
     tables[LAST] = stored[LAST];
-    enter_at(LAST, SERVERS, k);
+    must_be("the stage after a restart", host_stage(tables[LAST].slots, under_way[k].id), POOL_AWAITS_ENTRY);
 }
+
+/* It asks the others and enters the return too. */
+static void go_on(int k) { enter_at(LAST, SERVERS, k); }
 
 static void drop(int k)
 {

@@ -97,6 +97,7 @@ uint32_t call_round_two(struct table *table, size_t extra, uint32_t id, const st
 uint32_t call_enter(struct table *table, size_t extra, uint32_t id);
 uint32_t call_drop(struct table *table, size_t extra, uint32_t id);
 uint32_t call_close(struct table *table, size_t extra, size_t room, struct run *out);
+uint32_t call_state(struct table *table, size_t extra);
 uint32_t call_join(uint32_t servers, const struct run *sheet, uint32_t returns, const struct run *joined, size_t room,
                    uint32_t *accepted, struct run *out);
 uint32_t call_line(uint32_t servers, const struct run *sheet, uint32_t returns, const struct run *joined, uint32_t column,

@@ -60,6 +60,7 @@ void close_and_join(void)
     for (uint32_t i = 0; i < pool.servers; i++) {
         wild_call(i);
         must(call_close(&pool.tables[i], some_extra(), POOL_TOTALS_BYTES(pool.sizes.published), &out), "closing");
+        must(call_state(&pool.tables[i], some_extra()), "asking a closed table");
         append(&joined, out.at, out.len);
         check_free(&pool.tables[i]);
         wild_call(i);

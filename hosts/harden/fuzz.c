@@ -219,6 +219,7 @@ static void arbitrary_table(void)
     t->elements.len -= t->elements.len % 4;
     id = t->slots.len >= SLOT_BYTES ? slot_of(t, 0).id : 0;
     copy_table(u, t);
+    call_state(t, 0);
     note(SHARE, ARBITRARY, call_share(t, 0, &message, 1000, 5, POOL_ROUND_ONE_BYTES, &out));
     note(ROUND_ONE, ARBITRARY, call_round_one(u, 0, id, &message, POOL_ROUND_TWO_BYTES, &out));
     note(ROUND_TWO, ARBITRARY, call_round_two(u, 0, id, &message, &accepted));

@@ -149,6 +149,7 @@ static int drops(const struct course *c, uint8_t stage)
 static void try_calls(uint32_t i)
 {
     check_free(&pool.tables[i]);
+    must(call_state(&pool.tables[i], some_extra()), "asking for the state");
     wild_call(i);
     if (random_below(4) == 0 || counts_at(i).waiting == POOL_SLOTS)
         refused_shares(i);

@@ -172,3 +172,30 @@ uint32_t call_close(struct table *table, size_t extra, size_t room, struct run *
     take_table(t, answer, BYTES, table);
     return end_call(answer);
 }
+
+/* The eight numbers are those of the table's bytes and slots, and nothing changes. */
+uint32_t call_state(struct table *table, size_t extra)
+{
+    start_call("pool_state");
+    struct lent_table t = lend_table(table, extra);
+    struct result32 told[8] = {RESULT32, RESULT32, RESULT32, RESULT32, RESULT32, RESULT32, RESULT32, RESULT32};
+    uint32_t answer =
+        pool_state(LENT_TABLE(t), &told[0].value, &told[1].value, &told[2].value, &told[3].value, &told[4].value,
+                   &told[5].value, &told[6].value, &told[7].value);
+    answered(answer, MAY(POOL_STAGE));
+    for (int k = 0; k < 8; k++)
+        check32(&told[k], answer);
+    if (answer == 0) {
+        const uint8_t *at = table->bytes.at;
+        uint32_t waiting = 0;
+        for (size_t j = 0; j < POOL_SLOTS; j++)
+            waiting += slot_of(table, j).stage != POOL_FREE;
+        uint32_t want[8] = {at[SERVERS_AT], at[OWN_AT], get_u16(at + RETURNS_AT), get_u16(at + LEAST_AT), at[STAGE_AT] != OPEN,
+                            get_u16(at + DECIDED_AT), get_u16(at + ENTERED_AT), waiting};
+        for (int k = 0; k < 8; k++)
+            if (told[k].value != want[k])
+                fail("a table that tells another state");
+    }
+    take_table(t, answer, 0, table);
+    return end_call(answer);
+}

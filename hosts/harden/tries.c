@@ -33,7 +33,7 @@ void wild_call(uint32_t i)
         spoil(&b, KIND_OF(round), pool.servers, i);
     if (random64() % 2)
         wild(&b);
-    switch (random_below(3) ? round : 3 + (int)random_below(3)) {
+    switch (random_below(3) ? round : 3 + (int)random_below(4)) {
     case 0:
         call_share(&t, extra, &b, wild64(c->pairs[i].r), wild64(c->pairs[i].s), wild_room(POOL_ROUND_ONE_BYTES), &out);
         break;
@@ -48,6 +48,9 @@ void wild_call(uint32_t i)
         break;
     case 4:
         call_drop(&t, extra, id);
+        break;
+    case 5:
+        call_state(&t, extra);
         break;
     default:
         call_close(&t, extra, wild_room(POOL_TOTALS_BYTES(pool.sizes.published)), &out);

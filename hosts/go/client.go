@@ -5,7 +5,7 @@ import (
 	"io"
 )
 
-// Client makes the returns of a workshop.
+// Client makes the returns of a workshop. Without a sheet it makes none (ErrNil).
 type Client struct {
 	Sheet   *Sheet
 	Servers uint32    // 2 to 8
@@ -15,6 +15,9 @@ type Client struct {
 // Make splits a return into one share message for each server, in server order. Values are one for each column of the
 // sheet. An id is for one return only, whatever becomes of it. MakeSeeded makes shorter messages.
 func (c *Client) Make(id uint32, values []uint32) ([][]byte, error) {
+	if c == nil || c.Sheet.isNone() {
+		return nil, missing("make", "the client's sheet")
+	}
 	var random, out []byte
 	// Outside these limits nothing is drawn: the core refuses before it looks at random elements.
 	if minServers <= c.Servers && c.Servers <= maxServers {

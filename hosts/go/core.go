@@ -1,7 +1,5 @@
 package pool
 
-// #cgo CFLAGS: -I${SRCDIR}/../../include
-// #cgo LDFLAGS: ${SRCDIR}/../../target/staticlib/libpool.a
 // #include "pool.h"
 //
 // // The sizes of buffers, which the header gives as macros of what pool_sizes tells.
@@ -23,11 +21,6 @@ const (
 	oneBytes     = C.POOL_ROUND_ONE_BYTES // of a round-one message
 	twoBytes     = C.POOL_ROUND_TWO_BYTES // of a round-two message
 	maxTotals    = C.POOL_MAX_TOTALS_BYTES
-	kindYesNo    = C.POOL_YES_NO
-	kindChoice   = C.POOL_CHOICE
-	kindNumber   = C.POOL_NUMBER
-	kindTop      = C.POOL_TOP
-	kindPoint    = C.POOL_POINT
 	elementBytes = 4
 	maxEvery     = C.POOL_MAX_EVERY_RETURN_BYTES
 	maxShelf     = C.POOL_MAX_SHELF_MESSAGES
@@ -38,6 +31,15 @@ const (
 	seededRandomBytes = C.POOL_SEEDED_RANDOM_BYTES
 	kindShare         = 33 // of a share message
 	kindSeed          = 38 // of a seed message
+)
+
+// What a column asks for.
+const (
+	KindYesNo  Kind = C.POOL_YES_NO // yes or no: 1 or 0
+	KindChoice Kind = C.POOL_CHOICE // one of some options
+	KindNumber Kind = C.POOL_NUMBER // a number of some bits
+	KindTop    Kind = C.POOL_TOP    // a number up to a top of its own
+	KindPoint  Kind = C.POOL_POINT  // two numbers of some bits, x and y
 )
 
 // randomBytes is the length of the random elements of a return for so many servers.

@@ -56,6 +56,18 @@ func (t *Table) lendElements() (*C.uint32_t, C.size_t) {
 	return (*C.uint32_t)(&t.elements[0]), C.size_t(len(t.elements))
 }
 
+// coreState tells what a table says of itself, taken as long as these lengths of its bytes and elements.
+func coreState(t *Table, bytes, elements int) (state State, answer uint32) {
+	var servers, own, returns, least, closed, decided, entered, waiting C.uint32_t
+	b, nb := lend(t.bytes[:bytes])
+	s, ns := t.lendSlots()
+	e, _ := t.lendElements()
+	answer = uint32(C.pool_state(b, nb, s, ns, e, C.size_t(elements), &servers, &own, &returns, &least, &closed, &decided, &entered,
+		&waiting))
+	return State{uint32(servers), uint32(own), uint32(returns), uint32(least), closed == 1, uint32(decided), uint32(entered),
+		uint32(waiting)}, answer
+}
+
 func coreOpen(servers, own uint32, sheet []byte, returns, least uint32, t *Table) (written int, answer uint32) {
 	var w C.size_t
 	at, n := lend(sheet)

@@ -11,7 +11,16 @@
 // The program that uses the package carries the messages. It hands those of a round in as they arrive, in any order, one of
 // each server. It encrypts what it sends, knows who is at the other end, and gives each return an id of its own. It has every
 // server take a return with the same pair (Pair); where one slips, none judges the return, and it is dropped and made anew
-// (Unequal). It has the servers tell one another their verdicts, each once its table is stored, and has all enter what all accepted
+// (ErrUnequal). It has the servers tell one another their verdicts, each once its table is stored, and has all enter what all accepted
 // (Table.Enter), or all drop it: so a server that stops between the two goes on later and comes to the same totals. It keeps a table
 // as it keeps a share while a return waits, copies of it included.
+//
+// A call that is refused gives an error that wraps a Refusal (ErrDecided and others) and says what to do; it has changed nothing.
+//
+// A program in another module takes a copy of the package with the C library in it, which hosts/go/vendor makes, and names it in its
+// go.mod:
+//
+//	require yimakohe.example/pool v0.0.0
+//
+//	replace yimakohe.example/pool => ./pool
 package pool

@@ -31,7 +31,7 @@ func (all servers) mustRefuseEntry(t *testing.T, when string, id uint32) {
 	t.Helper()
 	for own, table := range all {
 		before := stored(t, table)
-		refused(t, table.Enter(id), Stage)
+		refused(t, table.Enter(id), ErrStage)
 		if !bytes.Equal(before, stored(t, table)) {
 			t.Errorf("%s, server %d: the table is changed", when, own)
 		}
@@ -126,11 +126,11 @@ func TestCloseAwaitingEntry(t *testing.T) {
 	courses := newCourses(t, sheet, 2, 2)
 	courses[0].finish(t, all, sheet)
 	courses[1].upTo(t, all, sheet, AwaitsEntry)
-	all.mustRefuseClose(t, "one awaits entry", Stage)
+	all.mustRefuseClose(t, "one awaits entry", ErrStage)
 	_, err := all[0].RoundTwo(1, courses[1].messages)
-	refused(t, err, Stage)
+	refused(t, err, ErrStage)
 	_, err = all[0].RoundOne(1, courses[1].messages)
-	refused(t, err, Stage)
+	refused(t, err, ErrStage)
 	all.enter(t, 1)
 	all.mustJoin(t, sheet, 4, courses...)
 }
@@ -149,9 +149,9 @@ func TestAcceptedAndDropped(t *testing.T) {
 	all.drop(t, 1)
 	all.hold(t, sheet, "the second is dropped", []int{2})
 	for own, table := range all {
-		refused(t, table.Drop(1), Stage)
+		refused(t, table.Drop(1), ErrStage)
 		_, err := table.Share(courses[3].shares[own], Pair{1000, 5})
-		refused(t, err, Full) // two are decided and one waits: N is 3
+		refused(t, err, ErrFull) // two are decided and one waits: N is 3
 	}
 	all.enter(t, 2)
 	all.mustJoin(t, sheet, 3, courses[0], courses[2])
@@ -191,12 +191,12 @@ func TestLeastCountsEntered(t *testing.T) {
 	for _, c := range courses[1:3] {
 		c.upTo(t, all, sheet, AwaitsEntry)
 	}
-	all.mustRefuseClose(t, "one is entered, two await entry", Stage)
+	all.mustRefuseClose(t, "one is entered, two await entry", ErrStage)
 	all.drop(t, 1)
 	all.drop(t, 2)
-	all.mustRefuseClose(t, "three were accepted, one is entered", Few)
+	all.mustRefuseClose(t, "three were accepted, one is entered", ErrFew)
 	courses[3].upTo(t, all, sheet, AwaitsEntry)
-	all.mustRefuseClose(t, "one awaits entry", Stage)
+	all.mustRefuseClose(t, "one awaits entry", ErrStage)
 	courses[3].finish(t, all, sheet)
 	all.mustJoin(t, sheet, 5, courses[0], courses[3])
 }
@@ -210,17 +210,17 @@ func TestEightAwaitEntry(t *testing.T) {
 		c.upTo(t, all, sheet, AwaitsEntry)
 	}
 	_, err := all[0].Share(courses[Slots].shares[0], Pair{1000, 5})
-	refused(t, err, Stage)
+	refused(t, err, ErrStage)
 	all.enter(t, 5)
 	_, err = all[0].Share(courses[2].shares[0], Pair{1000, 5})
-	refused(t, err, Decided)
+	refused(t, err, ErrDecided)
 	courses[Slots].upTo(t, all, sheet, AwaitsEntry)
 	for _, id := range []uint32{7, 0, 8, 3, 6, 1, 2, 4} {
 		_, err = all[0].Share(courses[Slots+1].shares[0], Pair{1000, 5})
 		if waits := len(all[0].Waiting()); waits == Slots {
-			refused(t, err, Stage)
+			refused(t, err, ErrStage)
 		} else {
-			refused(t, err, Full)
+			refused(t, err, ErrFull)
 		}
 		all.enter(t, id)
 	}
@@ -241,11 +241,11 @@ func TestUnknownStage(t *testing.T) {
 		table.slots[0] = newSlot(id, stage, r, s, d, e)
 		before := stored(t, table)
 		_, err := table.Share(courses[2].shares[0], Pair{1000, 5})
-		refused(t, err, Stage)
+		refused(t, err, ErrStage)
 		_, err = table.RoundTwo(1, courses[1].messages)
-		refused(t, err, Stage)
-		refused(t, table.Enter(0), Stage)
-		refused(t, table.Drop(1), Stage)
+		refused(t, err, ErrStage)
+		refused(t, table.Enter(0), ErrStage)
+		refused(t, table.Drop(1), ErrStage)
 		if !bytes.Equal(before, stored(t, table)) {
 			t.Errorf("stage %d: the table is changed", stage)
 		}

@@ -86,6 +86,6 @@ func TestTooManyReturns(t *testing.T) {
 		{YesNo(), Choice(41), Choice(50)}, {UpTo(4096)}, {UpTo(2048), YesNo()}, {UpTo(1<<24 - 1)},
 		{Point(7)}, {Point(6), YesNo()}, {Point(12)}} {
 		_, err := sheetOf(t, columns...).EveryReturn()
-		refused(t, err, Many)
+		refused(t, err, ErrMany)
 	}
 }

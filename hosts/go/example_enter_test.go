@@ -34,7 +34,7 @@ func ExampleTable_Enter() {
 		}
 	}
 	// Where it is not sure whether it has entered a return, it tries: nothing is added twice.
-	fmt.Println("again, refused:", errors.Is(tables[1].Enter(7), pool.Stage))
+	fmt.Println("again, refused:", errors.Is(tables[1].Enter(7), pool.ErrStage))
 	fmt.Printf("%+v\n", join(tables, sheet))
 	// Output:
 	// return 7 server 0 accepted true <nil>

@@ -52,7 +52,7 @@ func ExampleFitLine() {
 	fmt.Printf("%d returns, %+v\n", totals.Accepted, sums)
 
 	fit, err := pool.FitLine(2, sheet, 100, messages[:], 1)
-	if errors.Is(err, pool.NoLine) {
+	if errors.Is(err, pool.ErrNoLine) {
 		fmt.Println("all plates have one diameter: no line")
 		return
 	}

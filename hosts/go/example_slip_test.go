@@ -19,7 +19,7 @@ func ExampleTable_RoundOne() {
 	check(err)
 	ones := file(tables, shares, pool.Pair{R: 31415926, S: 27182818}, pool.Pair{R: 31415962, S: 27182818})
 	for own, table := range tables {
-		if _, err := table.RoundOne(7, ones); errors.Is(err, pool.Unequal) {
+		if _, err := table.RoundOne(7, ones); errors.Is(err, pool.ErrUnequal) {
 			fmt.Printf("server %d drops return 7: %v\n", own, table.Drop(7))
 		}
 	}

@@ -107,7 +107,7 @@ func ExampleTable_Close() {
 	check(err)
 	table, err := pool.Open(2, 0, sheet, 100, 10)
 	check(err)
-	if _, err := table.Close(); errors.Is(err, pool.Few) {
+	if _, err := table.Close(); errors.Is(err, pool.ErrFew) {
 		fmt.Println("no totals yet: take more returns, and close again")
 	}
 	// Output: no totals yet: take more returns, and close again

@@ -3,6 +3,7 @@ package pool
 import (
 	"bytes"
 	"encoding/binary"
+	"fmt"
 )
 
 // Line is one published total.
@@ -19,14 +20,25 @@ type Totals struct {
 }
 
 // Join joins the totals messages of all servers, in server order, of tables opened with this number of servers, sheet
-// and number of returns; their least count is not asked for. Another order is refused (Joined).
+// and number of returns; their least count is not asked for. Another order is refused (ErrJoined).
+//
+// Totals that no returns give are an error (ErrApart): the servers did not enter the same returns, or a message was altered. That makes
+// them any numbers below p, and it shows where the returns can not come to such numbers: with a yes/no or a choice nearly always, with
+// one number of 24 bits and 128 returns hardly ever. So totals that are joined are not proved right.
 func Join(servers uint32, sheet *Sheet, returns uint32, messages [][]byte) (Totals, error) {
+	if sheet.isNone() {
+		return Totals{}, missing("join", "the sheet")
+	}
 	out := make([]byte, sheet.joinBytes())
 	accepted, n, number := coreJoin(servers, sheet.bytes, returns, bytes.Join(messages, nil), out)
 	if number != 0 {
 		return Totals{}, answer("join", number)
 	}
-	return Totals{accepted, lines(sheet, out[:n])}, nil
+	totals := Totals{accepted, lines(sheet, out[:n])}
+	if err := totals.apart(sheet); err != nil {
+		return Totals{}, fmt.Errorf("pool: join: %w", err)
+	}
+	return totals, nil
 }
 
 // lines gives each total its place on the sheet.

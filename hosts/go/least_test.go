@@ -19,7 +19,7 @@ func TestLeastLimits(t *testing.T) {
 			}
 		}
 		for _, least := range []uint32{0, returns + 1, returns + 256, 1025, 1<<16 + 1, 1<<31 + 1, math.MaxUint32} {
-			if _, err := Open(2, 0, sheet, returns, least); !errors.Is(err, Limit) {
+			if _, err := Open(2, 0, sheet, returns, least); !errors.Is(err, ErrLimit) {
 				t.Errorf("%d of %d: %v", least, returns, err)
 			}
 		}
@@ -32,11 +32,12 @@ func TestLeastOrder(t *testing.T) {
 	for _, test := range []struct {
 		returns, least uint32
 		want           Refusal
-	}{{129, 0, Limit}, {129, 130, Limit}, {129, 1, Wrap}, {129, 129, Wrap}, {0, 0, Limit}, {0, 1, Limit}, {1025, 1025, Limit}} {
+	}{{129, 0, ErrLimit}, {129, 130, ErrLimit}, {129, 1, ErrWrap}, {129, 129, ErrWrap}, {0, 0, ErrLimit}, {0, 1, ErrLimit},
+		{1025, 1025, ErrLimit}} {
 		_, err := Open(2, 0, wide, test.returns, test.least)
 		refused(t, err, test.want)
 	}
-	for least, want := range map[uint32]Refusal{0: Limit, 1: Room, 5: Room, 6: Limit} {
+	for least, want := range map[uint32]Refusal{0: ErrLimit, 1: ErrRoom, 5: ErrRoom, 6: ErrLimit} {
 		table := &Table{bytes: make([]byte, wide.tableBytes(5)-1), elements: make([]uint32, wide.tableElements())}
 		if _, number := coreOpen(2, 0, wide.bytes, 5, least, table); Refusal(number) != want {
 			t.Errorf("%d of 5 in too little room: %d, want %d", least, number, want)
@@ -68,28 +69,28 @@ func TestTooFew(t *testing.T) {
 	all := openLeast(t, 3, sheet, 6, 3)
 	courses := newCourses(t, sheet, 3, 6)
 	falsify(courses[1].shares[0])
-	all.mustRefuseClose(t, "opened", Few)
+	all.mustRefuseClose(t, "opened", ErrFew)
 	for k, c := range courses[:5] {
 		c.step(t, all, sheet)
-		all.mustRefuseClose(t, "one waits", Stage)
+		all.mustRefuseClose(t, "one waits", ErrStage)
 		if k == 3 {
 			all.drop(t, c.id)
 		} else {
 			c.step(t, all, sheet)
-			all.mustRefuseClose(t, "one awaits round two", Stage)
+			all.mustRefuseClose(t, "one awaits round two", ErrStage)
 			if accepted := c.step(t, all, sheet); accepted != (k != 1) {
 				t.Errorf("return %d: accepted %v", k, accepted)
 			} else if accepted {
-				all.mustRefuseClose(t, "one awaits entry", Stage)
+				all.mustRefuseClose(t, "one awaits entry", ErrStage)
 				c.step(t, all, sheet)
 			}
 		}
 		if k < 4 {
-			all.mustRefuseClose(t, "too few entered", Few)
+			all.mustRefuseClose(t, "too few entered", ErrFew)
 		}
 	}
 	for _, table := range all {
-		if _, number := coreClose(table, make([]byte, 3)); Refusal(number) != Room {
+		if _, number := coreClose(table, make([]byte, 3)); Refusal(number) != ErrRoom {
 			t.Errorf("enough entered, in little room: %d", number)
 		}
 	}
@@ -97,7 +98,7 @@ func TestTooFew(t *testing.T) {
 	if got := all.closeAndJoin(t, sheet, 6); !reflect.DeepEqual(got, want) {
 		t.Errorf("totals %v, want %v", got, want)
 	}
-	all.mustRefuseClose(t, "closed", Stage)
+	all.mustRefuseClose(t, "closed", ErrStage)
 }
 
 // A pool whose least count is N closes when all of them are entered.
@@ -106,7 +107,7 @@ func TestLeastIsAll(t *testing.T) {
 	all := openLeast(t, 2, sheet, 2, 2)
 	courses := newCourses(t, sheet, 2, 2)
 	for _, c := range courses {
-		all.mustRefuseClose(t, "too few entered", Few)
+		all.mustRefuseClose(t, "too few entered", ErrFew)
 		if !all.judge(t, sheet, c.shares) {
 			t.Errorf("return %d is rejected", c.id)
 		}
@@ -130,10 +131,10 @@ func TestNeverCloses(t *testing.T) {
 	courses[2].step(t, all, sheet)
 	all.drop(t, 2)
 	for k := 0; k < 2; k++ {
-		all.mustRefuseClose(t, "all are decided", Few)
+		all.mustRefuseClose(t, "all are decided", ErrFew)
 		for own, table := range all {
 			_, err := table.Share(courses[3].shares[own], Pair{1000, 5})
-			refused(t, err, Full)
+			refused(t, err, ErrFull)
 		}
 	}
 }
@@ -144,14 +145,14 @@ func TestLeastRestored(t *testing.T) {
 	all := openLeast(t, 2, sheet, 5, 2)
 	courses := newCourses(t, sheet, 2, 2)
 	for _, c := range courses {
-		all.mustRefuseClose(t, "too few entered", Few)
+		all.mustRefuseClose(t, "too few entered", ErrFew)
 		for own, table := range all {
 			all[own] = new(Table)
 			if err := all[own].UnmarshalBinary(stored(t, table)); err != nil {
 				t.Fatal(err)
 			}
 		}
-		all.mustRefuseClose(t, "restored", Few)
+		all.mustRefuseClose(t, "restored", ErrFew)
 		all.judge(t, sheet, c.shares)
 	}
 	if got := all.closeAndJoin(t, sheet, 5); got.Accepted != 2 {
@@ -184,15 +185,15 @@ func TestLeastDamaged(t *testing.T) {
 		binary.LittleEndian.PutUint16(table.bytes[at:], least)
 		before := stored(t, table)
 		_, err := table.Share(courses[1].shares[0], Pair{1000, 5})
-		refused(t, err, Stage)
+		refused(t, err, ErrStage)
 		_, err = table.RoundOne(0, one.messages)
-		refused(t, err, Stage)
+		refused(t, err, ErrStage)
 		_, err = table.RoundTwo(0, one.messages)
-		refused(t, err, Stage)
-		refused(t, table.Enter(0), Stage)
-		refused(t, table.Drop(0), Stage)
+		refused(t, err, ErrStage)
+		refused(t, table.Enter(0), ErrStage)
+		refused(t, table.Drop(0), ErrStage)
 		_, err = table.Close()
-		refused(t, err, Stage)
+		refused(t, err, ErrStage)
 		if !bytes.Equal(before, stored(t, table)) {
 			t.Errorf("least count %d: the table is changed", least)
 		}
@@ -200,7 +201,7 @@ func TestLeastDamaged(t *testing.T) {
 	for _, least := range []uint16{1000, 2, 1} {
 		binary.LittleEndian.PutUint16(table.bytes[at:], least)
 		one.finish(t, all, sheet)
-		if _, err := table.Close(); errors.Is(err, Few) != (least > 1) || (err == nil) != (least == 1) {
+		if _, err := table.Close(); errors.Is(err, ErrFew) != (least > 1) || (err == nil) != (least == 1) {
 			t.Errorf("least count %d, one entered: %v", least, err)
 		}
 	}

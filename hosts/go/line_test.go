@@ -1,7 +1,9 @@
 package pool
 
 import (
+	"bytes"
 	"encoding/binary"
+	"errors"
 	"math/big"
 	"math/rand"
 	"testing"
@@ -113,20 +115,21 @@ func TestLines(t *testing.T) {
 	}
 }
 
-// Totals that keep no form: the numbers are exact to the limits, and a determinant below 0 is no refusal.
+// Totals that keep no form: the core's numbers are exact to the limits, and a determinant below 0 is no refusal of its own.
 func TestLineOfAnyTotals(t *testing.T) {
 	sheet := sheetOf(t, Number(3), Point(2))
 	negative := 0
 	for _, n := range []uint32{0, 1, 2, 1024} {
 		for _, sums := range []PointSums{{1, 0, 0, 0}, {0, 1, 0, 0}, {2, 1, 5, 7}, {prime - 1, 0, prime - 1, prime - 1},
 			{prime - 1, prime - 1, 0, prime - 1}, {prime - 1, prime - 1, prime - 1, 0}, {0, prime - 1, prime - 1, prime - 1}, {3, 9, 4, 4}} {
-			fit, err := FitLine(3, sheet, 1024, totalsMessages(3, n, 7, sums.X, sums.XX, sums.Y, sums.XY), 2)
+			messages := totalsMessages(3, n, 7, sums.X, sums.XX, sums.Y, sums.XY)
+			fit, number := coreLine(3, sheet.bytes, 1024, bytes.Join(messages, nil), 2)
 			if difference(n, sums.XX, sums.X, sums.X).Sign() == 0 {
-				refused(t, err, NoLine)
+				refused(t, answer("line", number), ErrNoLine)
 				continue
 			}
-			if err != nil {
-				t.Fatalf("%d returns, %+v: %v", n, sums, err)
+			if _, err := FitLine(3, sheet, 1024, messages, 2); number != 0 || fit.Determinant < 0 && !errors.Is(err, ErrApart) {
+				t.Fatalf("%d returns, %+v: %d, %v", n, sums, number, err)
 			}
 			checkFit(t, fit, n, sums)
 			if fit.Determinant < 0 {
@@ -157,32 +160,32 @@ func TestNoLine(t *testing.T) {
 		}
 		messages := all.each(t, func(_ int, table *Table) ([]byte, error) { return table.Close() })
 		fit, err := FitLine(2, sheet, 4, messages, 2)
-		refused(t, err, NoLine)
+		refused(t, err, ErrNoLine)
 		if _, err := Join(2, sheet, 4, messages); err != nil || fit != (Fit{}) {
 			t.Errorf("the totals: %v; the line is %+v", err, fit)
 		}
 	}
 	_, err := FitLine(2, sheet, 4, totalsMessages(2, 0, 0, 0, 0, 0, 0), 2)
-	refused(t, err, NoLine)
+	refused(t, err, ErrNoLine)
 }
 
 // The first refusal in the order S, N, 4, column, joined totals, no line counts.
 func TestLineRefusals(t *testing.T) {
 	sheet := sheetOf(t, Choice(4), Point(12), Number(2), Point(1))
-	sound := totalsMessages(2, 2, 1, 0, 1, 0, 3, 5, 7, 9, 1, 2, 3, 1, 4)
-	none := totalsMessages(2, 2, 1, 0, 1, 0, 2, 2, 7, 9, 1, 2, 3, 1, 4) // in column 2
+	sound := totalsMessages(2, 2, 1, 0, 1, 0, 3, 5, 7, 9, 1, 1, 1, 1, 1)
+	none := totalsMessages(2, 2, 1, 0, 1, 0, 2, 2, 7, 7, 1, 1, 1, 1, 1) // in column 2
 	swapped := [][]byte{sound[1], sound[0]}
 	for _, test := range []struct {
 		servers, returns, column uint32
 		messages                 [][]byte
 		want                     Refusal
 	}{
-		{1, 0, 0, nil, Limit}, {9, 129, 2, nil, Limit}, {2, 0, 2, sound, Limit}, {2, 1025, 2, sound, Limit},
-		{2, 129, 0, nil, Wrap}, {2, 129, 2, sound, Wrap},
-		{2, 128, 0, nil, Limit}, {2, 128, 1, nil, Limit}, {2, 128, 3, swapped, Limit}, {2, 128, 5, sound, Limit},
-		{2, 128, 1<<32 - 1, sound, Limit}, {2, 128, 1<<31 + 2, sound, Limit}, {2, 128, 258, sound, Limit},
-		{2, 128, 2, nil, Joined}, {2, 128, 2, sound[:1], Joined}, {2, 128, 4, swapped, Joined}, {3, 128, 2, sound, Joined},
-		{2, 1, 2, sound, Joined}, {2, 1, 2, none, Joined}, {2, 128, 2, none, NoLine},
+		{1, 0, 0, nil, ErrLimit}, {9, 129, 2, nil, ErrLimit}, {2, 0, 2, sound, ErrLimit}, {2, 1025, 2, sound, ErrLimit},
+		{2, 129, 0, nil, ErrWrap}, {2, 129, 2, sound, ErrWrap},
+		{2, 128, 0, nil, ErrLimit}, {2, 128, 1, nil, ErrLimit}, {2, 128, 3, swapped, ErrLimit}, {2, 128, 5, sound, ErrLimit},
+		{2, 128, 1<<32 - 1, sound, ErrLimit}, {2, 128, 1<<31 + 2, sound, ErrLimit}, {2, 128, 258, sound, ErrLimit},
+		{2, 128, 2, nil, ErrJoined}, {2, 128, 2, sound[:1], ErrJoined}, {2, 128, 4, swapped, ErrJoined}, {3, 128, 2, sound, ErrJoined},
+		{2, 1, 2, sound, ErrJoined}, {2, 1, 2, none, ErrJoined}, {2, 128, 2, none, ErrNoLine},
 	} {
 		fit, err := FitLine(test.servers, sheet, test.returns, test.messages, test.column)
 		refused(t, err, test.want)
@@ -190,7 +193,7 @@ func TestLineRefusals(t *testing.T) {
 			t.Errorf("%+v: refused, and the line %+v", test, fit)
 		}
 	}
-	for column, want := range map[uint32]Fit{2: {2*5 - 3*3, 2*9 - 3*7, 5*7 - 3*9}, 4: {2*3 - 2*2, 2*4 - 2*1, 3*1 - 2*4}} {
+	for column, want := range map[uint32]Fit{2: {2*5 - 3*3, 2*9 - 3*7, 5*7 - 3*9}, 4: {2*1 - 1*1, 2*1 - 1*1, 1*1 - 1*1}} {
 		if fit, err := FitLine(2, sheet, 128, sound, column); err != nil || fit != want {
 			t.Errorf("column %d: %+v, %v, want %+v", column, fit, err, want)
 		}
@@ -199,19 +202,19 @@ func TestLineRefusals(t *testing.T) {
 
 func TestPointSumsOfColumns(t *testing.T) {
 	sheet := sheetOf(t, Choice(4), Point(2), YesNo())
-	totals, err := Join(2, sheet, 9, totalsMessages(2, 3, 1, 0, 2, 0, 4, 5, 6, 7, 1))
+	totals, err := Join(2, sheet, 9, totalsMessages(2, 3, 1, 0, 2, 0, 4, 6, 6, 7, 1))
 	if err != nil {
 		t.Fatal(err)
 	}
-	if sums, err := totals.PointSums(sheet, 2); err != nil || sums != (PointSums{4, 5, 6, 7}) {
+	if sums, err := totals.PointSums(sheet, 2); err != nil || sums != (PointSums{4, 6, 6, 7}) {
 		t.Errorf("%+v, %v", sums, err)
 	}
 	for _, column := range []uint32{0, 1, 3, 4, 1<<32 - 1} {
 		_, err := totals.PointSums(sheet, column)
-		refused(t, err, Limit)
+		refused(t, err, ErrLimit)
 	}
 	_, err = Totals{}.PointSums(sheet, 2)
-	refused(t, err, Limit)
+	refused(t, err, ErrLimit)
 }
 
 func TestFit(t *testing.T) {

@@ -159,7 +159,7 @@ func mustRefuse(t *testing.T, table *Table, round string, messages [][]byte, cal
 	t.Helper()
 	before := stored(t, table)
 	for _, fault := range append(wrongServers(messages), alteredRuns(messages)...) {
-		if err := call(fault.messages); !errors.Is(err, Joined) {
+		if err := call(fault.messages); !errors.Is(err, ErrJoined) {
 			t.Errorf("%s, %s: %v", round, fault.name, err)
 		}
 		if !bytes.Equal(before, stored(t, table)) {
@@ -202,7 +202,7 @@ func TestAnothersInTheOwnPlace(t *testing.T) {
 		t.Errorf("server 0: %v", err)
 	}
 	_, err := all[1].RoundOne(5, run)
-	refused(t, err, Joined)
+	refused(t, err, ErrJoined)
 }
 
 // Totals messages stand in server order, each server once.
@@ -215,7 +215,7 @@ func TestTotalsInServerOrder(t *testing.T) {
 	totals := all.each(t, func(_ int, table *Table) ([]byte, error) { return table.Close() })
 	for _, from := range [][]int{{1, 0, 2}, {0, 2, 1}, {2, 1, 0}, {1, 2, 0}, {0, 0, 2}, {0, 1, 1}, {0, 1}, {0, 1, 2, 2}} {
 		_, err := Join(3, sheet, 1, ordered(totals, from...))
-		refused(t, err, Joined)
+		refused(t, err, ErrJoined)
 	}
 	got, err := Join(3, sheet, 1, totals)
 	if want := (Totals{1, []Line{{1, 0, 1}}}); err != nil || !reflect.DeepEqual(got, want) {

@@ -9,7 +9,7 @@ import (
 //
 // Every server must judge a return with the same pair, and no workshop may foretell it. So each server draws a part
 // once it has received its share, the servers exchange their parts, and each adds them up. Where a server slips and takes its
-// share with another pair, round one is refused at all servers (Unequal).
+// share with another pair, round one is refused at all servers (ErrUnequal).
 type Pair struct {
 	R, S uint64
 }
@@ -34,6 +34,9 @@ func RoundOnePair(message []byte) (server uint32, pair Pair, ok bool) {
 
 // DrawPair draws a server's part of a pair, itself a pair; nil stands for crypto/rand.
 func (s *Sheet) DrawPair(random io.Reader) (Pair, error) {
+	if s.isNone() {
+		return Pair{}, missing("draw pair", "the sheet")
+	}
 	low := uint32(s.sizes.Multiplications) + 1
 	r, err := drawBelow(random, prime-low)
 	if err != nil {
@@ -47,14 +50,24 @@ func (s *Sheet) DrawPair(random io.Reader) (Pair, error) {
 }
 
 // AddPairs adds the servers' parts, each a pair, to one pair. As soon as one part is drawn evenly and without knowledge
-// of the others, each pair is as likely as any.
-func (s *Sheet) AddPairs(parts ...Pair) Pair {
+// of the others, each pair is as likely as any. A part outside the range of a pair is refused (ErrPair); without parts there is no
+// pair (ErrNil).
+func (s *Sheet) AddPairs(parts ...Pair) (Pair, error) {
+	if s.isNone() {
+		return Pair{}, missing("add pairs", "the sheet")
+	}
+	if len(parts) == 0 {
+		return Pair{}, missing("add pairs", "the parts")
+	}
 	low := uint64(s.sizes.Multiplications) + 1
 	span := uint64(prime) - low
 	var sum Pair
 	for _, part := range parts {
-		sum.R = (sum.R + (part.R-low)%span) % span
-		sum.S = (sum.S + part.S%uint64(prime)) % uint64(prime)
+		if part.R < low || part.R >= uint64(prime) || part.S >= uint64(prime) {
+			return Pair{}, refuse("add pairs", ErrPair)
+		}
+		sum.R = (sum.R + part.R - low) % span
+		sum.S = (sum.S + part.S) % uint64(prime)
 	}
-	return Pair{low + sum.R, sum.S}
+	return Pair{low + sum.R, sum.S}, nil
 }

@@ -39,27 +39,27 @@ type pairFault struct {
 
 // The faults of 12 come before 16, and in another's r and s only an element not below p is one of them.
 var pairFaults = map[string]pairFault{
-	"another's r is 0":           {Unequal, []edit{{0, rPlace, 0}}},
-	"another's r is M":           {Unequal, []edit{{2, rPlace, 1}}},
-	"another's r is p - 1":       {Unequal, []edit{{2, rPlace, prime - 1}}},
-	"another's s is 0":           {Unequal, []edit{{0, sPlace, 0}}},
-	"another's s is p - 1":       {Unequal, []edit{{2, sPlace, prime - 1}}},
-	"another's r for s":          {Unequal, []edit{{0, rPlace, 7}, {0, sPlace, 1000}}},
-	"both others' r":             {Unequal, []edit{{0, rPlace, 1001}, {2, rPlace, 1001}}},
-	"another's r and d":          {Unequal, []edit{{0, rPlace, 1001}, {0, dPlace, 12345}}},
-	"another's r is p":           {Joined, []edit{{0, rPlace, prime}}},
-	"another's r is 2^32 - 1":    {Joined, []edit{{2, rPlace, 1<<32 - 1}}},
-	"another's s is p":           {Joined, []edit{{2, sPlace, prime}}},
-	"another's s is 2^31 + 7":    {Joined, []edit{{0, sPlace, 1<<31 + 7}}},
-	"the own r":                  {Joined, []edit{{1, rPlace, 1001}}},
-	"the own r is 0":             {Joined, []edit{{1, rPlace, 0}}},
-	"the own s":                  {Joined, []edit{{1, sPlace, 8}}},
-	"everyone's r":               {Joined, []edit{{0, rPlace, 1001}, {1, rPlace, 1001}, {2, rPlace, 1001}}},
-	"everyone's s":               {Joined, []edit{{0, sPlace, 8}, {1, sPlace, 8}, {2, sPlace, 8}}},
-	"r 0 and another p":          {Joined, []edit{{0, rPlace, 0}, {2, rPlace, prime}}},
-	"another's r and the own d":  {Joined, []edit{{0, rPlace, 1001}, {1, dPlace, 12345}}},
-	"another's s, and an e of p": {Joined, []edit{{0, sPlace, 8}, {2, ePlace, prime}}},
-	"another's r and its id":     {Joined, []edit{{0, rPlace, 1001}, {0, 1, 601}}},
+	"another's r is 0":           {ErrUnequal, []edit{{0, rPlace, 0}}},
+	"another's r is M":           {ErrUnequal, []edit{{2, rPlace, 1}}},
+	"another's r is p - 1":       {ErrUnequal, []edit{{2, rPlace, prime - 1}}},
+	"another's s is 0":           {ErrUnequal, []edit{{0, sPlace, 0}}},
+	"another's s is p - 1":       {ErrUnequal, []edit{{2, sPlace, prime - 1}}},
+	"another's r for s":          {ErrUnequal, []edit{{0, rPlace, 7}, {0, sPlace, 1000}}},
+	"both others' r":             {ErrUnequal, []edit{{0, rPlace, 1001}, {2, rPlace, 1001}}},
+	"another's r and d":          {ErrUnequal, []edit{{0, rPlace, 1001}, {0, dPlace, 12345}}},
+	"another's r is p":           {ErrJoined, []edit{{0, rPlace, prime}}},
+	"another's r is 2^32 - 1":    {ErrJoined, []edit{{2, rPlace, 1<<32 - 1}}},
+	"another's s is p":           {ErrJoined, []edit{{2, sPlace, prime}}},
+	"another's s is 2^31 + 7":    {ErrJoined, []edit{{0, sPlace, 1<<31 + 7}}},
+	"the own r":                  {ErrJoined, []edit{{1, rPlace, 1001}}},
+	"the own r is 0":             {ErrJoined, []edit{{1, rPlace, 0}}},
+	"the own s":                  {ErrJoined, []edit{{1, sPlace, 8}}},
+	"everyone's r":               {ErrJoined, []edit{{0, rPlace, 1001}, {1, rPlace, 1001}, {2, rPlace, 1001}}},
+	"everyone's s":               {ErrJoined, []edit{{0, sPlace, 8}, {1, sPlace, 8}, {2, sPlace, 8}}},
+	"r 0 and another p":          {ErrJoined, []edit{{0, rPlace, 0}, {2, rPlace, prime}}},
+	"another's r and the own d":  {ErrJoined, []edit{{0, rPlace, 1001}, {1, dPlace, 12345}}},
+	"another's s, and an e of p": {ErrJoined, []edit{{0, sPlace, 8}, {2, ePlace, prime}}},
+	"another's r and its id":     {ErrJoined, []edit{{0, rPlace, 1001}, {0, 1, 601}}},
 	"another's d and e":          {0, []edit{{0, dPlace, 12345}, {2, ePlace, 54321}}},
 	"another's pair, as it was":  {0, []edit{{0, rPlace, 1000}, {0, sPlace, 7}}},
 }
@@ -87,7 +87,7 @@ func tryRoundOne(t *testing.T, table *Table, name string, messages [][]byte, wan
 			t.Fatal(err)
 		}
 		if room < 14 && want == 0 {
-			want = Room
+			want = ErrRoom
 		}
 		_, number := coreRoundOne(again, 600, bytes.Join(messages, nil), make([]byte, room))
 		if Refusal(number) != want {
@@ -121,7 +121,7 @@ func TestOldLength(t *testing.T) {
 	}
 	for _, messages := range [][][]byte{cut(14, 14, 14), cut(14, 22, 22), cut(22, 14, 22), cut(22, 22, 14), cut(22, 22, 21),
 		cut(22, 22, 23), cut(14, 22, 30), cut(30, 22, 14), cut(22, 22, 44), cut(22, 22, 0), nil} {
-		tryRoundOne(t, all[1], "other lengths", messages, Joined)
+		tryRoundOne(t, all[1], "other lengths", messages, ErrJoined)
 	}
 	tryRoundOne(t, all[1], "the lengths that they have", cut(22, 22, 22), 0)
 }
@@ -137,7 +137,7 @@ func TestRoundRooms(t *testing.T) {
 	all := openAll(t, 2, sheet, 1)
 	before := stored(t, all[0])
 	for room := 0; room < 22; room++ {
-		if n, number := coreShare(all[0], shares[0], 1000, 7, make([]byte, room)); n != 0 || Refusal(number) != Room {
+		if n, number := coreShare(all[0], shares[0], 1000, 7, make([]byte, room)); n != 0 || Refusal(number) != ErrRoom {
 			t.Errorf("a share in %d bytes: %d, %d", room, n, number)
 		}
 	}
@@ -146,14 +146,14 @@ func TestRoundRooms(t *testing.T) {
 	}
 	ones := all.start(t, sheet, shares)
 	for room := 0; room < 14; room++ {
-		if n, number := coreRoundOne(all[0], 1, bytes.Join(ones, nil), make([]byte, room)); n != 0 || Refusal(number) != Room {
+		if n, number := coreRoundOne(all[0], 1, bytes.Join(ones, nil), make([]byte, room)); n != 0 || Refusal(number) != ErrRoom {
 			t.Errorf("round one in %d bytes: %d, %d", room, n, number)
 		}
 	}
 	twos := all.roundOne(t, 1, ones)
 	for _, messages := range [][][]byte{ones, {append(twos[0], make([]byte, 8)...), append(twos[1], make([]byte, 8)...)}} {
 		_, err := all[0].RoundTwo(1, messages)
-		refused(t, err, Joined)
+		refused(t, err, ErrJoined)
 	}
 	if !all.roundTwo(t, 1, twos) {
 		t.Error("an honest return is rejected")
@@ -178,9 +178,13 @@ func TestPairs(t *testing.T) {
 	for _, test := range []struct{ a, b, want Pair }{
 		{low, low, low}, {low, top, top}, {top, Pair{3, 1}, low}, {Pair{5, 6}, Pair{7, 8}, Pair{10, 14}},
 	} {
-		if got := sheet.AddPairs(test.a, test.b); got != test.want {
-			t.Errorf("%v + %v = %v, want %v", test.a, test.b, got, test.want)
+		if got, err := sheet.AddPairs(test.a, test.b); err != nil || got != test.want {
+			t.Errorf("%v + %v = %v, %v, want %v", test.a, test.b, got, err, test.want)
 		}
+	}
+	for _, part := range []Pair{{}, {1, 0}, {uint64(prime), 0}, {1 << 32, 0}, {1<<64 - 1, 0}, {2, uint64(prime)}, {2, 1 << 32}} {
+		_, err := sheet.AddPairs(low, part, top)
+		refused(t, err, ErrPair)
 	}
 	for k := 0; k < 100; k++ {
 		pair, err := sheet.DrawPair(nil)

@@ -3,6 +3,7 @@ package pool
 import (
 	"bytes"
 	"encoding/binary"
+	"math"
 	"math/rand"
 	"reflect"
 	"testing"
@@ -20,9 +21,9 @@ func TestPointInSheet(t *testing.T) {
 	if got := read.Columns()[0]; !got.IsPoint() || got.String() != "point of 12 bits" || read.Columns()[1].IsPoint() {
 		t.Errorf("column %v", got)
 	}
-	for _, bits := range []byte{0, 13, 24, 255} {
+	for _, bits := range []int{-1, 0, 13, 24, 255, 256 + 6, 1<<32 + 6, math.MinInt, math.MaxInt} {
 		_, err := NewSheet(Point(bits))
-		refused(t, err, Limit)
+		refused(t, err, ErrLimit)
 	}
 	// Nine columns of 28 entries, and four of 1.
 	most := make([]Column, 9, 14)
@@ -36,13 +37,13 @@ func TestPointInSheet(t *testing.T) {
 	}
 	testMade(t, full)
 	_, err = NewSheet(append(most, YesNo())...)
-	refused(t, err, Limit)
+	refused(t, err, ErrLimit)
 }
 
 // A value holds x in its lowest bits and y above them. What does not fit is refused.
 func TestPointValue(t *testing.T) {
-	for bits := uint32(1); bits <= 12; bits++ {
-		column, top := Point(byte(bits)), uint32(1)<<bits-1
+	for bits := 1; bits <= 12; bits++ {
+		column, top := Point(bits), uint32(1)<<bits-1
 		client := Client{Sheet: sheetOf(t, column), Servers: 2}
 		for _, point := range [][2]uint32{{0, 0}, {top, 0}, {0, top}, {1, top}, {top, top}, {top / 2, 1}} {
 			value, err := column.PointValue(point[0], point[1])
@@ -58,20 +59,20 @@ func TestPointValue(t *testing.T) {
 		}
 		for _, point := range [][2]uint32{{top + 1, 0}, {0, top + 1}, {1<<32 - 1, 0}, {0, 1 << 31}, {1 << 16, 1 << 16}} {
 			_, err := column.PointValue(point[0], point[1])
-			refused(t, err, Value)
+			refused(t, err, ErrValue)
 		}
 		for _, value := range []uint32{1 << (2 * bits), 1 << 31, 1<<32 - 1} {
 			_, _, err := column.PointXY(value)
-			refused(t, err, Value)
+			refused(t, err, ErrValue)
 			_, err = client.Make(1, []uint32{value})
-			refused(t, err, Value)
+			refused(t, err, ErrValue)
 		}
 	}
-	for _, column := range []Column{YesNo(), Choice(4), Number(12), UpTo(200), Point(13), Point(255)} {
+	for _, column := range []Column{YesNo(), Choice(4), Number(12), UpTo(200), Point(13), Point(255), Point(0), Point(-1)} {
 		_, err := column.PointValue(0, 1)
-		refused(t, err, Value)
+		refused(t, err, ErrValue)
 		_, _, err = column.PointXY(1)
-		refused(t, err, Value)
+		refused(t, err, ErrValue)
 	}
 }
 

@@ -5,10 +5,8 @@ import (
 	"encoding/binary"
 	"encoding/hex"
 	"errors"
-	"fmt"
 	"math/rand"
 	"reflect"
-	"strings"
 	"testing"
 )
 
@@ -152,6 +150,9 @@ func TestSheet(t *testing.T) {
 	if err != nil {
 		t.Fatal(err)
 	}
+	if want := "1: yes/no, 2: choice of 3, 3: number up to 131528, 4: point of 7 bits, 5: number of 4 bits"; sheet.String() != want {
+		t.Errorf("%v, want %s", sheet, want)
+	}
 	want := []Column{YesNo(), Choice(3), UpTo(200 + 256 + 2*65536), Point(7), Number(4)}
 	if !reflect.DeepEqual(sheet.Columns(), want) {
 		t.Errorf("columns %v, want %v", sheet.Columns(), want)
@@ -159,10 +160,10 @@ func TestSheet(t *testing.T) {
 	for _, test := range []struct {
 		sheet []byte
 		want  Refusal
-	}{{nil, Limit}, {[]byte{20}, Kind}, {[]byte{18}, Kind}, {[]byte{18, 1}, Limit}, {[]byte{18, 65}, Limit},
-		{[]byte{19, 0}, Limit}, {[]byte{19, 25}, Limit}, {bytes.Repeat([]byte{17}, 257), Limit}, {[]byte{22}, Kind},
-		{[]byte{21}, Kind}, {[]byte{21, 0}, Limit}, {[]byte{21, 13}, Limit}, {[]byte{17, 21}, Kind}, {[]byte{16, 12}, Kind},
-		{[]byte{20, 200, 0, 0}, Kind}, {[]byte{20, 0, 0, 0, 0}, Limit}, {[]byte{20, 0, 0, 0, 1}, Limit}} {
+	}{{nil, ErrLimit}, {[]byte{20}, ErrKind}, {[]byte{18}, ErrKind}, {[]byte{18, 1}, ErrLimit}, {[]byte{18, 65}, ErrLimit},
+		{[]byte{19, 0}, ErrLimit}, {[]byte{19, 25}, ErrLimit}, {bytes.Repeat([]byte{17}, 257), ErrLimit}, {[]byte{22}, ErrKind},
+		{[]byte{21}, ErrKind}, {[]byte{21, 0}, ErrLimit}, {[]byte{21, 13}, ErrLimit}, {[]byte{17, 21}, ErrKind}, {[]byte{16, 12}, ErrKind},
+		{[]byte{20, 200, 0, 0}, ErrKind}, {[]byte{20, 0, 0, 0, 0}, ErrLimit}, {[]byte{20, 0, 0, 0, 1}, ErrLimit}} {
 		_, err := ReadSheet(test.sheet)
 		refused(t, err, test.want)
 	}
@@ -182,66 +183,7 @@ func TestCircuit(t *testing.T) {
 		t.Errorf("counts %v, %v", counts, err)
 	}
 	_, err = ReadCircuit(1, []byte{6, 0, 0})
-	refused(t, err, Wire)
-}
-
-func TestRefusalInWords(t *testing.T) {
-	_, err := ReadSheet([]byte{20})
-	want := "pool: read sheet: refused 1: sheet or circuit: an unknown kind, or its body is cut off"
-	if err == nil || err.Error() != want {
-		t.Errorf("got %v", err)
-	}
-	if got := Refusal(99).Error(); got != "refused 99: unknown refusal" {
-		t.Errorf("got %s", got)
-	}
-	for k := Kind; k <= Run; k++ {
-		if words[k] == "" {
-			t.Errorf("no words for %d", uint32(k))
-		}
-	}
-	for _, k := range []Refusal{0, Run + 1} {
-		if got, want := k.Error(), fmt.Sprintf("refused %d: unknown refusal", uint32(k)); got != want {
-			t.Errorf("got %s, want %s", got, want)
-		}
-	}
-	if got := Many.Error(); !strings.HasPrefix(got, "refused 17: more than 4,096") {
-		t.Errorf("got %s", got)
-	}
-	if got := Few.Error(); !strings.HasPrefix(got, "refused 15: fewer returns are entered") || !strings.HasSuffix(got, "open a new pool") {
-		t.Errorf("got %s", got)
-	}
-	for _, says := range []string{"refused 16: the pairs r, s differ", "drop the return at every server", "made anew under a new id"} {
-		if got := Unequal.Error(); !strings.Contains(got, says) {
-			t.Errorf("got %s, which does not say %q", got, says)
-		}
-	}
-	if got := NoLine.Error(); !strings.HasPrefix(got, "refused 18: all x are equal, or no return is entered") {
-		t.Errorf("got %s", got)
-	}
-	if got := Run.Error(); !strings.HasPrefix(got, "refused 19: not so many messages") {
-		t.Errorf("got %s", got)
-	}
-	if got := Decided.Error(); !strings.HasPrefix(got, "refused 10: the id was decided or waits") {
-		t.Errorf("got %s", got)
-	}
-}
-
-// What to do about 11 depends on the call.
-func TestStageInWords(t *testing.T) {
-	for call, advice := range stageAdvice {
-		if got := answer(call, uint32(Stage)).Error(); !strings.HasSuffix(got, "a close while one waits; "+advice) {
-			t.Errorf("got %s", got)
-		}
-	}
-	var table Table
-	for err, says := range map[error]string{
-		table.Enter(1): "pool: enter: refused 11: %s; a return is entered once, after an accepted verdict: ",
-		table.Drop(1):  "pool: drop: refused 11: %s; a return can be dropped while it waits for a round or for entry",
-	} {
-		if want := fmt.Sprintf(says, words[Stage]); !strings.HasPrefix(err.Error(), want) {
-			t.Errorf("got %v, want %s", err, want)
-		}
-	}
+	refused(t, err, ErrWire)
 }
 
 // addPlain adds the values of a return on the sheet of TestPools to the plain sums.

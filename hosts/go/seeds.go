@@ -2,6 +2,7 @@ package pool
 
 import (
 	"crypto/rand"
+	"fmt"
 	"io"
 	"runtime"
 )
@@ -17,6 +18,9 @@ const SeedMessageBytes = seedMessageBytes
 // is sent once and then wiped. Seeds hide a return as well as ChaCha20 hides its key; the shares of Make hide it whatever the servers
 // can compute.
 func (c *Client) MakeSeeded(id uint32, values []uint32) ([][]byte, error) {
+	if c == nil || c.Sheet.isNone() {
+		return nil, missing("make from seeds", "the client's sheet")
+	}
 	var random, seeds, out []byte
 	// Outside these limits nothing is drawn: the core refuses before it looks at random elements and seeds.
 	if minServers <= c.Servers && c.Servers <= maxServers {
@@ -48,8 +52,10 @@ func drawBytes(random io.Reader, run []byte) error {
 	if random == nil {
 		random = rand.Reader
 	}
-	_, err := io.ReadFull(random, run)
-	return err
+	if _, err := io.ReadFull(random, run); err != nil {
+		return fmt.Errorf("pool: random bytes: %w", err)
+	}
+	return nil
 }
 
 // wipe overwrites what is secret and no longer needed.

@@ -143,7 +143,7 @@ func TestMessagesToldApart(t *testing.T) {
 	table := openAll(t, 3, sheet, 2)[1]
 	pair := Pair{R: 1000, S: 5}
 	for name, m := range tellApart(sheet, messages) {
-		if _, err := table.Share(m, pair); !errors.Is(err, Share) {
+		if _, err := table.Share(m, pair); !errors.Is(err, ErrShare) {
 			t.Errorf("%s: %v", name, err)
 		}
 	}
@@ -156,20 +156,20 @@ func TestMessagesToldApart(t *testing.T) {
 		t.Error("no message is told as a seed message")
 	}
 	_, err := table.Share(messages[1], Pair{R: 1, S: 5})
-	refused(t, err, Range)
+	refused(t, err, ErrPair)
 	if _, err = table.Share(messages[1], pair); err != nil {
 		t.Error(err)
 	}
 	_, err = table.Share(messages[1], Pair{R: 1, S: 5})
-	refused(t, err, Decided)
+	refused(t, err, ErrDecided)
 	_, err = table.Share(messages[1][:37], pair)
-	refused(t, err, Share)
+	refused(t, err, ErrShare)
 	// At server 0 a seed message is refused, with its number too.
 	zero := append([]byte(nil), messages[1]...)
 	for _, number := range []byte{0, 1} {
 		zero[5] = number
 		_, err = openAll(t, 3, sheet, 2)[0].Share(zero, pair)
-		refused(t, err, Share)
+		refused(t, err, ErrShare)
 	}
 }
 
@@ -209,21 +209,21 @@ func wrongSeeds() []wrongSeed {
 	values, four := elements([]uint32{1, 200}), elements([]uint32{1, 2, 3, 4})
 	seeds := func(n int) []byte { return make([]byte, n) }
 	return []wrongSeed{
-		{"no seeds", sheet, 3, values, four, nil, 1000, Random},
-		{"one seed for two servers", sheet, 3, values, four, seeds(32), 1000, Random},
-		{"a byte short", sheet, 3, values, four, seeds(63), 1000, Random},
-		{"a byte long", sheet, 3, values, four, seeds(65), 1000, Random},
-		{"a seed for server 0 too", sheet, 3, values, four, seeds(96), 1000, Random},
-		{"no elements", sheet, 3, values, nil, seeds(64), 1000, Random},
-		{"three elements", sheet, 3, values, four[:12], seeds(64), 1000, Random},
-		{"five elements", sheet, 3, values, elements([]uint32{1, 2, 3, 4, 5}), seeds(64), 1000, Random},
-		{"an element of p", sheet, 3, values, elements([]uint32{1, 2, 3, prime}), seeds(64), 1000, Random},
-		{"a sheet before all", []byte{22}, 9, nil, nil, nil, 0, Kind},
-		{"one server", sheet, 1, nil, nil, nil, 0, Limit},
-		{"nine servers", sheet, 9, values, four, seeds(256), 1000, Limit},
-		{"a value before seeds", sheet, 3, elements([]uint32{2, 200}), nil, nil, 0, Value},
-		{"seeds before room", sheet, 3, values, four, nil, 0, Random},
-		{"no room", sheet, 3, values, four, seeds(64), 6 + 4*(10+18+6) + 2*38 - 1, Room},
+		{"no seeds", sheet, 3, values, four, nil, 1000, ErrRandom},
+		{"one seed for two servers", sheet, 3, values, four, seeds(32), 1000, ErrRandom},
+		{"a byte short", sheet, 3, values, four, seeds(63), 1000, ErrRandom},
+		{"a byte long", sheet, 3, values, four, seeds(65), 1000, ErrRandom},
+		{"a seed for server 0 too", sheet, 3, values, four, seeds(96), 1000, ErrRandom},
+		{"no elements", sheet, 3, values, nil, seeds(64), 1000, ErrRandom},
+		{"three elements", sheet, 3, values, four[:12], seeds(64), 1000, ErrRandom},
+		{"five elements", sheet, 3, values, elements([]uint32{1, 2, 3, 4, 5}), seeds(64), 1000, ErrRandom},
+		{"an element of p", sheet, 3, values, elements([]uint32{1, 2, 3, prime}), seeds(64), 1000, ErrRandom},
+		{"a sheet before all", []byte{22}, 9, nil, nil, nil, 0, ErrKind},
+		{"one server", sheet, 1, nil, nil, nil, 0, ErrLimit},
+		{"nine servers", sheet, 9, values, four, seeds(256), 1000, ErrLimit},
+		{"a value before seeds", sheet, 3, elements([]uint32{2, 200}), nil, nil, 0, ErrValue},
+		{"seeds before room", sheet, 3, values, four, nil, 0, ErrRandom},
+		{"no room", sheet, 3, values, four, seeds(64), 6 + 4*(10+18+6) + 2*38 - 1, ErrRoom},
 	}
 }
 
@@ -238,11 +238,11 @@ func TestWrongSeeds(t *testing.T) {
 	for _, n := range []uint32{0, 1, 9, 1<<32 - 1} {
 		client := Client{Sheet: sheetOf(t, YesNo()), Servers: n}
 		_, err := client.MakeSeeded(1, []uint32{1})
-		refused(t, err, Limit)
+		refused(t, err, ErrLimit)
 	}
 	client := Client{Sheet: sheetOf(t, YesNo()), Servers: 2}
 	_, err := client.MakeSeeded(1, []uint32{2})
-	refused(t, err, Value)
+	refused(t, err, ErrValue)
 }
 
 // Seeds come from the reader that the client was given, four elements first, and from the system without one: never one twice.
@@ -294,5 +294,5 @@ func TestShelvedSeeds(t *testing.T) {
 		t.Errorf("brought back %d messages, %v", len(back), err)
 	}
 	_, err = Shelve(append(list, seeded(t, sheet, 2, 9, 1)[0]))
-	refused(t, err, Run)
+	refused(t, err, ErrRun)
 }

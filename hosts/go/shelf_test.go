@@ -35,9 +35,9 @@ func TestShelf(t *testing.T) {
 		t.Errorf("brought back %d messages, %v", len(back), err)
 	}
 	_, err = Unshelve(5, uint32(width), run[:len(run)-5])
-	refused(t, err, Run)
+	refused(t, err, ErrRun)
 	_, err = Unshelve(5, uint32(width)+1, run)
-	refused(t, err, Run)
+	refused(t, err, ErrRun)
 }
 
 func TestShelfLimits(t *testing.T) {
@@ -49,7 +49,7 @@ func TestShelfLimits(t *testing.T) {
 	}
 	for _, messages := range [][][]byte{nil, {{}, {}}, alike(maxShelf+1, 1), alike(1, maxWidth+1)} {
 		_, err := Shelve(messages)
-		refused(t, err, Limit)
+		refused(t, err, ErrLimit)
 	}
 	for _, lengths := range [][]int{{3, 4}, {4, 3}, {4, 3, 5}, {1, 0}} {
 		var messages [][]byte
@@ -57,12 +57,12 @@ func TestShelfLimits(t *testing.T) {
 			messages = append(messages, make([]byte, n))
 		}
 		_, err := Shelve(messages)
-		refused(t, err, Run)
+		refused(t, err, ErrRun)
 	}
 	for _, test := range []struct{ messages, width uint32 }{{0, 4}, {4, 0}, {maxShelf + 1, 1}, {1, maxWidth + 1},
 		{1<<32 - 1, 1<<32 - 1}} {
 		_, err := Unshelve(test.messages, test.width, []byte{1, 2, 3, 4})
-		refused(t, err, Limit)
+		refused(t, err, ErrLimit)
 	}
 	if got := number32(1<<32 + 4); got != 1<<32-1 {
 		t.Errorf("a length is cut to %d", got)

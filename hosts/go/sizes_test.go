@@ -54,9 +54,9 @@ func testMade(t *testing.T, sheet *Sheet) {
 		len(table.elements) != Slots*((sizes.ShareBytes-6)/4+2) || len(table.elements) > maxElements {
 		t.Errorf("a table for %d returns: %v", most, err)
 	}
-	want := Wrap
+	want := ErrWrap
 	if most == maxReturns {
-		want = Limit
+		want = ErrLimit
 	}
 	_, err = Open(2, 0, sheet, most+1, 1)
 	refused(t, err, want)

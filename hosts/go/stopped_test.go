@@ -2,6 +2,7 @@ package pool
 
 import (
 	"bytes"
+	"errors"
 	"reflect"
 	"testing"
 )
@@ -83,7 +84,7 @@ func TestNotSureWhetherEntered(t *testing.T) {
 	if err := before.Enter(1); err != nil {
 		t.Error(err)
 	}
-	refused(t, after.Enter(1), Stage)
+	refused(t, after.Enter(1), ErrStage)
 	if len(after.Waiting()) != 0 || !bytes.Equal(stored(t, before), stored(t, after)) {
 		t.Error("the tables differ")
 	}
@@ -91,27 +92,28 @@ func TestNotSureWhetherEntered(t *testing.T) {
 	all.mustJoin(t, sheet, 2, courses...)
 }
 
-// A server that has entered a return which another one dropped: the counts differ, and joining is refused. With as many entered the
-// totals are wrong, and nothing tells.
+// A server that has entered a return which another one dropped: the counts differ, and joining is refused. With as many entered no
+// returns give the totals, and joining tells that the servers went apart.
 func TestEntriesThatDiffer(t *testing.T) {
 	sheet := sheetOf(t, YesNo(), Number(8))
-	open := func() (servers, []*course) {
+	open := func() servers {
 		all, courses := openAll(t, 2, sheet, 4), newCourses(t, sheet, 2, 3)
 		for _, c := range courses {
 			c.upTo(t, all, sheet, AwaitsEntry)
 		}
-		return all, courses
+		return all
 	}
-	all, _ := open()
+	all := open()
 	settle(t, all[0], map[uint32]bool{0: true, 1: true, 2: true})
 	settle(t, all[1], map[uint32]bool{0: true, 2: true})
 	_, err := Join(2, sheet, 4, all.each(t, func(_ int, table *Table) ([]byte, error) { return table.Close() }))
-	refused(t, err, Joined)
+	refused(t, err, ErrJoined)
 
-	all, courses := open()
+	all = open()
 	settle(t, all[0], map[uint32]bool{0: true, 1: true})
 	settle(t, all[1], map[uint32]bool{0: true, 2: true})
-	if got := all.closeAndJoin(t, sheet, 4); reflect.DeepEqual(got, sumsOf(courses[:2]...)) || got.Accepted != 2 {
-		t.Errorf("totals %v", got)
+	totals, err := Join(2, sheet, 4, all.each(t, func(_ int, table *Table) ([]byte, error) { return table.Close() }))
+	if !errors.Is(err, ErrApart) || totals.Lines != nil {
+		t.Errorf("totals %v, %v", totals, err)
 	}
 }

@@ -21,11 +21,12 @@ const (
 	storedSum   = 4
 )
 
-// ErrStored is wrapped by the errors of UnmarshalBinary.
-var ErrStored = errors.New("not a table as MarshalBinary gives it")
-
-// MarshalBinary gives a copy of the whole table in one slice. It is the caller's to erase: later calls do not reach it.
+// MarshalBinary gives a copy of the whole table in one slice. It is the caller's to erase: later calls do not reach it. Of a table that
+// was neither opened nor restored there is none (ErrNil).
 func (t *Table) MarshalBinary() ([]byte, error) {
+	if t == nil || len(t.bytes) == 0 {
+		return nil, missing("store", "the table")
+	}
 	order := binary.LittleEndian
 	b := make([]byte, 0, storedHead+len(t.bytes)+storedSlots+elementBytes*len(t.elements)+storedSum)
 	b = append(b, storedMark...)
@@ -45,21 +46,59 @@ func (t *Table) MarshalBinary() ([]byte, error) {
 	return order.AppendUint32(b, crc32.ChecksumIEEE(b)), nil
 }
 
-// UnmarshalBinary makes the table the one that was stored. A slice that is not as MarshalBinary gives it, cut or damaged, is an
-// error (ErrStored) and leaves the table as it was. A checksum notices damage, not intent.
+// UnmarshalBinary makes the table the one that was stored. A slice that is not as MarshalBinary gives it, cut or damaged, or that holds
+// what no opening and no calls after it can have left, is an error (ErrStored) and leaves the table as it was. A checksum notices
+// damage, not intent.
 //
 // Restore the last table that was stored and no older one: see pool.h.
 func (t *Table) UnmarshalBinary(b []byte) error {
+	if t == nil {
+		return missing("restore", "the table")
+	}
 	length, count, err := storedLengths(b)
 	if err != nil {
-		return fmt.Errorf("pool: restore: %w: %v", ErrStored, err)
+		return fmt.Errorf("pool: restore: %w", notStored{err})
 	}
-	t.bytes = append([]byte(nil), b[storedHead:][:length]...)
+	var restored Table
+	restored.bytes = append([]byte(nil), b[storedHead:][:length]...)
 	rest := b[storedHead+length:]
-	for k := range t.slots {
-		t.slots[k], rest = storedSlot(rest), rest[storedSlots/Slots:]
+	for k := range restored.slots {
+		restored.slots[k], rest = storedSlot(rest), rest[storedSlots/Slots:]
 	}
-	t.elements = numbers(rest[:elementBytes*count])
+	restored.elements = numbers(rest[:elementBytes*count])
+	if err := restored.check(); err != nil {
+		return fmt.Errorf("pool: restore: %w", notStored{err})
+	}
+	t.bytes, t.slots, t.elements = restored.bytes, restored.slots, restored.elements
+	return nil
+}
+
+// notStored is ErrStored with what is wrong, which may be a Refusal.
+type notStored struct{ wrong error }
+
+func (e notStored) Error() string {
+	return fmt.Sprintf("%v: %v; restore the table that was stored last, and no older one", ErrStored, e.wrong)
+}
+func (e notStored) Is(target error) bool { return target == ErrStored }
+func (e notStored) Unwrap() error        { return e.wrong }
+
+// check says what no opening and no calls can have left: a table that the core refuses, one that is longer than it need be, or one that
+// was closed too early.
+func (t *Table) check() error {
+	length, count := len(t.bytes), len(t.elements)
+	state, number := coreState(t, length, count)
+	if number != 0 {
+		return Refusal(number)
+	}
+	if _, number := coreState(t, length-1, count); number == 0 {
+		return fmt.Errorf("%d bytes are too many", length)
+	}
+	if _, number := coreState(t, length, count-1); number == 0 {
+		return fmt.Errorf("%d elements are too many", count)
+	}
+	if state.Closed && (state.Waiting > 0 || state.Entered < state.Least) {
+		return fmt.Errorf("a close that is refused: %v", state)
+	}
 	return nil
 }
 

@@ -26,20 +26,20 @@ func TestCheatAndDrop(t *testing.T) {
 	}
 	all.start(t, sheet, late)
 	for _, table := range all {
-		refused(t, table.Drop(2), Stage)
+		refused(t, table.Drop(2), ErrStage)
 		if err := table.Drop(3); err != nil {
 			t.Error(err)
 		}
-		refused(t, table.Drop(3), Stage)
+		refused(t, table.Drop(3), ErrStage)
 	}
 	_, err := all[0].Share(late[0], Pair{100, 5})
-	refused(t, err, Decided)
+	refused(t, err, ErrDecided)
 	totals := all.closeAndJoin(t, sheet, 4)
 	want := Totals{1, []Line{{1, 0, 1}, {2, 0, 40}}}
 	if !reflect.DeepEqual(totals, want) {
 		t.Errorf("totals %v, want %v", totals, want)
 	}
-	refused(t, all[0].Drop(3), Stage)
+	refused(t, all[0].Drop(3), ErrStage)
 }
 
 // hold says in which slots a return must be; in the others all is 0, in their places too.
@@ -141,8 +141,8 @@ func TestRestart(t *testing.T) {
 		t.Errorf("totals %v", totals)
 	}
 	var empty Table
-	refused(t, empty.Drop(0), Stage)
-	refused(t, empty.Enter(0), Stage)
+	refused(t, empty.Drop(0), ErrStage)
+	refused(t, empty.Enter(0), ErrStage)
 }
 
 func TestRefusals(t *testing.T) {
@@ -150,27 +150,27 @@ func TestRefusals(t *testing.T) {
 	for _, n := range []uint32{0, 1, 9, 258, 1<<32 - 1} {
 		client := Client{Sheet: sheet, Servers: n}
 		_, err := client.Make(1, []uint32{1})
-		refused(t, err, Limit)
+		refused(t, err, ErrLimit)
 		_, err = Open(n, 0, sheet, 1, 1)
-		refused(t, err, Limit)
+		refused(t, err, ErrLimit)
 		_, err = Join(n, sheet, 1, nil)
-		refused(t, err, Limit)
+		refused(t, err, ErrLimit)
 	}
 	client := Client{Sheet: sheet, Servers: 2}
 	_, err := client.Make(1, []uint32{2})
-	refused(t, err, Value)
+	refused(t, err, ErrValue)
 	_, err = client.Make(1, nil)
-	refused(t, err, Value)
+	refused(t, err, ErrValue)
 	for _, returns := range []uint32{0, 1025, 1<<32 - 1} {
 		_, err = Open(2, 0, sheet, returns, 1)
-		refused(t, err, Limit)
+		refused(t, err, ErrLimit)
 	}
 	_, err = Open(2, 0, sheetOf(t, Number(24)), 129, 1)
-	refused(t, err, Wrap)
+	refused(t, err, ErrWrap)
 	_, err = Open(2, 0, sheetOf(t, UpTo(1<<24-1)), 129, 1)
-	refused(t, err, Wrap)
+	refused(t, err, ErrWrap)
 	_, err = Join(2, sheet, 1, nil)
-	refused(t, err, Joined)
+	refused(t, err, ErrJoined)
 }
 
 func TestTableRefusals(t *testing.T) {
@@ -182,27 +182,27 @@ func TestTableRefusals(t *testing.T) {
 	}
 	shares, _ := client.Make(1, []uint32{1})
 	_, err = table.Share(shares[1], Pair{2, 0})
-	refused(t, err, Share)
+	refused(t, err, ErrShare)
 	for _, pair := range []Pair{{1, 0}, {uint64(prime), 0}, {1<<32 + 4, 0}, {4, uint64(prime)}} {
 		_, err = table.Share(shares[0], pair)
-		refused(t, err, Range)
+		refused(t, err, ErrPair)
 	}
 	_, err = table.RoundOne(1, nil)
-	refused(t, err, Stage)
+	refused(t, err, ErrStage)
 	if _, err = table.Share(shares[0], Pair{2, 0}); err != nil {
 		t.Error(err)
 	}
 	_, err = table.RoundOne(2, nil)
-	refused(t, err, Stage)
+	refused(t, err, ErrStage)
 	_, err = table.RoundTwo(1, nil)
-	refused(t, err, Stage)
+	refused(t, err, ErrStage)
 	_, err = table.RoundOne(1, nil)
-	refused(t, err, Joined)
+	refused(t, err, ErrJoined)
 	_, err = table.Close()
-	refused(t, err, Stage)
+	refused(t, err, ErrStage)
 	if err = table.Drop(1); err != nil {
 		t.Error(err)
 	}
 	_, err = table.Share(shares[0], Pair{2, 0})
-	refused(t, err, Full)
+	refused(t, err, ErrFull)
 }

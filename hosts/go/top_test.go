@@ -2,6 +2,7 @@ package pool
 
 import (
 	"bytes"
+	"math"
 	"reflect"
 	"testing"
 )
@@ -14,9 +15,9 @@ func TestTopInSheet(t *testing.T) {
 	if got := sheet.Columns()[0]; got != UpTo(200) || got.String() != "number up to 200" {
 		t.Errorf("column %v", got)
 	}
-	for _, top := range []uint32{0, 1 << 24, 1<<24 + 1, 1 << 31, 1<<32 - 1} {
+	for _, top := range []int{-1, 0, 1 << 24, 1<<24 + 1, 1 << 31, 1<<32 - 1, 1 << 32, 1<<32 + 200, math.MinInt, math.MaxInt} {
 		_, err := NewSheet(UpTo(top))
-		refused(t, err, Limit)
+		refused(t, err, ErrLimit)
 	}
 	// 85 columns of 3 entries, and one of 1.
 	long := make([]Column, 85, 87)
@@ -29,21 +30,21 @@ func TestTopInSheet(t *testing.T) {
 	}
 	testMade(t, longest)
 	_, err := NewSheet(append(long, YesNo(), YesNo())...)
-	refused(t, err, Limit)
+	refused(t, err, ErrLimit)
 }
 
 // The top is taken, and one more is not, whether it has more bits or not.
 func TestValuesAtTheTop(t *testing.T) {
-	for _, top := range []uint32{1, 2, 200, 255, 256, 1<<24 - 2, 1<<24 - 1} {
+	for _, top := range []int{1, 2, 200, 255, 256, 1<<24 - 2, 1<<24 - 1} {
 		client := Client{Sheet: sheetOf(t, UpTo(top)), Servers: 2}
-		for _, value := range []uint32{0, top - 1, top} {
+		for _, value := range []uint32{0, uint32(top - 1), uint32(top)} {
 			if _, err := client.Make(1, []uint32{value}); err != nil {
 				t.Errorf("%d of %d: %v", value, top, err)
 			}
 		}
-		for _, value := range []uint32{top + 1, top + 256, 1 << 24, 1<<32 - 1} {
+		for _, value := range []uint32{uint32(top + 1), uint32(top + 256), 1 << 24, 1<<32 - 1} {
 			_, err := client.Make(1, []uint32{value})
-			refused(t, err, Value)
+			refused(t, err, ErrValue)
 		}
 	}
 }
@@ -54,8 +55,9 @@ func TestPastTheTop(t *testing.T) {
 	sheet := sheetOf(t, UpTo(200), YesNo())
 	all := openAll(t, 3, sheet, 10)
 	for id, test := range []struct {
-		top, value uint32
-		want       bool
+		top   int
+		value uint32
+		want  bool
 	}{{200, 200, true}, {201, 201, false}, {255, 255, false}, {255, 201, false}, {255, 40, false}, {200, 0, true}} {
 		client := Client{Sheet: sheetOf(t, UpTo(test.top), YesNo()), Servers: 3}
 		shares, err := client.Make(uint32(id), []uint32{test.value, 1})

@@ -63,13 +63,13 @@ func (all servers) mustRefuseUnequal(t *testing.T, when string, id uint32, ones 
 		before := stored(t, table)
 		for _, messages := range [][][]byte{ones, reversed(ones), arrived(ones)} {
 			message, err := table.RoundOne(id, messages)
-			if message != nil || !errors.Is(err, Unequal) {
+			if message != nil || !errors.Is(err, ErrUnequal) {
 				t.Errorf("%s, server %d: %v, %v", when, own, message, err)
 			}
 			for _, room := range []int{0, 13, 14, 30} {
 				out := bytes.Repeat([]byte{7}, room)
 				written, number := coreRoundOne(table, id, bytes.Join(messages, nil), out)
-				if written != 0 || Refusal(number) != Unequal || !bytes.Equal(out, bytes.Repeat([]byte{7}, room)) {
+				if written != 0 || Refusal(number) != ErrUnequal || !bytes.Equal(out, bytes.Repeat([]byte{7}, room)) {
 					t.Errorf("%s, server %d, room %d: %d, %d, %v", when, own, room, written, number, out)
 				}
 			}
@@ -113,7 +113,7 @@ func TestSlip(t *testing.T) {
 				pairs[own] = wrong
 				ones := all.startWith(t, slipped, pairs)
 				all.mustRefuseUnequal(t, when, 2, ones)
-				all.mustRefuseClose(t, when, Stage)
+				all.mustRefuseClose(t, when, ErrStage)
 				all.endSlip(t, when, slipped, right)
 				if !all.judge(t, sheet, anew) {
 					t.Errorf("%s: the return made anew is rejected", when)
@@ -133,17 +133,17 @@ func (all servers) endSlip(t *testing.T, when string, shares [][]byte, pair Pair
 	id := binary.LittleEndian.Uint32(shares[0][1:])
 	for _, table := range all {
 		_, err := table.RoundTwo(id, nil)
-		refused(t, err, Stage)
+		refused(t, err, ErrStage)
 	}
 	all.drop(t, id)
 	for own, table := range all {
 		_, err := table.Share(shares[own], pair)
-		refused(t, err, Decided)
+		refused(t, err, ErrDecided)
 		if len(table.Waiting()) != 0 {
 			t.Errorf("%s, server %d: %v wait", when, own, table.Waiting())
 		}
 	}
-	all.mustRefuseClose(t, when, Few)
+	all.mustRefuseClose(t, when, ErrFew)
 }
 
 // All servers have different pairs, or two have one and the others another: nobody's is taken as the right one.

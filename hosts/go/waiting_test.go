@@ -152,7 +152,7 @@ func TestNinthShare(t *testing.T) {
 	courses := newCourses(t, sheet, 2, 10)
 	fill(t, all, sheet, courses[:Slots-1])
 	_, err := all[0].Share(courses[3].shares[0], Pair{100, 5})
-	refused(t, err, Decided)
+	refused(t, err, ErrDecided)
 	fill(t, all, sheet, courses[Slots-1:Slots])
 	for own, table := range all {
 		refusedWithEight(t, table, courses[8].shares[own], courses[0].messages)
@@ -179,19 +179,19 @@ func refusedWithEight(t *testing.T, table *Table, ninth []byte, ones [][]byte) {
 	t.Helper()
 	before, _ := table.MarshalBinary()
 	_, err := table.Share(ninth, Pair{100, 5})
-	refused(t, err, Stage)
+	refused(t, err, ErrStage)
 	_, err = table.Share(nil, Pair{})
-	refused(t, err, Stage)
+	refused(t, err, ErrStage)
 	_, err = table.Close()
-	refused(t, err, Stage)
+	refused(t, err, ErrStage)
 	_, err = table.RoundOne(8, ones)
-	refused(t, err, Stage)
+	refused(t, err, ErrStage)
 	_, err = table.RoundOne(1, ones)
-	refused(t, err, Joined)
+	refused(t, err, ErrJoined)
 	_, err = table.RoundTwo(1, ones)
-	refused(t, err, Stage)
-	refused(t, table.Enter(1), Stage)
-	refused(t, table.Drop(8), Stage)
+	refused(t, err, ErrStage)
+	refused(t, table.Enter(1), ErrStage)
+	refused(t, table.Drop(8), ErrStage)
 	if after, _ := table.MarshalBinary(); !bytes.Equal(before, after) {
 		t.Error("a refused call changes the table")
 	}
@@ -204,19 +204,19 @@ func TestDecidedAndWaiting(t *testing.T) {
 	courses := newCourses(t, sheet, 2, Slots+1)
 	last := courses[Slots].shares[0]
 	fill(t, all, sheet, courses[:Slots-1])
-	if _, err := all[0].Share(last[:20], Pair{}); !errors.Is(err, Share) {
+	if _, err := all[0].Share(last[:20], Pair{}); !errors.Is(err, ErrShare) {
 		t.Errorf("seven wait: %v", err)
 	}
 	fill(t, all, sheet, courses[Slots-1:Slots])
 	_, err := all[0].Share(last, Pair{100, 5})
-	refused(t, err, Stage)
+	refused(t, err, ErrStage)
 	for k := 0; k < Slots; k++ {
 		all.drop(t, uint32(k))
 		_, err := all[0].Share(last, Pair{100, 5})
-		refused(t, err, Full)
+		refused(t, err, ErrFull)
 	}
 	_, err = all[0].Close()
-	refused(t, err, Few)
+	refused(t, err, ErrFew)
 }
 
 // Tables are stored and restored with eight returns waiting, some in each stage, and finish as if nothing had been.
@@ -245,7 +245,7 @@ func TestRestartWithEightWaiting(t *testing.T) {
 		}
 	}
 	_, err := all[0].Share(courses[8].shares[0], Pair{100, 5})
-	refused(t, err, Stage)
+	refused(t, err, ErrStage)
 	for k := Slots - 1; k >= 0; k-- {
 		if judged := courses[k].awaits == AwaitsEntry; courses[k].finish(t, all, sheet) == judged {
 			t.Errorf("return %d is rejected, or judged again", k)

@@ -101,7 +101,7 @@ func TestStopsBeforeTotals(t *testing.T) {
 		o[own].handle = 1
 		for _, heard := range [][]message{{{0, meeting, entered345}}, {{0, closed, entered345}, {0, totals, theirs}}} {
 			again := reopened(t, o[own])
-			if _, err := again.table.Share(shares[own], pool.Pair{R: 1000, S: 7}); !errors.Is(err, pool.Stage) {
+			if _, err := again.table.Share(shares[own], pool.Pair{R: 1000, S: 7}); !errors.Is(err, pool.ErrStage) {
 				t.Errorf("server %d: its stored table takes a share (%v)", own, err)
 			}
 			told, joined, err := runAlone(t, again, shares[own], heard...)

@@ -54,10 +54,13 @@ func (s *server) take(c *course, messages [][]byte) error {
 	switch c.step {
 	case roundOne:
 		pair, err := s.addParts(messages)
+		if err == nil {
+			pair, err = s.typed(c.id, pair)
+		}
 		if err != nil {
 			return err
 		}
-		told, refused = s.table.Share(c.share, s.typed(c.id, pair))
+		told, refused = s.table.Share(c.share, pair)
 		c.waits = refused == nil
 	case roundTwo:
 		told, refused = s.table.RoundOne(c.id, messages)
@@ -67,7 +70,7 @@ func (s *server) take(c *course, messages [][]byte) error {
 	if refused != nil {
 		log.Printf("return %d: %v", c.id, refused)
 	}
-	if errors.Is(refused, pool.Unequal) {
+	if errors.Is(refused, pool.ErrUnequal) {
 		logPairs(c.id, messages)
 	}
 	if err := s.store(); err != nil {
@@ -91,7 +94,6 @@ func (s *server) judge(c *course, messages [][]byte) (told []byte, refused error
 	}
 	if refused == nil {
 		c.waits = false
-		s.decided++
 	}
 	return nil, refused
 }
@@ -130,7 +132,6 @@ func (s *server) enterID(id uint32) error {
 		return err
 	}
 	s.entered = append(s.entered, id)
-	s.decided++
 	return s.store()
 }
 
@@ -138,7 +139,6 @@ func (s *server) dropID(id uint32) error {
 	if err := s.table.Drop(id); err != nil {
 		return err
 	}
-	s.decided++
 	return s.store()
 }
 
@@ -160,5 +160,5 @@ func (s *server) addParts(messages [][]byte) (pool.Pair, error) {
 		}
 		parts = append(parts, pool.Pair{R: binary.LittleEndian.Uint64(b), S: binary.LittleEndian.Uint64(b[8:])})
 	}
-	return s.sheet.AddPairs(parts...), nil
+	return s.sheet.AddPairs(parts...)
 }

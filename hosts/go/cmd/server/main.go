@@ -43,7 +43,7 @@ type options struct {
 	sheet     string
 	returns   frame.Number
 	least     frame.Number
-	handle    int
+	handle    frame.Number
 	workshops string
 	peer      string
 	wait      time.Duration
@@ -56,12 +56,12 @@ type options struct {
 
 func main() {
 	log.SetFlags(0)
-	o := options{returns: 100}
+	o := options{returns: 100, handle: 1}
 	flag.Var(&o.own, "own", "the server's own number, 0 or 1")
 	flag.StringVar(&o.sheet, "sheet", "", "the sheet's bytes, in decimal")
 	flag.Var(&o.returns, "returns", "N, the most returns to decide")
 	flag.Var(&o.least, "least", "Q, how many returns must be entered before there are totals, 1 to N; must be given")
-	flag.IntVar(&o.handle, "handle", 1, "how many returns to handle before closing")
+	flag.Var(&o.handle, "handle", "how many returns to handle before closing")
 	flag.StringVar(&o.workshops, "workshops", "127.0.0.1:0", "where to take shares")
 	flag.StringVar(&o.peer, "peer", "127.0.0.1:0", "where server 0 awaits server 1")
 	flag.DurationVar(&o.wait, "wait", 5*time.Second, "how long to wait for the own share of a return")
@@ -78,11 +78,7 @@ func main() {
 }
 
 func run(o options) error {
-	b, err := frame.Bytes(o.sheet)
-	if err != nil {
-		return err
-	}
-	sheet, err := pool.ReadSheet(b)
+	sheet, err := readSheet(o.sheet)
 	if err != nil {
 		return err
 	}
@@ -117,6 +113,15 @@ func run(o options) error {
 		return err
 	}
 	return os.Remove(o.table)
+}
+
+// readSheet reads a sheet whose bytes stand in a text.
+func readSheet(text string) (*pool.Sheet, error) {
+	b, err := frame.Bytes(text)
+	if err != nil {
+		return nil, err
+	}
+	return pool.ReadSheet(b)
 }
 
 // meet connects the two servers: server 0 listens, server 1 calls.

@@ -21,7 +21,7 @@ func (s *server) publish(out io.Writer, totals pool.Totals) error {
 		}
 		fit, err := pool.FitLine(servers, s.sheet, uint32(s.returns), s.joined, uint32(k+1))
 		switch {
-		case errors.Is(err, pool.NoLine):
+		case errors.Is(err, pool.ErrNoLine):
 			fmt.Fprintln(out, "line", k+1, "none")
 		case err != nil:
 			return err

@@ -18,8 +18,7 @@ type saved struct {
 	Pool    string   // which pool it is of
 	Table   []byte   // as pool.Table.MarshalBinary gives it
 	Entered []uint32 // ids: the table tells which returns were decided, not how
-	Decided int
-	Totals  []byte // the totals message of a closed table
+	Totals  []byte   // the totals message of a closed table
 }
 
 // store stores the table, with what was entered and the totals message, before anything is told to the other server.
@@ -32,7 +31,7 @@ func (s *server) store() error {
 		return err
 	}
 	var b bytes.Buffer
-	if err := gob.NewEncoder(&b).Encode(saved{s.pool, table, s.entered, s.decided, s.totals}); err != nil {
+	if err := gob.NewEncoder(&b).Encode(saved{s.pool, table, s.entered, s.totals}); err != nil {
 		return err
 	}
 	return replaceFile(s.file, b.Bytes())
@@ -57,8 +56,18 @@ func (s *server) restore() error {
 	if kept.Pool != s.pool {
 		return fmt.Errorf("%s is of another pool, %s, not %s", s.file, kept.Pool, s.pool)
 	}
-	s.entered, s.decided, s.totals = kept.Entered, kept.Decided, kept.Totals
-	return s.table.UnmarshalBinary(kept.Table)
+	if err := s.table.UnmarshalBinary(kept.Table); err != nil {
+		return fmt.Errorf("%s: %w", s.file, err)
+	}
+	state, err := s.table.State()
+	if err != nil {
+		return err
+	}
+	if int(state.Entered) != len(kept.Entered) || state.Closed != (len(kept.Totals) > 0) {
+		return fmt.Errorf("%s: what stands beside the table is not of it: %v", s.file, state)
+	}
+	s.entered, s.totals = kept.Entered, kept.Totals
+	return nil
 }
 
 // replaceFile puts a file in place of another: whenever the machine stops, one of them is there and whole, and the new one once this

@@ -116,8 +116,8 @@ func TestSettle(t *testing.T) {
 		if told := (<-s.peer.out).message; !reflect.DeepEqual(told, message{0, meeting, ids([]uint32{5, 3, 4})}) {
 			t.Errorf("told %v", told)
 		}
-		if !reflect.DeepEqual(s.entered, test.entered) || s.decided != 5 || len(s.table.Waiting()) != 0 {
-			t.Errorf("%v: %v entered, %d decided, %v wait", test.theirs, s.entered, s.decided, s.table.Waiting())
+		if !reflect.DeepEqual(s.entered, test.entered) || decided(t, s) != 5 || len(s.table.Waiting()) != 0 {
+			t.Errorf("%v: %v entered, %d decided, %v wait", test.theirs, s.entered, decided(t, s), s.table.Waiting())
 		}
 	}
 	s := lone(0, sheet, staged(t, sheet)[0])
@@ -126,6 +126,16 @@ func TestSettle(t *testing.T) {
 	if err := s.settle(); err == nil || len(s.table.Waiting()) != 5 {
 		t.Errorf("without the other's word: %v, %v wait", err, s.table.Waiting())
 	}
+}
+
+// decided gives how many returns are decided at a server.
+func decided(t *testing.T, s *server) uint32 {
+	t.Helper()
+	state, err := s.table.State()
+	if err != nil {
+		t.Fatal(err)
+	}
+	return state.Decided
 }
 
 // What was stored comes back, of this pool only and only whole.
@@ -146,7 +156,7 @@ func TestStoredServer(t *testing.T) {
 		t.Fatal(err)
 	}
 	again, err := open(o)
-	if err != nil || !reflect.DeepEqual(again.table, s.table) || !reflect.DeepEqual(again.entered, []uint32{4}) || again.decided != 1 {
+	if err != nil || !reflect.DeepEqual(again.table, s.table) || !reflect.DeepEqual(again.entered, []uint32{4}) || decided(t, again) != 1 {
 		t.Errorf("restored %+v, %v", again, err)
 	}
 	for _, other := range []options{{own: 1, returns: 9, least: 1, table: file}, {returns: 9, least: 2, table: file}} {
@@ -165,5 +175,31 @@ func TestStoredServer(t *testing.T) {
 	}
 	if left, _ := filepath.Glob(file + "*"); len(left) != 1 {
 		t.Errorf("files that are left: %v", left)
+	}
+}
+
+// What stands beside a stored table must be of it.
+func TestStoredBeside(t *testing.T) {
+	sheet, err := pool.NewSheet(pool.YesNo())
+	if err != nil {
+		t.Fatal(err)
+	}
+	o := options{returns: 9, least: 1, table: filepath.Join(t.TempDir(), "table")}
+	s, err := newServer(o, sheet, staged(t, sheet)[0])
+	if err != nil {
+		t.Fatal(err)
+	}
+	if err := s.enterID(4); err != nil {
+		t.Fatal(err)
+	}
+	for _, kept := range []saved{{}, {Entered: []uint32{4, 3}}, {Entered: []uint32{4}, Totals: []byte{36}}, {Entered: []uint32{4}}} {
+		s.entered, s.totals = kept.Entered, kept.Totals
+		if err := s.store(); err != nil {
+			t.Fatal(err)
+		}
+		_, err := newServer(o, sheet, new(pool.Table))
+		if sound := len(kept.Entered) == 1 && kept.Totals == nil; (err == nil) != sound || !sound && !strings.Contains(err.Error(), "beside") {
+			t.Errorf("%+v beside a table with one entered: %v", kept, err)
+		}
 	}
 }

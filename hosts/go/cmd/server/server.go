@@ -31,7 +31,6 @@ type server struct {
 	pool    string        // what the pool was opened with
 
 	begun, ended int
-	decided      int                // in the own table
 	entered      []uint32           // ids, in the own table
 	totals       []byte             // the own totals message; empty until the table is closed
 	joined       [][]byte           // both totals messages, in server order, once they are joined
@@ -49,7 +48,7 @@ func newServer(o options, sheet *pool.Sheet, table *pool.Table) (*server, error)
 		return nil, err
 	}
 	s := &server{own: uint(o.own), sheet: sheet, table: table, wait: o.wait, returns: int(o.returns), least: int(o.least),
-		handle: o.handle, slips: slips, stops: stops, halts: o.halts, file: o.table, courses: map[uint32]*course{},
+		handle: int(o.handle), slips: slips, stops: stops, halts: o.halts, file: o.table, courses: map[uint32]*course{},
 		late: make(chan uint32)}
 	s.pool = fmt.Sprintf("server %d, sheet %v, N %d, Q %d", s.own, sheet.Bytes(), s.returns, s.least)
 	return s, s.restore()
@@ -67,7 +66,7 @@ func (s *server) run() (pool.Totals, error) {
 			return pool.Totals{}, err
 		}
 		err := s.closeTable()
-		if errors.Is(err, pool.Few) {
+		if errors.Is(err, pool.ErrFew) {
 			err = s.more(err)
 		}
 		if err != nil {
@@ -97,8 +96,12 @@ func (s *server) closeTable() error {
 
 // more has the server handle as many returns more as are missing. Where the table can not take so many, it never closes.
 func (s *server) more(few error) error {
-	log.Printf("%v (%d of %d entered)", few, len(s.entered), s.least)
-	missing, left := s.least-len(s.entered), s.returns-s.decided
+	state, err := s.table.State()
+	if err != nil {
+		return err
+	}
+	log.Printf("%v (%d of %d entered)", few, state.Entered, state.Least)
+	missing, left := int(state.Least-state.Entered), int(state.Returns-state.Decided)
 	if missing > left {
 		s.peer.leave() // the other server may still need the last message to decide
 		return fmt.Errorf("%d are missing and %d can still be decided: this pool never closes, open a new one", missing, left)

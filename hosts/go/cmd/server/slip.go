@@ -7,14 +7,14 @@ import (
 )
 
 // typed gives the pair of a return as the keeper types it: r is one more where he slips, and the least where there is no more.
-func (s *server) typed(id uint32, pair pool.Pair) pool.Pair {
+func (s *server) typed(id uint32, pair pool.Pair) (pool.Pair, error) {
 	for _, slip := range s.slips {
 		if slip == id {
 			one := pool.Pair{R: uint64(s.sheet.Sizes().Multiplications) + 2}
 			return s.sheet.AddPairs(pair, one)
 		}
 	}
-	return pair
+	return pair, nil
 }
 
 // logPairs says which server took a return with which pair, so that the keepers see who slipped.

@@ -80,8 +80,8 @@ func TestTyped(t *testing.T) {
 		{7, pool.Pair{R: 2, S: 5}, pool.Pair{R: 3, S: 5}}, {0, pool.Pair{R: 1000}, pool.Pair{R: 1001}},
 		{7, pool.Pair{R: most, S: most}, pool.Pair{R: 2, S: most}}, {8, pool.Pair{R: 1000, S: 5}, pool.Pair{R: 1000, S: 5}},
 	} {
-		if got := s.typed(test.id, test.pair); got != test.typed {
-			t.Errorf("return %d: typed %v for %v, want %v", test.id, got, test.pair, test.typed)
+		if got, err := s.typed(test.id, test.pair); err != nil || got != test.typed {
+			t.Errorf("return %d: typed %v, %v for %v, want %v", test.id, got, err, test.pair, test.typed)
 		}
 	}
 }

@@ -80,10 +80,10 @@ func TestVerdictsThatDiffer(t *testing.T) {
 				t.Errorf("%s: logged %s, not %q", test.name, said, want)
 			}
 		}
-		if s.ended != 1 || s.decided != 1 || len(s.table.Waiting()) != 0 || (len(s.entered) == 1) != (test.ends == "entered") {
-			t.Errorf("%s: %d ended, %d decided, %v entered, %v wait", test.name, s.ended, s.decided, s.entered, s.table.Waiting())
+		if s.ended != 1 || decided(t, s) != 1 || len(s.table.Waiting()) != 0 || (len(s.entered) == 1) != (test.ends == "entered") {
+			t.Errorf("%s: %d ended, %d decided, %v entered, %v wait", test.name, s.ended, decided(t, s), s.entered, s.table.Waiting())
 		}
-		if _, err := s.table.Close(); errors.Is(err, pool.Few) != (test.ends != "entered") {
+		if _, err := s.table.Close(); errors.Is(err, pool.ErrFew) != (test.ends != "entered") {
 			t.Errorf("%s: close %v", test.name, err)
 		}
 	}

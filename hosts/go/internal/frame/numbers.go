@@ -24,9 +24,9 @@ type Number uint32
 
 func (n *Number) String() string { return strconv.FormatUint(uint64(*n), 10) }
 
-// Set reads the number from a text.
+// Set reads the number from a text, in decimal.
 func (n *Number) Set(text string) error {
-	x, err := strconv.ParseUint(text, 0, 32)
+	x, err := strconv.ParseUint(text, 10, 32)
 	if err == nil {
 		*n = Number(x)
 	}

@@ -10,7 +10,7 @@ func TestNumber(t *testing.T) {
 			t.Errorf("%q: %v, %v", text, n, err)
 		}
 	}
-	for _, text := range []string{"", "-1", "4294967296", "4294967297", "18446744073709551617", "1.5", "x"} {
+	for _, text := range []string{"", "-1", "4294967296", "4294967297", "18446744073709551617", "1.5", "x", "0x10", "+1", " 1"} {
 		n := Number(7)
 		if err := n.Set(text); err == nil || n != 7 {
 			t.Errorf("%q: %v, %v", text, n, err)

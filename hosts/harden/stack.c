@@ -94,6 +94,16 @@ static void take_share(void) { take_ids(1, 1); }
 
 static void take_seven_more(void) { take_ids(2, POOL_SLOTS); }
 
+/* Where each table stands, while eight returns wait. */
+static void tell_states(void)
+{
+    uint32_t told[8];
+    for (size_t i = 0; i < SERVERS; i++) {
+        refused |= pool_state(TABLE(&tables[i]), &told[0], &told[1], &told[2], &told[3], &told[4], &told[5], &told[6], &told[7]);
+        refused |= told[0] != SERVERS || told[1] != i || told[7] != POOL_SLOTS;
+    }
+}
+
 static void drop_seven(void)
 {
     for (uint32_t id = 1; id < POOL_SLOTS; id++)
@@ -201,9 +211,9 @@ static const struct {
 } steps[] = {
     {"sizes", tell_sizes},        {"circuit", write_circuit}, {"read_circuit", read_circuit}, {"make", make},
     {"make_seeded", make_seeded}, {"open", open_tables},      {"share", take_share},          {"shares", take_seven_more},
-    {"round_one", round_one},     {"round_two", round_two},   {"enter", enter},               {"seeds", take_seeds},
-    {"drop", drop_seven},         {"close", close_tables},    {"join", join},                 {"line", line},
-    {"shelve", shelve},           {"unshelve", unshelve},     {"every_return", every_return},
+    {"state", tell_states},       {"round_one", round_one},   {"round_two", round_two},       {"enter", enter},
+    {"seeds", take_seeds},        {"drop", drop_seven},       {"close", close_tables},        {"join", join},
+    {"line", line},               {"shelve", shelve},         {"unshelve", unshelve},         {"every_return", every_return},
 };
 
 /* Runs every step; gives the number of those that need more than was promised. */

@@ -1,6 +1,6 @@
 -- A state that is written piece by piece: each piece stands where the one before ends (`grow`), and together they are the
 -- whole of the buffer. Assumes the lengths of the pieces.
-use Rattle.std.proofs.Common.{◌≡◌, ℕ, ◌+◌, List, [], ◌∷◌, ◌++◌, length, set, ap, ◌∙◌, append_assoc, arith, length-append}
+use Rattle.std.proofs.Common.{◌≡◌, ℕ, List, [], ◌∷◌, ◌++◌, length, set, ap, ◌∙◌, append_assoc, arith, length-append}
 use lib.Seq.{set_at}
 use Rattle.words.specs.Bytes.{splice, elements_of}
 use Rattle.words.proofs.Splice.{splice_all, length_splice}

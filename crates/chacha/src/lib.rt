@@ -1,5 +1,7 @@
 // The block function of ChaCha20, RFC 8439, on a state of sixteen words. Each contract is an equality with a definition of
 // specs/ChaCha.antt, which goes by the sections of the RFC. No step depends on the value of a word.
+#![tactic(auto)]
+
 ghost use Rattle.std.specs.Prelude.{◌≡◌, ◌+◌, ◌/◌, ◌<◌, ◌≤◌, length};
 ghost use Rattle.words.specs.Bytes.{splice, elements_of};
 ghost use Rattle.chacha.specs.Words.{rotated};

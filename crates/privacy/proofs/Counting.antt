@@ -84,11 +84,13 @@ module _ (p : ℕ) where
 -- sums over a list: one member's term is among them; where it alone is not 0 it is the sum; equal terms
 has_term : (f : ℕ → ℕ) (x : ℕ) (s : List ℕ) → In x s → f x ≤ sum_over f s
 unfolding sum_over
+has_term f x [] k = elim k [ ]
 has_term f x (y ∷ s) (inl e) = omega (arith, ap f e)
 has_term f x (y ∷ s) (inr k) = omega (arith, has_term f x s k)
 
 only_term : (f : ℕ → ℕ) (x : ℕ) (s : List ℕ) → In x s → Distinct s → ((y : ℕ) → y ≢ x → f y ≡ 0) → sum_over f s ≡ f x
 unfolding sum_over
+only_term f x [] k _ h = elim k [ ]
 only_term f x (y ∷ s) (inl e) (distinct∷ fresh d) h =
     let others : sum_over f s ≡ 0 =
     sum_cong f (λ z. 0) s (λ z k. h z (λ q. all_in z s fresh k (q ∙ sym e))) ∙ sum_none s in

@@ -19,7 +19,7 @@ use Rattle.privacy.specs.Sight.{Case, columns, share_from, sight, same_sight}
 use Rattle.privacy.specs.Hidden.{Fits, choices_of, IsValid}
 use Rattle.privacy.specs.Examples.{yes_no_case}
 use Rattle.privacy.proofs.Entries.{valid_of_values}
-use Rattle.privacy.proofs.Hidden.{document01_hidden}
+use Rattle.privacy.proofs.Hiding.{document01_hidden}
 
 module _ (left_out : ℕ) (is_server : left_out < 2) where
   abbrev c : Case

@@ -15,5 +15,5 @@ pub mod Written
 pub mod SameSight
 -- Entries and the values that they encode; the claim; the claim applied
 pub mod Entries
-pub mod Hidden
+pub mod Hiding
 pub mod Examples

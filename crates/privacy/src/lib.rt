@@ -1,1 +1,3 @@
+#![tactic(auto)]
+
 // What a curious server learns, as definitions and theorems in specs/ and proofs/. There is no code in this crate.

@@ -1,11 +1,13 @@
 // Records and refusals: the definitions are in specs/. Here: the answer of a call that writes, how it is handed to a host,
 // and the first of two refusals.
+#![tactic(auto)]
+
 ghost use Rattle.std.specs.Prelude.{◌≡◌};
 ghost use Rattle.records.specs.Answers.{number_of, length_of};
 ghost use Rattle.records.specs.Outcome.{or_else};
 
 // The number of bytes that were written, or the number of the refusal.
-#[derive(Drop)]
+#[derive(Clone, Copy)]
 pub enum Written {
     Done(usize),
     Refused(u32),

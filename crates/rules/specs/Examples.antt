@@ -8,7 +8,7 @@ use Prim.Native.String.{String}
 use Rattle.algebra.specs.Modulo.{modulo}
 use Rattle.words.specs.Bytes.{bytes_of, bytes_of_all, same_bytes}
 use Rattle.rules.specs.Settings.{Setting, document01}
-use Rattle.rules.specs.Columns.{Column, yes_no, choice, number, entries_in, published_from, fault_in, sheet_fault, columns_of}
+use Rattle.rules.specs.Columns.{Column, yes_no, choice, entries_in, published_from, fault_in, sheet_fault, columns_of}
 use Rattle.rules.specs.Circuit.{Step, constant, multiply, test, gates_in, tests_in, wires_in, circuit_of, circuit_bytes}
 use Rattle.rules.specs.CircuitReader.{circuit_fault, circuit_limits, count_in, step_wires, step_gates, step_tests}
 use Rattle.rules.specs.Values.{encoding}

@@ -1,7 +1,7 @@
 -- Columns of two numbers and the line through them, by rows that compute: their limits on both sides, entries and steps, what a
 -- sheet with them comes to, lists that are none of their encodings, and the line told from joined totals.
 -- Assumes nothing.
-use Rattle.std.specs.Prelude.{Bool, ◌&&◌, not, List, [], ◌∷◌, ◌++◌, ℕ, ◌+◌, eqb, ℤ, pos, negsuc, ◌-ℤ◌, get_or}
+use Rattle.std.specs.Prelude.{Bool, ◌&&◌, not, List, [], ◌∷◌, ◌++◌, ℕ, eqb, ℤ, pos, negsuc, ◌-ℤ◌, get_or}
 use Rattle.algebra.specs.Lists.{every, count_from}
 use Rattle.algebra.specs.Modulo.{modulo}
 use Rattle.words.specs.Bytes.{bytes_of, bytes_of_all}

@@ -1,6 +1,6 @@
 -- Document 01, "Sheet and circuit" and "Judging": the run of a circuit. One evaluator, over what the wires may hold.
 -- Assumes nothing.
-use Rattle.std.specs.Prelude.{◌≡◌, List, [], ◌∷◌, ◌++◌, ℕ, suc, ◌+◌, length, get_or}
+use Rattle.std.specs.Prelude.{◌≡◌, List, [], ◌∷◌, ◌++◌, ℕ, suc, length, get_or}
 use Rattle.algebra.specs.Lists.{All}
 use Rattle.algebra.specs.Ops.{Ops}
 use Rattle.rules.specs.Settings.{Setting}

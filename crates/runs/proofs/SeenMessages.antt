@@ -14,7 +14,7 @@ use Rattle.rules.proofs.Computed.Facts.{document01_facts}
 use Rattle.privacy.specs.Hidden.{choices_of}
 use Rattle.privacy.specs.InPool.{case_in, SeenInPool}
 use Rattle.privacy.proofs.Written.{seen_in_pool}
-use Rattle.privacy.proofs.Hidden.{document01_hidden}
+use Rattle.privacy.proofs.Hiding.{document01_hidden}
 use Rattle.runs.proofs.TwoServers.{sheet}
 use Rattle.runs.proofs.Premises.{early_pool, value_bytes, random_bytes, not_refused, can_take}
 

@@ -1,8 +1,3 @@
--- Laws of the eight records, and the steps by which functions over the lent slice are walked, here and in other crates.
+-- Laws of the eight records, and of places in a list of records.
 pub mod Eight
-pub mod Element
-pub mod Env
 pub mod Places
-pub mod Shared
-pub mod Thin
-pub mod Walk

@@ -1,11 +1,13 @@
-// The waiting list: a lent slice of eight records. Functions over the slice are few and thin, since each is proved by a walk of
-// its code: the eight are copied out, the rules work on them by value, and one change is applied.
+// The waiting list: a lent slice of eight records. Functions over the slice are few and thin: the eight are copied out, the
+// rules work on them by value, and one change is applied.
+#![tactic(auto)]
+
 ghost use Rattle.std.specs.Prelude.{◌≡◌, ◌<◌, length, replicate};
 ghost use Rattle.slots.specs.Slots.{broken_slot, eight_of, applied, cleared};
 
 // A return that waits: its stage is 0 where the record is free.
 #[repr(C)]
-#[derive(Drop)]
+#[derive(Clone, Copy)]
 pub struct Slot {
     pub id: u32,
     pub stage: u32,
@@ -16,7 +18,7 @@ pub struct Slot {
 }
 
 // What a call does to the list: nothing where it is refused, else one record anew.
-#[derive(Drop)]
+#[derive(Clone, Copy)]
 pub struct Change {
     pub refusal: u32,
     pub at: usize,

@@ -3,7 +3,7 @@
 -- Assumes that the width is not 0, where it is said.
 use mathlib.Core.Path.{◌≡◌, refl, sym, ap, ap₂, ◌∙◌}
 use mathlib.Core.List.{List, [], ◌∷◌, ◌++◌, append_assoc, append-nil}
-use Prim.Native.Nat.{ℕ, zero, suc, ◌+◌, ◌*◌, ◌/◌, ◌-◌, ◌^◌, ◌≤◌, ◌<◌}
+use Prim.Native.Nat.{ℕ, zero, suc, ◌+◌, ◌*◌, ◌/◌, ◌^◌, ◌≤◌, ◌<◌}
 use native.Mathlib.Nat.{mul-zero, mul-add, mul-le-mul_left, mul-add-div, mul-div_right}
 use native.Mathlib.Nat.{div-eq_of_lt, le-div_iff_mul-le}
 use native.Mathlib.Omega.{arith}

@@ -1,5 +1,7 @@
 // Bytes copied and compared, and numbers as bytes, lowest byte first. The definitions that the contracts cite, over any
 // width, are in specs/Bytes.antt. Each function asks that what it reads or writes lies within the slice.
+#![tactic(auto)]
+
 ghost use Rattle.std.specs.Prelude.{◌≡◌, ◌+◌, ◌*◌, ◌≤◌, length};
 ghost use Rattle.words.specs.Bytes.{value_of, bytes_of, part, splice, same_bytes};
 

@@ -2,7 +2,7 @@
 -- Linearity in the servers, and the way from a field to numbers, are uses of this one law. Assumes nothing.
 use mathlib.Core.Path.{◌≡◌, refl, sym, ◌∙◌, ap, ap₂}
 use mathlib.Core.List.{List, [], ◌∷◌, ◌++◌, map, map-append}
-use Prim.Native.Nat.{ℕ, zero, suc, ◌+◌}
+use Prim.Native.Nat.{ℕ, suc}
 use lib.ListN.{length, get_or, length-map, get_or-map}
 use Rattle.algebra.specs.Ops.{Ops, Hom}
 use Rattle.rules.specs.Circuit.{Step, constant, entry, add, scale, multiply, test}

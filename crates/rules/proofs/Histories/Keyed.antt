@@ -1,7 +1,7 @@
 -- Lists whose members have an id. What is found has the id and can be taken out; looking up, changing and taking out go
 -- through a map that keeps ids, leave the members of other ids alone, and see only those of the id itself. Assumes nothing.
 use mathlib.Core.Path.{◌≡◌, refl, sym, ap, ◌∙◌, subst}
-use mathlib.Core.Logic.{◌≢◌, inl, inr, ◌⊎◌, ⊎_elim}
+use mathlib.Core.Logic.{inl, inr, ◌⊎◌, ⊎_elim}
 use mathlib.Core.Bool.{Bool, true, false, cond, ◌||◌, true≢false}
 use mathlib.Core.List.{List, [], ◌∷◌, ◌++◌, map}
 use mathlib.Core.Option.{Option, some, none}

@@ -26,7 +26,7 @@ use Rattle.rules.proofs.Histories.Judged.{JudgedIn, Stands, awaits, was_entered,
 
 module _ (σ : Setting) (o : Opened) where
   -- ---- the verdict makes it stand so
-  verdict_stands : {l l' : Ledger} {id : ℕ} {joined : List ℕ} {a : Answer} {h : List (List ℕ)}
+  verdict_stands : {l : Ledger} {id : ℕ} {l' : Ledger} {joined : List ℕ} {a : Answer} {h : List (List ℕ)}
       → Moves σ o l (round_two id joined) a h l' → (v : Bool) → a ≡ judged v → Stands σ o l' id v
   unfolding accept_noted
   verdict_stands (stays l n) v e = absurd (let z : ◌≡◌ {A = ℕ} 0 1 = cc in omega arith)

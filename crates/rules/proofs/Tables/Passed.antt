@@ -8,7 +8,6 @@ use Prim.Native.Nat.{ℕ, ◌+◌, ◌^◌, ◌≤◌, ◌<◌}
 use native.Mathlib.Omega.{arith}
 use borrow.Author.Tests.{ltb-true, not-true}
 use lib.Dec.{eqb, ltb}
-use lib.ListN as lists
 use lib.ListN.{length}
 use Rattle.algebra.specs.Lists.{All, In}
 use Rattle.algebra.proofs.Members.{and_left, in_all, append_in}

@@ -1,5 +1,7 @@
 // Inner products of slices of elements modulo the prime. Each contract is an equality with a definition of algebra at
 // that prime. No step depends on the value of an element, and none divides: / and % by TOP are a shift and a mask.
+#![tactic(auto)]
+
 ghost use Rattle.std.specs.Prelude.{◌≡◌, ◌-◌, ◌*◌, ◌%◌, ◌<◌, ◌≤◌, length, get_or};
 ghost use Rattle.algebra.specs.Sums.{inner as Sums·inner};
 ghost use Rattle.field.specs.Residues.{prime, top, residues, Elements};

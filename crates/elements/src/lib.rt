@@ -1,5 +1,7 @@
 // Runs of elements as bytes: each element is four bytes, lowest byte first. The definitions that the contracts cite, over
 // any width, are in the crate words. `at`, `read` and `write` ask that what they read or write lies within the slice.
+#![tactic(auto)]
+
 ghost use Rattle.std.specs.Prelude.{◌≡◌, ◌+◌, ◌*◌, ◌≤◌, length, get_or};
 ghost use Rattle.words.specs.Bytes.{bytes_of_all, splice, elements_of, all_below};
 

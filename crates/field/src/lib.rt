@@ -1,6 +1,8 @@
 // Arithmetic modulo the prime 2147483647. An element is a u32 below the prime. Each contract is an equality with a
 // definition of algebra at that prime, which also says that the result is an element. No step depends on the value of
 // an element, and none divides: / and % by TOP are a shift and a mask.
+#![tactic(auto)]
+
 ghost use Rattle.std.specs.Prelude.{◌≡◌, ◌+◌, ◌*◌, ◌/◌, ◌%◌, ◌<◌};
 ghost use Rattle.algebra.specs.Ops.{minus};
 ghost use Rattle.field.specs.Residues.{prime, top, residues};

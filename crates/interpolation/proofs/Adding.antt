@@ -2,17 +2,16 @@
 -- the numerator and of the product. Assumes nothing.
 use mathlib.Core.Path.{◌≡◌, refl, sym, ◌∙◌, ap, ap₂}
 use mathlib.Core.List.{List}
-use Prim.Native.Nat.{ℕ, suc, ◌+◌, ◌<◌, ◌≤◌}
+use Prim.Native.Nat.{ℕ, suc, ◌+◌, ◌<◌}
 use native.Mathlib.Nat.{mod-lt}
 use native.Mathlib.Omega.{arith}
 use lib.Dec.{lit<}
 use Rattle.algebra.specs.Ops.{minus}
 use Rattle.algebra.specs.Sums.{product}
-use Rattle.algebra.specs.Interpolation.{ascending, numerator}
+use Rattle.algebra.specs.Interpolation.{numerator}
 use Rattle.algebra.proofs.Ring.{mul_assoc}
 use Rattle.algebra.proofs.Fractions.{id_two}
 use Rattle.field.specs.Residues.{prime, residues}
-use Rattle.field.proofs.Below.{product_below}
 use Rattle.interpolation.specs.declared.Fraction.{Fraction}
 use Rattle.interpolation.specs.Fractions.{Element, plus_of, term_at, sum_of}
 use Rattle.quotients.proofs.Numbers.{𝓕}

@@ -1,13 +1,15 @@
 // The polynomial through given values at the points 0, 1, .., at one place r, which may be a point: a sum of fractions, each
 // a value times its weight over r - j, of which the numerator is kept and the product of the denominators; nothing is
 // divided. Elements are u32 below the prime. No step depends on the value of an element.
+#![tactic(auto)]
+
 ghost use Rattle.std.specs.Prelude.{◌≡◌, ◌+◌, ◌-◌, ◌<◌, ◌≤◌, length};
 ghost use Rattle.algebra.specs.Ops.{minus};
 ghost use Rattle.field.specs.Residues.{prime, residues, Elements};
 ghost use Rattle.interpolation.specs.Fractions.{plus_of, term_at, sum_of, Element};
 
 // over / under, where under may be 0.
-#[derive(Drop)]
+#[derive(Clone, Copy)]
 pub struct Fraction {
     pub over: u32,
     pub under: u32,

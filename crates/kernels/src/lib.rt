@@ -1,5 +1,7 @@
-// The loops of `dot` and `loops` as functions that C and Rust can call, for measuring them. Each takes any arguments:
-// it answers 0 where they fit, and else 1 and changes nothing.
+// The loops of `dot` and `loops` as functions that C and Rust can call, for measuring them: `kernels_c` exports them. Each takes any
+// arguments: it answers 0 where they fit, and else 1 and changes nothing.
+#![tactic(auto)]
+
 ghost use Rattle.std.specs.Prelude.{length, get_or};
 ghost use Rattle.algebra.specs.Sums.{inner, power};
 ghost use Rattle.algebra.specs.Interpolation.{ascending};
@@ -7,8 +9,7 @@ ghost use Rattle.algebra.specs.Lists.{tabulate};
 ghost use Rattle.field.specs.Residues.{residues};
 ghost use Rattle.kernels.specs.Outcomes.{Outcome, inner_fits, point_fits, powers_fit};
 
-#[unsafe(no_mangle)]
-pub extern "C" fn kernel_inner(a: &[u32], b: &[u32], out: &mut u32) -> u32
+pub fn kernel_inner(a: &[u32], b: &[u32], out: &mut u32) -> u32
     ensures { Outcome (inner_fits a.now b.now)
         (inner residues (length a.now) (λ i. get_or a.now i 0) (λ i. get_or b.now i 0))
         out.old result out.new }
@@ -23,8 +24,7 @@ pub extern "C" fn kernel_inner(a: &[u32], b: &[u32], out: &mut u32) -> u32
     0
 }
 
-#[unsafe(no_mangle)]
-pub extern "C" fn kernel_ascending(x: u32, out: &mut [u32]) -> u32
+pub fn kernel_ascending(x: u32, out: &mut [u32]) -> u32
     ensures { Outcome (point_fits x out.old)
         (tabulate (λ j. ascending residues 0 j x) (length out.old))
         out.old result out.new }
@@ -39,8 +39,7 @@ pub extern "C" fn kernel_ascending(x: u32, out: &mut [u32]) -> u32
     0
 }
 
-#[unsafe(no_mangle)]
-pub extern "C" fn kernel_powers(s: u32, out: &mut [u32]) -> u32
+pub fn kernel_powers(s: u32, out: &mut [u32]) -> u32
     ensures { Outcome (powers_fit s) (tabulate (power residues s) (length out.old))
         out.old result out.new }
 {

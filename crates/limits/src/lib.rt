@@ -1,5 +1,7 @@
 // The limits of document 01 that several calls test: S, N, the elements of a share, the pair r, s; and document 02's least count
 // Q. Each contract is an equality with rules, or with specs/, which is rules' by the numbers of code.
+#![tactic(auto)]
+
 ghost use Rattle.std.specs.Prelude.{◌≡◌, ◌≤◌};
 ghost use Rattle.rules.specs.Columns.{servers_fault, least_fits};
 ghost use Rattle.limits.specs.Sheets.{size_of, pair_sound};

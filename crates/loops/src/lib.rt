@@ -1,5 +1,7 @@
 // Loops that fill a slice with elements modulo the prime, each from one before it: products of differences, and powers.
 // Each contract is an equality with a definition of algebra at that prime. No step depends on the value of an element.
+#![tactic(auto)]
+
 ghost use Rattle.std.specs.Prelude.{◌≡◌, ◌<◌, ◌≤◌, length, take};
 ghost use Rattle.algebra.specs.Sums.{power};
 ghost use Rattle.algebra.specs.Interpolation.{ascending as Interpolation·ascending};

@@ -6,7 +6,6 @@ use Prim.Native.Nat.{ℕ, suc, ◌+◌, ◌-◌, ◌*◌, ◌/◌, ◌%◌, ◌<
 use native.Mathlib.Nat.{mod-eq_of_lt}
 use native.Mathlib.Omega.{arith}
 use lib.ListN.{length, get_or}
-use Rattle.algebra.specs.Lists.{tabulate}
 use Rattle.algebra.specs.Sums.{product}
 use Rattle.algebra.proofs.Remainders.{mul_mod_mod, mod_mul_mod}
 use Rattle.algebra.proofs.Tables.{get_d_tabulate}

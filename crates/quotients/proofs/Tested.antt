@@ -18,7 +18,6 @@ use Rattle.algebra.proofs.Remainders.{mul_mod}
 use Rattle.algebra.proofs.Tables.{tabulate_cong, tabulate_get_d}
 use Rattle.algebra.proofs.Trial.{prime_2147483647}
 use Rattle.field.specs.Residues.{prime, residues}
-use Rattle.field.proofs.Below.{inverse_below}
 use Rattle.quotients.specs.Factorials.{Inverses}
 
 -- x is an element, and a times x leaves 1

@@ -1,6 +1,8 @@
 // The inverses of 1 to 512 modulo the prime, from one constant table, and the weights of the points 0, .., n for n up to
 // 512, as products of its numbers, so that no call works out an inverse. That the table is right is proved by one test of
 // its entries, which the prover computes: number times inverse leaves 1.
+#![tactic(auto)]
+
 ghost use Rattle.std.specs.Prelude.{◌≡◌, suc, ◌+◌, ◌-◌, ◌/◌, ◌<◌, ◌≤◌, length, take, drop};
 ghost use Rattle.algebra.specs.Lists.{tabulate};
 ghost use Rattle.algebra.specs.Interpolation.{weight, sign};

@@ -1,5 +1,7 @@
 // The circuit reader: the counts of a circuit, or the number of the first refusal. The contract of `read` is an equality
 // with rules' `read_circuit`, and asks nothing of the caller.
+#![tactic(auto)]
+
 ghost use Rattle.std.specs.Prelude.{◌≡◌, cond, ◌&&◌, ◌-◌, ◌≤◌, ltb, eqb, length, get_or};
 ghost use Rattle.words.specs.Bytes.{value_of, part};
 ghost use Rattle.records.specs.Outcome.{or_else};
@@ -12,7 +14,7 @@ ghost use Rattle.circuit.specs.Reading.{BodyTable, limited_counts, reading_in, r
 use records::or_else;
 
 // What a circuit comes to.
-#[derive(Drop)]
+#[derive(Clone, Copy)]
 pub struct Counts {
     pub wires: u32,
     pub multiplications: u32,
@@ -20,7 +22,7 @@ pub struct Counts {
 }
 
 // The counts of a circuit that is read, or the number of the refusal.
-#[derive(Drop)]
+#[derive(Clone, Copy)]
 pub enum Reading {
     Counts(Counts),
     Refused(u32),

@@ -1,5 +1,7 @@
 // One column by itself. A new kind is one case more in each function: the length of its body, the column that a body says,
 // what it comes to, its largest value. The definitions that the contracts cite are those of the crate rules and of specs/.
+#![tactic(auto)]
+
 ghost use Rattle.std.specs.Prelude.{◌≡◌, [], ◌∷◌, ◌+◌, ◌^◌, ◌≤◌, length};
 ghost use Rattle.rules.specs.Columns.{choice, number, top, point, bit_length, within, limited_column, column_of, largest_of};
 ghost use Rattle.rules.proofs.Circuits.Limits.{InLimits};
@@ -8,7 +10,7 @@ ghost use Rattle.columns.specs.Kinds.{bytes_of_kind, judged_of, from_code};
 
 // What columns come to: entries, published entries, constants, multiplications, those of them that check no bit, and tests; and
 // their largest value.
-#[derive(Drop)]
+#[derive(Clone, Copy)]
 pub struct Counts {
     pub columns: usize,
     pub entries: usize,
@@ -22,7 +24,7 @@ pub struct Counts {
 
 // A column: yes/no, a choice of so many options, a number of so many bits, a number up to a top, a point of two numbers of so
 // many bits.
-#[derive(Drop)]
+#[derive(Clone, Copy)]
 pub enum Column {
     YesNo,
     Choice(usize),
@@ -32,7 +34,7 @@ pub enum Column {
 }
 
 // What a record says: a column, or the number of its refusal.
-#[derive(Drop)]
+#[derive(Clone, Copy)]
 pub enum Judged {
     Taken(Column),
     Refused(u32),
@@ -180,7 +182,7 @@ pub fn largest_of(column: Column) -> u32
 }
 
 // The bit length of a top.
-pub fn bit_length_lem(n: u32) -> usize
+pub fn bit_length(n: u32) -> usize
     requires { (1 ≤ n) × (n ≤ 16777215) }
     ensures { result ≡ bit_length n }
 {
@@ -258,7 +260,7 @@ pub fn counts_of(column: Column) -> Counts
             tests: n + 1,
             largest,
         },
-        Column::Top(n) => top_counts(bit_length_lem(n), n),
+        Column::Top(n) => top_counts(bit_length(n), n),
         Column::Point(n) => point_counts(n, largest),
     }
 }

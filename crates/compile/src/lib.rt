@@ -1,6 +1,8 @@
 // The circuit writer: the steps of a sheet's circuit, written column by column. Each function writes a run of steps at a
 // place and returns the place behind it; its contract names the run and says that nothing else changes (`Put`). The contract
 // of `write` is an equality with rules' `sheet_circuit` and `sheet_circuit_refusal`, and asks nothing of the caller.
+#![tactic(auto)]
+
 ghost use Rattle.std.specs.Prelude.{◌≡◌, [], ◌∷◌, ◌++◌, ◌+◌, ◌*◌, ◌≤◌, ◌<◌, length};
 ghost use Rattle.words.specs.Bytes.{bytes_of};
 ghost use Rattle.records.specs.Outcome.{ok};
@@ -17,7 +19,7 @@ ghost use Rattle.compile.specs.Writing.{Put, rest_steps, written_of, circuit_in}
 
 mod points;
 
-use columns::{Column, Counts, bit_length_lem, counts_of};
+use columns::{Column, Counts, bit_length, counts_of};
 use points::put_point;
 use records::Written;
 use sheet::Reading;
@@ -189,7 +191,7 @@ fn put_column(out: &mut [u8], at: usize, column: Column, e: u32, w: u32) -> usiz
         Column::YesNo => bit_checks(out, at, 1, e, w),
         Column::Choice(n) => put_choice(out, at, n as u32, e, w),
         Column::Number(n) => put_number(out, at, n as u32, e, w),
-        Column::Top(n) => put_top(out, at, n, bit_length_lem(n) as u32, e, w),
+        Column::Top(n) => put_top(out, at, n, bit_length(n) as u32, e, w),
         Column::Point(n) => put_point(out, at, n as u32, e, w),
     }
 }

@@ -1,6 +1,8 @@
 // Every legal list of values of a small sheet, one after another in rising order. They are written column by column: along
 // the lists, a column's value stays for as many lists as the columns behind it have, then rises, and starts again at 0. The
 // contract of `write` is an equality with rules' definitions, and asks nothing of the caller.
+#![tactic(auto)]
+
 ghost use Rattle.std.specs.Prelude.{◌≡◌, ◌+◌, ◌*◌, ◌/◌, ◌%◌, ◌≤◌, ◌<◌, length};
 ghost use Rattle.words.specs.Bytes.{splice};
 ghost use Rattle.rules.specs.Columns.{columns_of};
@@ -15,21 +17,21 @@ use values::values_of;
 const MAX_LISTS: u64 = 4096;
 
 // What a call that is not refused comes to: the columns, the lists, and how many bytes were written.
-#[derive(Drop)]
+#[derive(Clone, Copy)]
 pub struct Lists {
     pub columns: usize,
     pub lists: u32,
     pub written: usize,
 }
 
-#[derive(Drop)]
+#[derive(Clone, Copy)]
 pub enum Listed {
     Done(Lists),
     Refused(u32),
 }
 
 // A column's value in a list, and in how many lists it stands from there on.
-#[derive(Drop)]
+#[derive(Clone, Copy)]
 struct Count {
     value: u32,
     left: u32,

@@ -9,7 +9,7 @@ ghost use Rattle.sheet.specs.Cursor.{begin, Stands, step_at};
 use columns::{Column, Judged, bytes_of, column_of, counts_of};
 
 // Before a column: its index and its byte place, the entries, the published entries and the multiplications before it.
-#[derive(Drop)]
+#[derive(Clone, Copy)]
 pub struct Cursor {
     pub index: usize,
     pub at: usize,
@@ -19,7 +19,7 @@ pub struct Cursor {
 }
 
 // The column under a cursor, and the cursor behind it.
-#[derive(Drop)]
+#[derive(Clone, Copy)]
 pub struct Step {
     pub column: Column,
     pub next: Cursor,

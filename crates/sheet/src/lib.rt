@@ -1,5 +1,7 @@
 // The sheet: its reader, a cursor over its columns, and the limit on returns. The definitions that the contracts cite are
 // those of the crate rules and of specs/.
+#![tactic(auto)]
+
 ghost use Rattle.std.specs.Prelude.{◌≡◌, max};
 ghost use Rattle.columns.specs.Counting.{Small};
 ghost use Rattle.sheet.specs.Reading.{more, Countable, limited, reading_of};
@@ -10,7 +12,7 @@ pub mod returns;
 use columns::{Column, Counts, Judged, bytes_of, column_of, counts_of, none};
 
 // What a sheet comes to, or the number of its refusal.
-#[derive(Drop)]
+#[derive(Clone, Copy)]
 pub enum Reading {
     Counts(Counts),
     Refused(u32),

@@ -1,5 +1,7 @@
 // Room told from the sheet: what a sheet comes to, found from the counts of its reading. The definitions that the contracts
 // cite are those of the crate rules, at document 01's setting, and of specs/.
+#![tactic(auto)]
+
 ghost use Rattle.std.specs.Prelude.{◌≡◌, suc, ◌*◌, ◌≤◌, ◌<◌, get_or};
 ghost use Rattle.rules.specs.Settings.{document01};
 ghost use Rattle.rules.specs.CircuitReader.{body_lengths};
@@ -12,7 +14,7 @@ use columns::Counts;
 use sheet::Reading;
 
 // What a sheet comes to.
-#[derive(Drop)]
+#[derive(Clone, Copy)]
 pub struct Sizes {
     pub columns: u32,
     pub entries: u32,
@@ -28,7 +30,7 @@ pub struct Sizes {
 }
 
 // What a sheet comes to, or the number of its refusal.
-#[derive(Drop)]
+#[derive(Clone, Copy)]
 pub enum Told {
     Sizes(Sizes),
     Refused(u32),

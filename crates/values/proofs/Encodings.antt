@@ -76,15 +76,19 @@ module _ (n v : ℕ) where
   unfolding encoded point_entry
   behind_products i = let e : 4 + i ≡ suc (suc (suc (suc i))) = omega arith in rw e refl
 
+  entries_so : tabulate (encoded (point n) v) (4 + 2 * n)
+      ≡ (v % 2 ^ n ∷ v % 2 ^ n * (v % 2 ^ n) ∷ v / 2 ^ n ∷ v % 2 ^ n * (v / 2 ^ n) ∷ [])
+      ++ tabulate (λ j. v % 2 ^ n / 2 ^ j % 2) n ++ tabulate (λ j. v / 2 ^ n / 2 ^ j % 2) n
+  unfolding encoded point_entry tabulate
+  entries_so =
+      tabulate_append (encoded (point n) v) 4 (2 * n)
+      ∙ ap (λ (l : List ℕ). v % 2 ^ n ∷ v % 2 ^ n * (v % 2 ^ n) ∷ v / 2 ^ n ∷ v % 2 ^ n * (v / 2 ^ n) ∷ l)
+      (tabulate_cong _ _ (2 * n) (λ i h. behind_products i) ∙ two_bits n (v % 2 ^ n) (v / 2 ^ n))
+
   pub point_entries : (x y : ℕ) → x ≡ v % 2 ^ n → y ≡ v / 2 ^ n
       → tabulate (encoded (point n) v) (4 + 2 * n)
       ≡ (x ∷ x * x ∷ y ∷ x * y ∷ []) ++ tabulate (λ j. x / 2 ^ j % 2) n ++ tabulate (λ j. y / 2 ^ j % 2) n
-  unfolding encoded point_entry tabulate
-  point_entries x y first second =
-      rw (first, second)
-      (tabulate_append (encoded (point n) v) 4 (2 * n)
-      ∙ ap (λ (l : List ℕ). v % 2 ^ n ∷ v % 2 ^ n * (v % 2 ^ n) ∷ v / 2 ^ n ∷ v % 2 ^ n * (v / 2 ^ n) ∷ l)
-      (tabulate_cong _ _ (2 * n) (λ i h. behind_products i) ∙ two_bits n (v % 2 ^ n) (v / 2 ^ n)))
+  point_entries x y first second = rw (first, second) entries_so
 
 -- ---- column by column
 pub encoding_next : (cs : List Column) (vs : List ℕ) (k : ℕ) → k < length cs → k < length vs

@@ -1,4 +1,6 @@
 // The values of a return: whether there is one for each column, within it, and their encoding as the sheet's entries.
+#![tactic(auto)]
+
 ghost use Rattle.std.specs.Prelude.{◌≡◌, cond, [], ◌∷◌, ◌+◌, ◌-◌, ◌*◌, ◌/◌, ◌%◌, ◌^◌, ◌≤◌, ◌<◌, eqb, length};
 ghost use Rattle.algebra.specs.Lists.{tabulate};
 ghost use Rattle.words.specs.Bytes.{splice};
@@ -9,7 +11,7 @@ ghost use Rattle.rules.proofs.Circuits.Limits.{InLimits};
 ghost use Rattle.columns.specs.Kinds.{from_code};
 ghost use Rattle.values.specs.Encode.{encode_refusal, encoded_into, Encoded, HasColumns, Encodable};
 
-use columns::{Column, bit_length_lem, power};
+use columns::{Column, bit_length, power};
 use sheet::cursor::{next, start};
 use sheet::{Reading, read};
 
@@ -109,7 +111,7 @@ fn write_top(out: &mut [u32], at: usize, n: u32, v: u32)
     requires { (at + entries_of (top n) ≤ length out.old) × InLimits (top n) }
     ensures { out.new ≡ splice out.old at (tabulate (encoded (top n) v) (entries_of (top n))) }
 {
-    let b = bit_length_lem(n);
+    let b = bit_length(n);
     write_number(out, at, b, v);
     write_bits(out, at + 1 + b, b, rest(n, v));
 }

@@ -1,0 +1,10 @@
+-- `columns::point_counts`: each count is that of the definition. Assumes nothing.
+use mathlib.Core.Path.{refl}
+use Rattle.rules.specs.Columns.{entries_of, published_of}
+use Rattle.rules.specs.Circuit.{constants_of, gates_of, products_at, products_of, tests_of}
+use Rattle.columns.proofs.Taken.{counts_one}
+use Rattle.columns.proofs.point_counts.Goals as goal
+
+pub returns : goal.returns
+unfolding entries_of published_of constants_of gates_of products_of products_at tests_of
+returns c = rw (counts_one _, ← c.requires.1) refl

@@ -1,6 +1,8 @@
 // The messages of the two rounds: what is at fault in joined ones, in whatever order they arrived, the sums over them, and one
 // written, at document 01's prime and width. The contracts cite the crate rules and specs/. Joined bytes may be any slice: their
 // length is checked first.
+#![tactic(auto)]
+
 ghost use Rattle.std.specs.Prelude.{◌≡◌, [], ◌∷◌, ◌≤◌, ◌<◌, length};
 ghost use Rattle.words.specs.Bytes.{splice};
 ghost use Rattle.rules.specs.Settings.{document01};

@@ -1,5 +1,7 @@
 // The elements that a seed stands for: ChaCha20 keyed by the seed, counted from 0, with the id in its nonce. The contract of
 // `fill_elements` is an equality with rules' definition at document 01's setting. No step depends on the value of a seed.
+#![tactic(auto)]
+
 ghost use Rattle.std.specs.Prelude.{◌≡◌, ◌-◌, ◌≤◌, ◌^◌, length, get_or};
 ghost use Rattle.algebra.specs.Lists.{tabulate};
 ghost use Rattle.chacha.specs.ChaCha.{mixed};

@@ -1,6 +1,8 @@
 // The share message of either kind: what is at fault in its header, its elements or its seed, and what is written before them, at
 // document 01's prime and width. A round message begins as a share does: kind byte, id, server. The contracts cite the crate rules
 // and specs/.
+#![tactic(auto)]
+
 ghost use Rattle.std.specs.Prelude.{◌≡◌, ◌+◌, ◌≤◌, length};
 ghost use Rattle.words.specs.Bytes.{splice};
 ghost use Rattle.rules.specs.Seeds.{seed_kind};

@@ -1,4 +1,6 @@
 // Words of four bytes that stand in a run at equal steps, as the elements of joined messages do: their sum.
+#![tactic(auto)]
+
 ghost use Rattle.std.specs.Prelude.{◌≡◌};
 ghost use Rattle.steps.specs.Words.{Words, sum_of};
 

@@ -1,6 +1,8 @@
 // The totals message: what is at fault in joined ones, the sums over them, and what is written before the totals, at
 // document 01's prime and width. The contracts cite the crate rules and specs/. Joined bytes may be any slice: their length
 // is checked first.
+#![tactic(auto)]
+
 ghost use Rattle.std.specs.Prelude.{◌≡◌, ◌≤◌, length};
 ghost use Rattle.words.specs.Bytes.{splice};
 ghost use Rattle.rules.specs.Settings.{document01};

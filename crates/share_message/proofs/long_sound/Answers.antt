@@ -1,0 +1,13 @@
+-- `share_message::long_sound` meets its contract: the length decides, or the kind byte does. Assumes nothing.
+use mathlib.Core.Path.{refl}
+use borrow.Author.Tests.{eq-eqb, ne_eqb}
+use Rattle.share_message.specs.Shares.{long_sound}
+use Rattle.share_message.proofs.long_sound.Goals as goal
+
+pub returns-then-m-size : goal.returns-then-m-size
+unfolding long_sound
+returns-then-m-size c = rw (ne_eqb _ _ c.if-m-size.true)
+
+pub returns : goal.returns
+unfolding long_sound
+returns c = rw (eq-eqb _ _ c.if-m-size.false) refl

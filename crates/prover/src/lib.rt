@@ -3,6 +3,8 @@
 // 1, .., M where a bit is checked, so that g needs no inner product of its own on a sheet where all multiplications check bits;
 // on another sheet it is corrected by the polynomial of what the products have past that. Elements are u32 below the prime. No
 // step depends on the value of an element.
+#![tactic(auto)]
+
 ghost use Rattle.std.specs.Prelude.{◌≡◌, ◌∷◌, suc, ◌+◌, ◌-◌, ◌<◌, ◌≤◌, length};
 ghost use Rattle.algebra.specs.Lists.{tabulate};
 ghost use Rattle.field.specs.Residues.{prime, residues, Elements};

@@ -3,7 +3,7 @@ use mathlib.Core.Path.{◌≡◌, ap, ap₂, ◌∙◌}
 use mathlib.Core.List.{List}
 use Prim.Native.Nat.{ℕ}
 use native.Mathlib.Omega.{arith}
-use lib.ListN.{length, get_or}
+use lib.ListN.{length}
 use Rattle.algebra.specs.Lists.{tabulate}
 use Rattle.algebra.specs.Sums.{inner, power}
 use Rattle.algebra.proofs.Sums.{sum_ext}

@@ -16,21 +16,21 @@ ghost use Rattle.walk.specs.Walks.{plain, shared, members, Entries, Outputs};
 use interpolation::Fraction;
 
 // f and g at r.
-#[derive(Drop)]
+#[derive(Clone, Copy)]
 pub struct Inputs {
     pub f: u32,
     pub g: u32,
 }
 
 // A sum over the left inputs, and how many of the multiplications check no bit.
-#[derive(Drop)]
+#[derive(Clone, Copy)]
 pub struct Lefts {
     pub sum: Fraction,
     pub products: usize,
 }
 
 // What a sheet comes to, as far as judging needs it.
-#[derive(Drop)]
+#[derive(Clone, Copy)]
 pub struct Shape {
     pub entries: usize,
     pub gates: usize,
@@ -38,7 +38,7 @@ pub struct Shape {
 }
 
 // d, e, r h(r) and tau of one server.
-#[derive(Drop)]
+#[derive(Clone, Copy)]
 pub struct Judged {
     pub d: u32,
     pub e: u32,

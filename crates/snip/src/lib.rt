@@ -1,5 +1,7 @@
 // What a server works out from its share: the polynomials at r, by the walk over the columns of a sheet, and the numbers of
 // the two rounds. Elements are u32 below the prime. No step depends on the value of an element.
+#![tactic(auto)]
+
 ghost use Rattle.std.specs.Prelude.{◌≡◌, ◌<◌};
 ghost use Rattle.field.specs.Residues.{prime, residues};
 ghost use Rattle.rules.specs.Judging.{first_only, sigma_from};

@@ -1,6 +1,8 @@
 // The left inputs of the multiplications of a sheet's circuit, what the right ones have past these and the constant, and the
 // tests, column by column, from the entries of a list or of a share. `factor` is the one on constants: 1 at server 0, 0 at the
 // other servers.
+#![tactic(auto)]
+
 ghost use Rattle.std.specs.Prelude.{◌≡◌, [], ◌∷◌, ◌++◌, suc, ◌+◌, ◌*◌, ◌^◌, ◌<◌, ◌≤◌, length};
 ghost use Rattle.algebra.specs.Lists.{tabulate};
 ghost use Rattle.algebra.specs.Ops.{minus};
@@ -15,7 +17,7 @@ ghost use Rattle.columns.specs.Kinds.{from_code};
 ghost use Rattle.walk.specs.Walks.{plain, shared, members, number_tests_at, product_test_at, top_tests, two_number_tests, point_tests};
 ghost use Rattle.walk.specs.Walks.{Entries, Outputs, Asked};
 
-use columns::{Column, bit_length_lem, counts_of};
+use columns::{Column, bit_length, counts_of};
 use sheet::cursor;
 
 // out[i] = x[first + i]
@@ -195,7 +197,7 @@ fn top_tests(x: &[u32], first: usize, e: usize, factor: u32, n: u32, out: &mut [
         × (length out.old ≡ tests_of (top n)) }
     ensures { out.new ≡ top_tests x.now first e factor n }
 {
-    let b = bit_length_lem(n);
+    let b = bit_length(n);
     let v = x[e];
     let sum = weighted_from(x, e + 1, b, field::mul(v, field::P - 1));
     let rest = weighted_from(x, e + 1 + b, b, field::mul_add(factor, field::P - n, v));

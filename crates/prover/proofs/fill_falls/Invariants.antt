@@ -1,0 +1,11 @@
+-- `prover::fill_falls` meets its contract: a turn stores one product and works out the next. Assumes nothing.
+use Prim.Native.Nat.{◌-◌}
+use lib.ListN.{length}
+use Rattle.prover.proofs.Falls.{Falling}
+use Rattle.prover.proofs.fill_falls.Given as goal
+
+abbrev pub invariant-loop-i : goal.invariant-loop-i
+invariant-loop-i l = Falling l.n l.initial.out l.out l.acc l.i
+
+abbrev pub decreases-loop-i : goal.decreases-loop-i
+decreases-loop-i l = length l.initial.out - l.i

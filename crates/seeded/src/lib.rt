@@ -1,6 +1,8 @@
 // Making a return from seeds: server 0's share message, then a seed message for each other server, whose share is what its
 // seed gives. Server 0's share is what remains of the whole list. No step depends on the value of a seed or of an element, but
 // that the random elements are below p.
+#![tactic(auto)]
+
 ghost use Rattle.std.specs.Prelude.{◌≡◌, ◌≤◌};
 ghost use Rattle.words.specs.Bytes.{splice};
 ghost use Rattle.rules.specs.Settings.{document01};

@@ -1,5 +1,7 @@
 // What both ways of making a return share: the refusal of S and of the values, and the whole list that the shares add up to,
 // which is the entries, u_0, v_0, the values of h, a, b and c.
+#![tactic(auto)]
+
 ghost use Rattle.std.specs.Prelude.{◌≡◌, [], ◌∷◌, ◌+◌, ◌<◌, ◌≤◌, length};
 ghost use Rattle.words.specs.Bytes.{splice, elements_of};
 ghost use Rattle.records.specs.Outcome.{or_else};

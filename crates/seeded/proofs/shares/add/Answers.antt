@@ -1,0 +1,44 @@
+-- `seeded::shares::add` meets its contract. The loop's invariant: the first e members are changed, the others are what they were
+-- (`fill_next`, `still_there`); the measure is what is left of them. Assumes nothing.
+use mathlib.Core.Path.{refl, ap, ◌∙◌}
+use Prim.Native.Nat.{ℕ, ◌<◌}
+use native.Mathlib.Omega.{arith}
+use lib.ListN.{length, get_or, length-set}
+use Rattle.algebra.proofs.Tables.{fill_none, fill_next, fill_all}
+use Rattle.field.specs.Residues.{residues}
+use Rattle.field.proofs.Below.{member_below}
+use Rattle.seeded.specs.Pieces.{added}
+use Rattle.seeded.proofs.Sums.{plus_at, still_there}
+use borrow.Author.Rules.{rules}
+use Rattle.seeded.proofs.shares.add.Goals as goal
+
+pub loop-e-init : goal.loop-e-init
+loop-e-init c =
+    let a = c.args in
+    (search rules, fill_none (plus_at a.sum.now a.x.now) a.sum.now, refl)
+
+pub add-requires : goal.add-requires
+add-requires c =
+    let l = c.loop-e in
+    let h : l.e < length c.args.sum.now = omega (arith, c.loop-e-test.true, l.invariant.2) in
+    let there = still_there (plus_at c.args.sum.now c.args.x.now) c.args.sum.now l.sum l.e h l.invariant.1 in
+    (rw there (member_below c.args.sum.now l.e c.requires.0), member_below c.args.x.now l.e c.requires.1)
+
+pub loop-e-preserved : goal.loop-e-preserved
+loop-e-preserved c =
+    let l = c.loop-e in
+    let h : l.e < length c.args.sum.now = omega (arith, c.loop-e-test.true, l.invariant.2) in
+    let there = still_there (plus_at c.args.sum.now c.args.x.now) c.args.sum.now l.sum l.e h l.invariant.1 in
+    let q = c.add.ensures ∙ ap (λ (y : ℕ). residues.◌⊕◌ y (get_or c.args.x.now l.e 0)) there in (
+      search rules,
+      fill_next (plus_at c.args.sum.now c.args.x.now) c.args.sum.now l.sum l.e _ h l.invariant.1 q,
+      simp length-set (omega arith),
+    )
+
+pub returns : goal.returns
+unfolding added
+returns c =
+    let a = c.args in
+    let l = c.loop-e in
+    fill_all (plus_at a.sum.now a.x.now) a.sum.now l.sum l.e (omega (arith, c.loop-e-test.false, l.invariant.2)) l.invariant.0
+    l.invariant.1

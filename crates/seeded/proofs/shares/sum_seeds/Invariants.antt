@@ -1,0 +1,14 @@
+-- `seeded::shares::sum_seeds` meets its contract. The loop's invariant: the sums of the first i seeds (`sums_next`); the measure is
+-- what is left of the seeds. Assumes nothing.
+use mathlib.Core.Path.{◌≡◌}
+use Prim.Native.Nat.{◌≤◌, ◌-◌}
+use lib.ListN.{length}
+use Rattle.seeded.specs.Pieces.{seed_sums}
+use Rattle.seeded.proofs.shares.sum_seeds.Given as goal
+
+abbrev pub invariant-loop-i : goal.invariant-loop-i
+invariant-loop-i l =
+    (l.i ≤ l.others) × (l.sum ≡ seed_sums l.seeds l.id (length l.initial.sum) l.i) × (length l.sum ≡ length l.initial.sum)
+
+abbrev pub decreases-loop-i : goal.decreases-loop-i
+decreases-loop-i l = l.others - l.i

@@ -1,5 +1,7 @@
 // Dropping a return that waits in a server's table, and closing the table. The definitions that the contracts cite are those of
 // the crate rules, at document 01's setting, and of specs/. A refusal leaves all that is lent as it was.
+#![tactic(auto)]
+
 ghost use Rattle.waiting.specs.Changes.{lent};
 ghost use Rattle.closing.specs.Calls.{Drops, Closes};
 

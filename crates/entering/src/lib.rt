@@ -1,5 +1,7 @@
 // Entering an accepted return in a server's table: its published entries are added to the totals, and it is decided. The definitions
 // that the contracts cite are those of the crate rules, at document 01's setting, and of specs/. A refusal leaves the table as it was.
+#![tactic(auto)]
+
 ghost use Rattle.waiting.specs.Changes.{lent};
 ghost use Rattle.entering.specs.Calls.{Enters};
 

@@ -1,5 +1,7 @@
 // The bytes of a server's table: the numbers that they say, their places, the header of a fresh table and the closing
 // message. The contracts cite specs/.
+#![tactic(auto)]
+
 pub mod places;
 pub mod writing;
 
@@ -15,7 +17,7 @@ pub const OPEN: u8 = 0;
 pub const CLOSED: u8 = 1;
 
 // What a table says: its header, and what its sheet comes to.
-#[derive(Drop)]
+#[derive(Clone, Copy)]
 pub struct Table {
     pub stage: u8,
     pub servers: u32,

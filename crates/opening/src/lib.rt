@@ -1,5 +1,7 @@
 // Opening a server's table. The definitions that the contracts cite are those of the crate rules, at document 01's setting, and
 // of specs/. A refusal leaves what is lent as it was.
+#![tactic(auto)]
+
 ghost use Rattle.std.specs.Prelude.{◌≡◌};
 ghost use Rattle.words.specs.Bytes.{splice};
 ghost use Rattle.rules.specs.Settings.{document01};
@@ -16,14 +18,14 @@ use sheet::returns::returns_refusal;
 use waiting::writing::erase;
 
 // What a table takes besides its records.
-#[derive(Drop)]
+#[derive(Clone, Copy)]
 pub struct Size {
     pub bytes: usize,
     pub numbers: usize,
 }
 
 // The room that a table takes, or the number of the refusal.
-#[derive(Drop)]
+#[derive(Clone, Copy)]
 pub enum Room {
     For(Size),
     Refused(u32),

@@ -1,6 +1,8 @@
 // Round one on a server's table: the refusal, then the record with the sums, in the stage that awaits round two, and the message
 // of round two. The definitions that the contracts cite are those of the crate rules, at document 01's setting, and of specs/.
 // A refusal leaves the table and the buffer as they were.
+#![tactic(auto)]
+
 ghost use Rattle.std.specs.Prelude.{◌≡◌, ◌<◌, length};
 ghost use Rattle.words.specs.Bytes.{splice};
 ghost use Rattle.field.specs.Residues.{prime};

@@ -1,6 +1,8 @@
 // Round two on a server's table: the refusal, the verdict, and what it does to the table. An accepted return awaits its entry, a
 // rejected one is decided. The definitions that the contracts cite are those of the crate rules, at document 01's setting, and of
 // specs/. A refusal leaves the table as it was.
+#![tactic(auto)]
+
 ghost use Rattle.std.specs.Prelude.{◌≡◌, cond};
 ghost use Rattle.rules.specs.Settings.{document01};
 ghost use Rattle.rules.specs.Messages.{both_zero};

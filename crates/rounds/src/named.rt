@@ -14,7 +14,7 @@ use waiting::Waiting;
 const NOT_NOW: u32 = 11;
 
 // What is found, or the number of the refusal.
-#[derive(Drop)]
+#[derive(Clone, Copy)]
 pub enum Named {
     At(Table, usize, Waiting),
     Refused(u32),

@@ -1,11 +1,11 @@
 -- The refusals of a share, check by check: each test of the code decides one check of the definition, in the same order.
 -- Assumes nothing.
 use mathlib.Core.Path.{◌≡◌, sym, ◌∙◌}
-use mathlib.Core.Bool.{Bool, true, false, not, cond}
+use mathlib.Core.Bool.{Bool, true, false, cond}
 use mathlib.Core.List.{List}
 use Prim.Native.Nat.{ℕ, ◌+◌, ◌-◌, ◌*◌, ◌≤◌, ◌<◌}
 use native.Mathlib.Omega.{arith}
-use borrow.Author.Tests.{eq-eqb, ne_eqb, lt-ltb, le-ltb, lt-leb, le-leb, ltb-true, not-true, not-false}
+use borrow.Author.Tests.{eq-eqb, ne_eqb, lt-ltb, le-ltb, lt-leb, le-leb, ltb-true}
 use lib.Dec.{eqb, ltb}
 use lib.ListN.{take, drop}
 use Rattle.words.specs.Bytes.{part, elements_of, all_below}
@@ -97,14 +97,14 @@ module _ (T : List ℕ) (k : Table) (list : List Slot) (m : List ℕ) (r s room 
       last_waits l = rw (used_is, e, place_is, lt-ltb i 8 l)
 
       module _ (w : 8 ≤ i) (p : Bool) (eq : p ≡ pair_sound k.gates r s) where
-        pub last_pair : not p ≡ true → 9 ≡ last_fault T k list m r s room
+        pub last_pair : p ≡ false → 9 ≡ last_fault T k list m r s room
         unfolding last_fault is_taken or_else
-        last_pair n = rw (used_is, e, place_is, le-ltb i 8 w, ← eq, not-true p n)
+        last_pair n = rw (used_is, e, place_is, le-ltb i 8 w, ← eq, n)
 
-        pub last_short : not p ≡ false → room < 22 → 14 ≡ last_fault T k list m r s room
+        pub last_short : p ≡ true → room < 22 → 14 ≡ last_fault T k list m r s room
         unfolding last_fault is_taken or_else
-        last_short n l = rw (used_is, e, place_is, le-ltb i 8 w, ← eq, not-false p n, lt-leb 22 room l)
+        last_short n l = rw (used_is, e, place_is, le-ltb i 8 w, ← eq, n, lt-leb 22 room l)
 
-        pub last_none : not p ≡ false → 22 ≤ room → 0 ≡ last_fault T k list m r s room
+        pub last_none : p ≡ true → 22 ≤ room → 0 ≡ last_fault T k list m r s room
         unfolding last_fault is_taken or_else
-        last_none n l = rw (used_is, e, place_is, le-ltb i 8 w, ← eq, not-false p n, le-leb 22 room l)
+        last_none n l = rw (used_is, e, place_is, le-ltb i 8 w, ← eq, n, le-leb 22 room l)

@@ -1,5 +1,7 @@
 // The checks of a share. The definitions that the contracts cite are those of the crate rules, at document 01's setting,
 // and of specs/.
+#![tactic(auto)]
+
 ghost use Rattle.std.specs.Prelude.{◌≡◌, List, ℕ, ◌+◌, ◌≤◌};
 ghost use Rattle.rules.specs.Settings.{document01};
 ghost use Rattle.rules.specs.Server.{share_refusal};

@@ -1,5 +1,7 @@
 // Taking a share. The definitions that the contracts cite are those of the crate rules, at document 01's setting, and
 // of specs/. A refusal leaves the table and the buffer as they were.
+#![tactic(auto)]
+
 ghost use Rattle.std.specs.Prelude.{◌≡◌, ◌+◌, ◌≤◌, length};
 ghost use Rattle.words.specs.Bytes.{splice};
 ghost use Rattle.rules.specs.Settings.{document01};

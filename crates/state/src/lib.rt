@@ -1,6 +1,8 @@
 // Where a pool stands, told from a server's table: S, the own number, N, Q, whether the table is closed, and how many returns are
 // decided, entered and wait. The definitions that the contracts cite are those of the crate rules, at document 01's setting, and of
 // specs/. Nothing in the table changes, and a refusal leaves the eight numbers as they were.
+#![tactic(auto)]
+
 ghost use Rattle.std.specs.Prelude.{◌≡◌};
 ghost use Rattle.waiting.specs.Changes.{lent};
 ghost use Rattle.state.specs.Calls.{closed_byte, eight, Tells};

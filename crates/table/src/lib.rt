@@ -1,5 +1,7 @@
 // The reading of a server's table: what its bytes say, where the length, stage, counts, sheet, numbers and elements of its three
 // parts keep to the limits. The contracts cite rules and specs/.
+#![tactic(auto)]
+
 ghost use Rattle.std.specs.Prelude.{◌≡◌};
 ghost use Rattle.words.specs.Bytes.{elements_of};
 ghost use Rattle.rules.specs.Server.{is_member};
@@ -17,7 +19,7 @@ pub mod deciding;
 const UNSOUND: u32 = 11;
 
 // What the reader finds: what a sound table says, or the number of the refusal.
-#[derive(Drop)]
+#[derive(Clone, Copy)]
 pub enum Found {
     Table(Table),
     Refused(u32),

@@ -1,5 +1,7 @@
 // The waiting list of a server's table, eight records by value, and the run of numbers beside it: which record is free, which
 // has an id, how many returns wait, whether they keep to the limits, what a record says. The contracts cite rules and specs/.
+#![tactic(auto)]
+
 ghost use Rattle.std.specs.Prelude.{◌≡◌, ◌+◌, ◌≤◌, ◌<◌, length};
 ghost use Rattle.field.specs.Residues.{prime};
 ghost use Rattle.rules.specs.WaitingList.{free_place, place_of, waits_under, waiting_count};
@@ -21,7 +23,7 @@ pub const AWAITS_ENTRY: u32 = 3;
 
 // What a return that waits is known by, besides its share: its id and its pair; d_i and e_i in the first wait, the sums d and
 // e afterwards; r h_i(r) and tau_i.
-#[derive(Drop)]
+#[derive(Clone, Copy)]
 pub struct Waiting {
     pub id: u32,
     pub r: u64,

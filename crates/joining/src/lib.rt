@@ -1,5 +1,7 @@
 // Joining the closing messages of S servers: the accepted count, and the totals as elements in entry order. The contracts
 // cite the crate rules, at document 01's setting, and specs/. A refusal leaves the buffer as it was.
+#![tactic(auto)]
+
 ghost use Rattle.std.specs.Prelude.{◌≡◌};
 ghost use Rattle.words.specs.Bytes.{splice};
 ghost use Rattle.joining.specs.Calls.{totals_of, Joinable, pooled, judged, Joins};
@@ -8,13 +10,13 @@ use records::Written;
 use sheet::Reading;
 
 // What joining hands back: the accepted count, and how many bytes were written.
-#[derive(Drop)]
+#[derive(Clone, Copy)]
 pub struct Joining {
     pub accepted: u32,
     pub written: usize,
 }
 
-#[derive(Drop)]
+#[derive(Clone, Copy)]
 pub enum Joined {
     Done(Joining),
     Refused(u32),

@@ -1,5 +1,7 @@
 // The line that best fits y on x in a column of two numbers, from joined totals: three signed whole numbers. The contracts cite the
 // crate rules, at document 01's setting, and specs/.
+#![tactic(auto)]
+
 ghost use Rattle.std.specs.Prelude.{◌≡◌, ◌*◌, ◌^◌, ◌<◌, pos, ◌-ℤ◌};
 ghost use Rattle.records.specs.Outcome.{ok};
 ghost use Rattle.rules.specs.Columns.{read_sheet, columns_of};
@@ -14,7 +16,7 @@ use records::Written;
 use sheet::cursor::{next, start};
 
 // The number of returns and the four totals of a column: of x, x * x, y and x * y.
-#[derive(Drop)]
+#[derive(Clone, Copy)]
 struct Totals {
     n: u64,
     x: u64,
@@ -24,34 +26,34 @@ struct Totals {
 }
 
 // D, and what is to be divided by it: the slope, and the value at 0.
-#[derive(Drop)]
+#[derive(Clone, Copy)]
 pub struct Line {
     pub determinant: i64,
     pub slope: i64,
     pub intercept: i64,
 }
 
-#[derive(Drop)]
+#[derive(Clone, Copy)]
 pub enum Fitting {
     Done(Line),
     Refused(u32),
 }
 
 // Where the totals of a column of two numbers begin, if there is one.
-#[derive(Drop)]
+#[derive(Clone, Copy)]
 enum Found {
     At(usize),
     Nowhere,
 }
 
 // The published entries of a sheet, and where the totals of the column begin among them.
-#[derive(Drop)]
+#[derive(Clone, Copy)]
 struct Place {
     published: usize,
     first: usize,
 }
 
-#[derive(Drop)]
+#[derive(Clone, Copy)]
 enum Placed {
     At(Place),
     Refused(u32),

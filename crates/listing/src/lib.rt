@@ -1,6 +1,8 @@
 // The text that recount prints, written into a lent buffer. Each function writes a run of bytes at a place and returns the
 // place behind it; its contract names the run and says that nothing else changes (`Put`). The runs are those of the crate
 // rules, at document 01's setting.
+#![tactic(auto)]
+
 ghost use Rattle.std.specs.Prelude.{◌≡◌, [], ◌∷◌, ◌++◌, ◌+◌, ◌≤◌, ◌<◌, length, take};
 ghost use Rattle.rules.specs.Recount.{decimal, accepted_text, refusal_text, line_text};
 ghost use Rattle.listing.specs.Text.{Put, options_text, columns_text, joined_text, text_most};

@@ -17,6 +17,13 @@ pub movable_on : (g : Grid) (run out out' : List ℕ) → length out' ≡ length
 movable_on g run out out' e m =
     record { reads = m.reads; writes = m.writes; apart = m.apart; room = omega (arith, m.room, e) }
 
+-- a byte that is moved is read within the run and written within the buffer
+pub within : {g : Grid} {run out : List ℕ} (out' : List ℕ) → Movable g run out → length out' ≡ length out
+    → (i j : ℕ) {to : ℕ} → i < g.messages → j < to → to ≤ g.width
+    → (at g.read i j < length run) × (at g.write i j < length out')
+within out' m e i j hi hj ht =
+    (m.reads i j hi (omega arith), let w = m.writes i j hi (omega arith) in omega (arith, w, m.room, e))
+
 module _ (g : Grid) (run : List ℕ) where
   -- no byte yet
   pub no_byte : (first last from : ℕ) (out : List ℕ) → Moved g first last from from run out out

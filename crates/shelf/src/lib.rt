@@ -1,6 +1,8 @@
 // Messages stored by place, the first byte of each, then the second of each, and so on; and brought back. Both move the
 // bytes of a grid, some bytes of each message at a time. The contracts of `shelve` and `unshelve` are equalities with rules
 // at document 01's setting; a refusal leaves the buffer as it was.
+#![tactic(auto)]
+
 ghost use Rattle.std.specs.Prelude.{◌≡◌, suc, ◌≤◌, ◌<◌};
 ghost use Rattle.rules.specs.Settings.{document01};
 ghost use Rattle.rules.specs.Shelf.{shelved, unshelved, shelf_refusal};
@@ -18,14 +20,14 @@ const MAX_WIDTH: u32 = 4096;
 const TILE: usize = 64;
 
 // Byte j of message i stands at `message` times i plus `byte` times j.
-#[derive(Drop)]
+#[derive(Clone, Copy)]
 struct Steps {
     message: usize,
     byte: usize,
 }
 
 // So many messages of `width` bytes, by the steps that they are read by and those that they are written by.
-#[derive(Drop)]
+#[derive(Clone, Copy)]
 struct Grid {
     messages: usize,
     width: usize,

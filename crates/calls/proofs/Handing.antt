@@ -158,6 +158,7 @@ module _ (o : Opened) where
       → ((run_ledger document01 o l (map call_of cs)).progress ≡ is_closed)
       × (m ≡ closing_message document01 o (run_ledger document01 o l (map call_of cs)))
   unfolding over run_ledger
+  closings_same l [] e m h = elim h [ ]
   closings_same l (pool_share T x r s out w a T' out' w' ∷ cs) e m h =
       let c = pool_share T x r s out w a T' out' w' in
       closings_same (next l c) cs (others_same l c cs e) m h

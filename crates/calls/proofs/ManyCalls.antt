@@ -2,7 +2,7 @@
 -- so, from a table that pool_open left, those of the ledger. By induction on the list; each call is one step of the fold.
 -- Assumes the promises of the calls.
 use mathlib.Core.Path.{◌≡◌, refl, sym, ap, ap₂, ◌∙◌}
-use mathlib.Core.List.{List, [], ◌∷◌, map}
+use mathlib.Core.List.{List, ◌∷◌, map}
 use Prim.Native.Nat.{ℕ}
 use lib.ListN.{length}
 use Rattle.algebra.specs.Lists.{All, all[], all∷}

@@ -1,10 +1,11 @@
 // The C functions of a client: each hands its arguments to one call and the answer to the host, and has no rules of its own.
-// include/pool.h tells a host how to use them. Each takes any arguments and returns 0 or the number of the refusal; the
+// `pool_c` exports them, and include/pool.h tells a host how to use them. Each takes any arguments and returns 0 or the number of the refusal; the
 // promises (specs/Calls) are equalities with rules' definitions at document 01's setting.
+#![tactic(auto)]
+
 ghost use Rattle.pool_client.specs.Calls.{Makes, MakesSeeded};
 
-#[unsafe(no_mangle)]
-pub extern "C" fn pool_make(
+pub fn pool_make(
     sheet: &[u8],
     servers: u32,
     id: u32,
@@ -22,8 +23,7 @@ pub extern "C" fn pool_make(
     )
 }
 
-#[unsafe(no_mangle)]
-pub extern "C" fn pool_make_seeded(
+pub fn pool_make_seeded(
     sheet: &[u8],
     servers: u32,
     id: u32,

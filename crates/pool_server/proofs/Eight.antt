@@ -6,7 +6,6 @@ use mathlib.Core.Bool.{Bool, true, false, cond}
 use mathlib.Core.List.{List}
 use Prim.Native.Nat.{ℕ, ◌<◌}
 use native.Mathlib.Omega.{arith}
-use borrow.Author.Tests.{ne_eqb}
 use lib.Dec.{eqb}
 use lib.ListN.{length}
 use Rattle.slots.specs.declared.Slot.{Slot}
@@ -15,7 +14,6 @@ use Rattle.slots.specs.Slots.{eight_of, applied}
 use Rattle.slots.proofs.Eight.{eight_is, applied_refused}
 use Rattle.records.specs.Outcome.{or_else}
 use Rattle.rules.specs.Settings.{document01}
-use Rattle.rules.specs.Columns.{check}
 use Rattle.rules.specs.Table.{Lent, table_sound, table_fault}
 use Rattle.rules.proofs.Waiting.Records.{eight_sound, eight_of_sound}
 use Rattle.waiting.specs.Changes.{lent, unless_refused, Changes}

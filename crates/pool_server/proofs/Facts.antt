@@ -19,7 +19,7 @@ use Rattle.rules.specs.Messages.{round_length}
 use Rattle.rules.specs.Server.{totals_length, share_refusal, one_refusal, two_refusal, enter_refusal, drop_refusal, close_refusal}
 use Rattle.rules.specs.WaitingList.{run_size}
 use Rattle.rules.specs.Table.{Lent, table_state, table_sound, table_fault, share_refused, share_table, share_bytes, one_refused, one_table, one_bytes}
-use Rattle.rules.specs.Table.{two_refused, two_table, two_verdict, enter_refused, drop_refused}
+use Rattle.rules.specs.Table.{two_refused, two_table, two_verdict, enter_refused, enter_table, drop_refused, drop_table}
 use Rattle.rules.specs.Table.{close_refused, close_table, close_bytes, opened_in, open_room, open_length, open_bytes, opened_table}
 use Rattle.rules.proofs.Histories.Opening.{opening}
 use Rattle.waiting.specs.Changes.{lent, unless_refused}
@@ -30,7 +30,8 @@ use Rattle.rules.specs.State.{State, state_refusal, state_of}
 use Rattle.shares.specs.Calls.{Shares}
 use Rattle.round_one.specs.Calls.{RoundOne}
 use Rattle.round_two.specs.Calls.{RoundTwo}
-use Rattle.pool_server.specs.Calls.{TakesShare, TakesOne, Decides, Closes, TellsState}
+use Rattle.entering.specs.Calls as entering
+use Rattle.pool_server.specs.Calls.{TakesShare, TakesOne, Decides, Enters, Drops, Closes, TellsState}
 use Rattle.pool_server.specs.Calls as promise
 use Rattle.pool_server.proofs.Eight.{unsound_refused, fault_same, left_same, answer_is, in_range, leaves}
 
@@ -116,14 +117,46 @@ twos ys {t} {es} {id} {joined} {v} {c} {t'} {ys'} {es'} {v'} h e =
       accepted_is = h.accepted_is ∙ left_same fault refuses t ys es (λ T. cond (two_verdict document01 T joined) 1 0) v;
     }
 
--- ---- an entry and a drop: the table decides before they do, and their promises follow (ById)
-pub enter_refuses : (id : ℕ) (T : Lent) → table_sound document01 T ≡ false → enter_refused document01 T id ≡ 11
+-- ---- an entry and a drop
+enter_refuses : (id : ℕ) (T : Lent) → table_sound document01 T ≡ false → enter_refused document01 T id ≡ 11
 unfolding enter_refused
 enter_refuses id = unsound_refused (λ T. enter_refusal (table_state document01 T) id)
 
-pub drop_refuses : (id : ℕ) (T : Lent) → table_sound document01 T ≡ false → drop_refused document01 T id ≡ 11
+pub enter_in_range : (id : ℕ) (ys : List Slot) {t es : List ℕ} {c : Change} {t' es' : List ℕ}
+    → entering.Enters (lent t (eight_of ys) es) id c t' es' → c.refusal ≡ 0 → c.at < length ys
+enter_in_range id ys {t} {es} {c} {t'} {es'} h =
+    in_range (λ T. enter_refused document01 T id) (enter_refuses id) t ys es (λ T. enter_table document01 T id) c t' es' h
+
+pub enters : (id : ℕ) (ys : List Slot) {t es : List ℕ} {c : Change} {t' : List ℕ} {ys' : List Slot} {es' : List ℕ}
+    → entering.Enters (lent t (eight_of ys) es) id c t' es' → ys' ≡ applied ys c
+    → Enters (lent t ys es) id c.refusal (lent t' ys' es')
+enters id ys {t} {es} {c} {t'} {ys'} {es'} h e =
+    let fault : Lent → ℕ = λ T. enter_refused document01 T id in
+    let new : Lent → Lent = λ T. enter_table document01 T id in
+    record {
+      answer_is = answer_is fault (enter_refuses id) t ys es new c t' es' h;
+      table_is = leaves fault (enter_refuses id) t ys es new c t' es' h ys' e;
+    }
+
+drop_refuses : (id : ℕ) (T : Lent) → table_sound document01 T ≡ false → drop_refused document01 T id ≡ 11
 unfolding drop_refused
 drop_refuses id = unsound_refused (λ T. drop_refusal (table_state document01 T) id)
+
+pub drop_in_range : (id : ℕ) (ys : List Slot) {t es : List ℕ} {c : Change} {t' es' : List ℕ}
+    → closing.Drops (lent t (eight_of ys) es) id c t' es' → c.refusal ≡ 0 → c.at < length ys
+drop_in_range id ys {t} {es} {c} {t'} {es'} h =
+    in_range (λ T. drop_refused document01 T id) (drop_refuses id) t ys es (λ T. drop_table document01 T id) c t' es' h
+
+pub drops : (id : ℕ) (ys : List Slot) {t es : List ℕ} {c : Change} {t' : List ℕ} {ys' : List Slot} {es' : List ℕ}
+    → closing.Drops (lent t (eight_of ys) es) id c t' es' → ys' ≡ applied ys c
+    → Drops (lent t ys es) id c.refusal (lent t' ys' es')
+drops id ys {t} {es} {c} {t'} {ys'} {es'} h e =
+    let fault : Lent → ℕ = λ T. drop_refused document01 T id in
+    let new : Lent → Lent = λ T. drop_table document01 T id in
+    record {
+      answer_is = answer_is fault (drop_refuses id) t ys es new c t' es' h;
+      table_is = leaves fault (drop_refuses id) t ys es new c t' es' h ys' e;
+    }
 
 -- ---- a close: the records stay, eight or not
 close_refuses : (room : ℕ) (T : Lent) → table_sound document01 T ≡ false → close_refused document01 T room ≡ 11

@@ -1,4 +1,3 @@
--- What the C functions' promises need of the calls': eight records or none; and the walk that two of them share.
+-- What the C functions' promises need of the calls': eight records or none.
 pub mod Eight
 pub mod Facts
-pub mod ById

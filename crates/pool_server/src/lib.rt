@@ -1,16 +1,17 @@
 // The C functions of a server, on its table of three lent parts: bytes, the waiting list, and the run of numbers. All but
 // pool_open copy the eight records and hand them to one call by value; the share, the rounds, the entry and the drop write back the
 // one record that the call changed, and pool_open clears all; pool_state changes nothing. None has rules of its own.
-// include/pool.h tells a host how to use them. Each takes any arguments and returns 0 or the number of the refusal; the
+// `pool_c` exports them, and include/pool.h tells a host how to use them. Each takes any arguments and returns 0 or the number of the refusal; the
 // promises (specs/Calls) are equalities with rules' definitions at document 01's setting.
+#![tactic(auto)]
+
 ghost use Rattle.waiting.specs.Changes.{lent};
 ghost use Rattle.state.specs.Calls.{eight};
 ghost use Rattle.pool_server.specs.Calls.{Opens, TakesShare, TakesOne, Decides, Enters, Drops, Closes, TellsState};
 
 use slots::Slot;
 
-#[unsafe(no_mangle)]
-pub extern "C" fn pool_open(
+pub fn pool_open(
     servers: u32,
     own: u32,
     sheet: &[u8],
@@ -33,8 +34,7 @@ pub extern "C" fn pool_open(
     refusal
 }
 
-#[unsafe(no_mangle)]
-pub extern "C" fn pool_share(
+pub fn pool_share(
     table: &[u8],
     slots: &mut [Slot],
     elements: &mut [u32],
@@ -54,8 +54,7 @@ pub extern "C" fn pool_share(
     change.refusal
 }
 
-#[unsafe(no_mangle)]
-pub extern "C" fn pool_round_one(
+pub fn pool_round_one(
     table: &[u8],
     slots: &mut [Slot],
     elements: &[u32],
@@ -74,8 +73,7 @@ pub extern "C" fn pool_round_one(
     change.refusal
 }
 
-#[unsafe(no_mangle)]
-pub extern "C" fn pool_round_two(
+pub fn pool_round_two(
     table: &mut [u8],
     slots: &mut [Slot],
     elements: &mut [u32],
@@ -93,13 +91,7 @@ pub extern "C" fn pool_round_two(
     change.refusal
 }
 
-#[unsafe(no_mangle)]
-pub extern "C" fn pool_enter(
-    table: &mut [u8],
-    slots: &mut [Slot],
-    elements: &mut [u32],
-    id: u32,
-) -> u32
+pub fn pool_enter(table: &mut [u8], slots: &mut [Slot], elements: &mut [u32], id: u32) -> u32
     ensures { Enters (lent table.old slots.old elements.old) id
         result (lent table.new slots.new elements.new) }
 {
@@ -109,13 +101,7 @@ pub extern "C" fn pool_enter(
     change.refusal
 }
 
-#[unsafe(no_mangle)]
-pub extern "C" fn pool_drop(
-    table: &mut [u8],
-    slots: &mut [Slot],
-    elements: &mut [u32],
-    id: u32,
-) -> u32
+pub fn pool_drop(table: &mut [u8], slots: &mut [Slot], elements: &mut [u32], id: u32) -> u32
     ensures { Drops (lent table.old slots.old elements.old) id
         result (lent table.new slots.new elements.new) }
 {
@@ -125,8 +111,7 @@ pub extern "C" fn pool_drop(
     change.refusal
 }
 
-#[unsafe(no_mangle)]
-pub extern "C" fn pool_close(
+pub fn pool_close(
     table: &mut [u8],
     slots: &[Slot],
     elements: &[u32],
@@ -141,8 +126,7 @@ pub extern "C" fn pool_close(
     closing::close(table, list, elements, out, written)
 }
 
-#[unsafe(no_mangle)]
-pub extern "C" fn pool_state(
+pub fn pool_state(
     table: &[u8],
     slots: &[Slot],
     elements: &[u32],

@@ -1,14 +1,15 @@
 // The C functions of whoever writes a sheet: each hands its arguments to one call and its answer to the host, and has no
 // rules of its own.
-// include/pool.h tells a host how to use them. Each takes any arguments and returns 0 or the number of the refusal; the
+// `pool_c` exports them, and include/pool.h tells a host how to use them. Each takes any arguments and returns 0 or the number of the refusal; the
 // promises (specs/Calls) are equalities with rules' definitions at document 01's setting.
+#![tactic(auto)]
+
 ghost use Rattle.pool_sheets.specs.Calls.{nine, TellsSizes, WritesCircuit, ReadsCircuit, WritesEveryReturn};
 
 use every_return::Listed;
 use sizes::Told;
 
-#[unsafe(no_mangle)]
-pub extern "C" fn pool_sizes(
+pub fn pool_sizes(
     sheet: &[u8],
     columns: &mut u32,
     entries: &mut u32,
@@ -45,16 +46,14 @@ pub extern "C" fn pool_sizes(
     }
 }
 
-#[unsafe(no_mangle)]
-pub extern "C" fn pool_circuit(sheet: &[u8], out: &mut [u8], written: &mut usize) -> u32
+pub fn pool_circuit(sheet: &[u8], out: &mut [u8], written: &mut usize) -> u32
     ensures { WritesCircuit sheet.now out.old written.old
         result out.new written.new }
 {
     records::hand_back(compile::write(sheet, out), written)
 }
 
-#[unsafe(no_mangle)]
-pub extern "C" fn pool_read_circuit(
+pub fn pool_read_circuit(
     entries: u32,
     circuit: &[u8],
     wires: &mut u32,
@@ -76,13 +75,7 @@ pub extern "C" fn pool_read_circuit(
     }
 }
 
-#[unsafe(no_mangle)]
-pub extern "C" fn pool_every_return(
-    sheet: &[u8],
-    out: &mut [u8],
-    lists: &mut u32,
-    written: &mut usize,
-) -> u32
+pub fn pool_every_return(sheet: &[u8], out: &mut [u8], lists: &mut u32, written: &mut usize) -> u32
     ensures { WritesEveryReturn sheet.now out.old lists.old written.old
         result out.new lists.new written.new }
 {

@@ -1,11 +1,12 @@
 // The C functions of whoever stores messages: each hands its arguments to one call and its answer to the host, and has no
 // rules of its own.
-// include/pool.h tells a host how to use them. Each takes any arguments and returns 0 or the number of the refusal; the
+// `pool_c` exports them, and include/pool.h tells a host how to use them. Each takes any arguments and returns 0 or the number of the refusal; the
 // promises (specs/Calls) are equalities with rules' definitions at document 01's setting.
+#![tactic(auto)]
+
 ghost use Rattle.pool_shelf.specs.Calls.{Shelves, Unshelves};
 
-#[unsafe(no_mangle)]
-pub extern "C" fn pool_shelve(
+pub fn pool_shelve(
     messages: u32,
     width: u32,
     run: &[u8],
@@ -18,8 +19,7 @@ pub extern "C" fn pool_shelve(
     records::hand_back(shelf::shelve(messages, width, run, out), written)
 }
 
-#[unsafe(no_mangle)]
-pub extern "C" fn pool_unshelve(
+pub fn pool_unshelve(
     messages: u32,
     width: u32,
     run: &[u8],

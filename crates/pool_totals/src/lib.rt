@@ -1,14 +1,15 @@
 // The C functions of anyone who joins totals: each hands its arguments to one call and the answer to the host, and has no
 // rules of its own.
-// include/pool.h tells a host how to use them. Each takes any arguments and returns 0 or the number of the refusal; its
+// `pool_c` exports them, and include/pool.h tells a host how to use them. Each takes any arguments and returns 0 or the number of the refusal; its
 // promise (specs/Calls) is an equality with rules' definitions at document 01's setting.
+#![tactic(auto)]
+
 ghost use Rattle.pool_totals.specs.Calls.{Joins, TellsLine};
 
 use joining::Joined;
 use line::Fitting;
 
-#[unsafe(no_mangle)]
-pub extern "C" fn pool_join(
+pub fn pool_join(
     servers: u32,
     sheet: &[u8],
     returns: u32,
@@ -31,8 +32,7 @@ pub extern "C" fn pool_join(
     }
 }
 
-#[unsafe(no_mangle)]
-pub extern "C" fn pool_line(
+pub fn pool_line(
     servers: u32,
     sheet: &[u8],
     returns: u32,

@@ -1,0 +1,8 @@
+-- `pool_client::pool_make` meets its contract: that of making. Assumes nothing.
+use Rattle.records.proofs.Answers.{writes}
+use Rattle.pool_client.proofs.pool_make.Goals as goal
+
+pub returns : goal.returns
+returns c =
+    let m = c.make.ensures in
+    writes _ _ _ _ _ _ _ _ _ m.answer_is m.out_is c.hand_back.ensures.0 c.hand_back.ensures.1

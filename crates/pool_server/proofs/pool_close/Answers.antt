@@ -1,0 +1,6 @@
+-- `pool_close`: what `closing::close` says of the eight records it says of those lent, which stay. Assumes nothing.
+use Rattle.pool_server.proofs.Facts.{closes}
+use Rattle.pool_server.proofs.pool_close.Goals as goal
+
+pub returns : goal.returns
+returns c = closes c.args.slots.now (rw c.copied-list.ensures at c.close.ensures)

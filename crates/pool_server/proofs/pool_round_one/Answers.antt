@@ -1,0 +1,9 @@
+-- `pool_round_one`: what `round_one::round_one` says of the eight records it says of those lent, with its change applied. Assumes nothing.
+use Rattle.pool_server.proofs.Facts.{one_in_range, ones}
+use Rattle.pool_server.proofs.pool_round_one.Goals as goal
+
+pub apply-requires : goal.apply-requires
+apply-requires c = one_in_range c.args.slots.now (rw c.copied-list.ensures at c.round_one-change.ensures)
+
+pub returns : goal.returns
+returns c = ones c.args.slots.now (rw c.copied-list.ensures at c.round_one-change.ensures) c.apply.ensures

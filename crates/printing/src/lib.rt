@@ -1,7 +1,10 @@
 // Lines of text on the standard output.
+#![tactic(auto)]
+
 ghost use Rattle.std.specs.Prelude.{◌≤◌, length};
 
-use libc::STDOUT_FILENO;
+// The file descriptor of the standard output.
+const STDOUT_FILENO: i32 = 1;
 
 pub fn write(text: &[u8]) {
     io::write_all(STDOUT_FILENO, text);

@@ -1,4 +1,6 @@
 // The worked examples of document 01 on sheets, values and circuits, run on the code and printed.
+#![tactic(auto)]
+
 mod forms;
 
 fn sheets() {

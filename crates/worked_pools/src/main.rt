@@ -1,6 +1,8 @@
 // The worked examples of document 01 on returns, judging and joining, run on the code and printed.
-mod joining;
+#![tactic(auto)]
+
 mod returns;
+mod totals;
 
 // The yes of the examples, and the false entry 2 with h(2) = 2147483645.
 fn judging() {
@@ -19,5 +21,5 @@ fn main() {
     judging();
     returns::opens(128);
     returns::opens(129);
-    joining::show();
+    totals::show();
 }

@@ -7,7 +7,7 @@ use round_message::{LENGTH_ONE, LENGTH_TWO};
 use slots::{Change, Slot};
 
 // A server: the three parts of its table, the answer of its last call, and its messages of the two rounds.
-#[derive(Drop)]
+#[derive(Clone, Copy)]
 struct Server {
     table: [u8; 59],
     list: [Slot; 8],

@@ -1,16 +1,15 @@
 # The commands of the README, and what is handy beside them.
 .PHONY: help demo run test fuzz bench format install uninstall dist
 
-# The C functions' crates, the sources that they are made from, and the archives: of the core, and of the whole library.
-PARTS := pool_sheets pool_client pool_server pool_totals pool_shelf
-SOURCES := crates.txt $(shell find crates -name '*.rt' -o -name '*.antt')
+# The sources that the C functions are made from, and the archives: of the core, and of the whole library.
+SOURCES := crates.txt $(shell find crates -name out -prune -o \( -name '*.rt' -o -name '*.antt' \) -print)
 CORE := target/staticlib/libpool_core.a
 ARCHIVE := target/staticlib/libpool.a
 
 help:
 	@echo 'make demo       prove the core and run a whole pool on this machine, from C'
 	@echo 'make run        prove what is needed, then run the worked examples'
-	@echo 'make test       the merge gate: prove everything from nothing and run every test'
+	@echo 'make test       the merge gate: prove everything and run every test'
 	@echo 'make install    install header, libraries, recount and pages (PREFIX=/usr/local, DESTDIR=)'
 	@echo 'make uninstall  remove them'
 	@echo 'make dist       write an archive of what is installed, for hosts without the toolchain'
@@ -34,7 +33,7 @@ target/hosts/recount-input: hosts/recount/recount-input.c hosts/c/host.h include
 	@$(CC) -std=c11 -O2 -Wall -Wextra -Iinclude -Ihosts/c hosts/recount/recount-input.c $(ARCHIVE) -o $@
 
 $(CORE): $(SOURCES)
-	@tools/core $@ $(PARTS)
+	@tools/core $@ pool_c
 
 target/staticlib/pool_words.o: include/pool_words.c include/pool_refusals.def include/pool.h
 	@mkdir -p $(@D)
@@ -46,17 +45,16 @@ $(ARCHIVE): $(CORE) target/staticlib/pool_words.o
 	@mv $@.new $@
 
 target/staticlib/lib%.a: $(SOURCES)
-	@mkdir -p target/staticlib
-	@echo 'proving $* and making the C library'
-	@rt staticlib $* >target/staticlib/$*.log 2>&1 || { cat target/staticlib/$*.log; exit 1; }
-	@touch $@
+	@tools/core $@ $*_c
 
-target/bin/recount: $(SOURCES)
-	@rt check recount >target/recount.log 2>&1 || { cat target/recount.log; exit 1; }
-	@touch $@
+# A program: rt run proves, links and runs it.
+target/bin/%: $(SOURCES)
+	@mkdir -p target/bin
+	@cd crates/$* && rt run >$(CURDIR)/target/$*.log 2>&1 </dev/null || { cat $(CURDIR)/target/$*.log; exit 1; }
+	@cp crates/$*/out/$* $@.new
+	@mv $@.new $@
 
-run:
-	@rt check worked_forms worked_pools
+run: target/bin/worked_forms target/bin/worked_pools
 	@target/bin/worked_forms
 	@target/bin/worked_pools
 
@@ -70,6 +68,6 @@ bench:
 	@bench/run
 
 format:
-	@rt fmt
+	@for crate in crates/*/; do (cd $$crate && rt fmt) || exit 1; done
 
 include hosts/install/install.mk

@@ -1,8 +1,8 @@
 // The C functions of a server, on its table of three lent parts: bytes, the waiting list, and the run of numbers. All but
 // pool_open copy the eight records and hand them to one call by value; the share, the rounds, the entry and the drop write back the
 // one record that the call changed, and pool_open clears all; pool_state changes nothing. None has rules of its own.
-// `pool_c` exports them, and include/pool.h tells a host how to use them. Each takes any arguments and returns 0 or the number of the refusal; the
-// promises (specs/Calls) are equalities with rules' definitions at document 01's setting.
+// `pool_c` exports them, and include/pool.h tells a host how to use them. Each takes any arguments and returns 0 or the number of
+// the refusal; the promises (specs/Calls) are equalities with rules' definitions at document 01's setting.
 #![tactic(auto)]
 
 ghost use Rattle.waiting.specs.Changes.{lent};

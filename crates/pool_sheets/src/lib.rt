@@ -1,7 +1,7 @@
 // The C functions of whoever writes a sheet: each hands its arguments to one call and its answer to the host, and has no
 // rules of its own.
-// `pool_c` exports them, and include/pool.h tells a host how to use them. Each takes any arguments and returns 0 or the number of the refusal; the
-// promises (specs/Calls) are equalities with rules' definitions at document 01's setting.
+// `pool_c` exports them, and include/pool.h tells a host how to use them. Each takes any arguments and returns 0 or the number of
+// the refusal; the promises (specs/Calls) are equalities with rules' definitions at document 01's setting.
 #![tactic(auto)]
 
 ghost use Rattle.pool_sheets.specs.Calls.{nine, TellsSizes, WritesCircuit, ReadsCircuit, WritesEveryReturn};

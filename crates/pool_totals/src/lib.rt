@@ -1,7 +1,7 @@
 // The C functions of anyone who joins totals: each hands its arguments to one call and the answer to the host, and has no
 // rules of its own.
-// `pool_c` exports them, and include/pool.h tells a host how to use them. Each takes any arguments and returns 0 or the number of the refusal; its
-// promise (specs/Calls) is an equality with rules' definitions at document 01's setting.
+// `pool_c` exports them, and include/pool.h tells a host how to use them. Each takes any arguments and returns 0 or the number of
+// the refusal; its promise (specs/Calls) is an equality with rules' definitions at document 01's setting.
 #![tactic(auto)]
 
 ghost use Rattle.pool_totals.specs.Calls.{Joins, TellsLine};

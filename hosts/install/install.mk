@@ -48,12 +48,14 @@ uninstall:
 	@rm -f $(addprefix $(TO)/,$(FILES))
 	@rmdir $(TO)/$(DOC) 2>/dev/null || true
 
-# The same bytes from the same sources: sorted names, one time for all files, owner 0.
+# The same bytes from the same sources: sorted names, one time for all files, owner 0. The folder goes, since the gate takes no
+# checkout with links in it.
 dist:
 	@rm -rf target/dist/$(PACK)
 	@$(MAKE) -s --no-print-directory install DESTDIR= PREFIX=$(CURDIR)/target/dist/$(PACK)
 	@cd target/dist/$(PACK) && find * -type f | LC_ALL=C sort | xargs sha256sum >.sums && mv .sums SHA256SUMS
 	@tar -C target/dist --sort=name --mtime=@946684800 --owner=0 --group=0 --numeric-owner --mode=u=rwX,go=rX --format=ustar \
 	    -cf - $(PACK) | gzip -9n >target/dist/$(PACK).tar.gz
+	@rm -rf target/dist/$(PACK)
 	@cd target/dist && sha256sum $(PACK).tar.gz >$(PACK).tar.gz.sha256
 	@echo target/dist/$(PACK).tar.gz

@@ -1,6 +1,7 @@
 -- The key stream word by word: word i is word i % 16 of block i / 16, and the stream's bytes say these words. Each block is
 -- a table of sixteen words, and tables are put together at their ends. Assumes nothing.
-use Rattle.std.proofs.Common.{◌≡◌, ℕ, zero, suc, ◌+◌, ◌*◌, ◌/◌, ◌%◌, ◌^◌, ◌<◌, List, ◌++◌, length, get_or, sym, refl, ap, ◌∙◌, ap₂, mod-lt, arith, lit<}
+use Rattle.std.proofs.Common.{◌≡◌, ℕ, zero, suc, ◌+◌, ◌*◌, ◌/◌, ◌%◌, ◌^◌, ◌<◌, mod-lt, arith, lit<}
+use Rattle.std.proofs.Common.{List, ◌++◌, length, get_or, sym, refl, ap, ◌∙◌, ap₂}
 use Rattle.algebra.specs.Lists.{tabulate}
 use Rattle.algebra.proofs.Members.{all_tabulate}
 use Rattle.algebra.proofs.Tables.{length_tabulate, get_d_tabulate, tabulate_append, tabulate_cong, tabulate_get_d}

@@ -4,24 +4,15 @@
 
 ghost use Rattle.std.specs.Prelude.{◌≡◌, ◌+◌, ◌/◌, ◌<◌, ◌≤◌, length};
 ghost use Rattle.words.specs.Bytes.{splice, elements_of};
-ghost use Rattle.chacha.specs.Words.{rotated};
 ghost use Rattle.chacha.specs.ChaCha.{step, quarter_round, columns, diagonals, rounds, sums, mixed, state};
-
-// x rotated to the left by n.
-fn rotate(x: u32, n: u32) -> u32
-    requires { (0 < n) × (n < 32) }
-    ensures { result ≡ rotated x n }
-{
-    (x << n) | (x >> (32 - n))
-}
 
 // a += b; d ^= a; d <<<= n, on the words a, b, d of the state.
 fn mix(s: &mut [u32; 16], a: usize, b: usize, d: usize, n: u32)
     requires { (a < 16) × (b < 16) × (d < 16) × (0 < n) × (n < 32) }
     ensures { s.new ≡ step a b d n s.old }
 {
-    s[a] = std::num::wrapping_add_u32(s[a], s[b]);
-    s[d] = rotate(s[d] ^ s[a], n);
+    s[a] = s[a].wrapping_add(s[b]);
+    s[d] = (s[d] ^ s[a]).rotate_left(n);
 }
 
 fn quarter_round(s: &mut [u32; 16], a: usize, b: usize, c: usize, d: usize)
@@ -51,21 +42,8 @@ fn double_round(s: &mut [u32; 16])
 fn twenty_rounds(s: &mut [u32; 16])
     ensures { s.new ≡ rounds 10 s.old }
 {
-    let mut i: u32 = 0;
-    while i < 10 {
+    for _ in 0..10u32 {
         double_round(s);
-        i += 1;
-    }
-}
-
-fn copy(s: &[u32], out: &mut [u32])
-    requires { length s.now ≡ length out.old }
-    ensures { out.new ≡ s.now }
-{
-    let mut i: usize = 0;
-    while i < out.len() {
-        out[i] = s[i];
-        i += 1;
     }
 }
 
@@ -74,10 +52,8 @@ fn add(s: &[u32; 16], t: &[u32], out: &mut [u32])
     requires { (length t.now ≡ 16) × (length out.old ≡ 16) }
     ensures { out.new ≡ sums s.now t.now }
 {
-    let mut i: usize = 0;
-    while i < 16 {
-        out[i] = std::num::wrapping_add_u32(s[i], t[i]);
-        i += 1;
+    for i in 0..16 {
+        out[i] = s[i].wrapping_add(t[i]);
     }
 }
 
@@ -87,7 +63,7 @@ pub fn block(s: &[u32], out: &mut [u32])
     ensures { out.new ≡ mixed s.now }
 {
     let mut x = [0u32; 16];
-    copy(s, &mut x);
+    x.copy_from_slice(s);
     twenty_rounds(&mut x);
     add(&x, s, out);
 }
@@ -97,11 +73,8 @@ fn load(s: &mut [u32], at: usize, b: &[u8])
     requires { at + length b.now / 4 ≤ length s.old }
     ensures { s.new ≡ splice s.old at (elements_of 4 b.now) }
 {
-    let n = b.len() / 4;
-    let mut i: usize = 0;
-    while i < n {
+    for i in 0..b.len() / 4 {
         s[at + i] = words::read_u32(b, 4 * i);
-        i += 1;
     }
 }
 

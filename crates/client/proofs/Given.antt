@@ -1,6 +1,6 @@
 -- What writing a return is given: room for each message, a whole list of elements, and what each piece asks for.
 -- Assumes nothing.
-use mathlib.Core.Path.{◌≡◌, ◌∙◌}
+use mathlib.Core.Path.{◌≡◌}
 use mathlib.Core.List.{List}
 use Prim.Native.Nat.{ℕ, zero, suc, ◌+◌, ◌-◌, ◌*◌, ◌≤◌, ◌<◌}
 use native.Mathlib.Omega.{arith}
@@ -13,7 +13,6 @@ use Rattle.rules.specs.Columns.{Column, columns_of}
 use Rattle.rules.specs.Judging.{share_size}
 use Rattle.columns.specs.declared.Counts.{Counts}
 use Rattle.whole.specs.Pieces.{Legal, whole_of, Fillable}
-use Rattle.whole.proofs.Room.{room}
 use Rattle.whole.proofs.WholeList.{length_made, elements_made}
 use Rattle.client.specs.Pieces.{Random, message_bytes, Makeable}
 
@@ -33,9 +32,6 @@ module _ {sheet : List ℕ} {k : Counts} {servers : ℕ} {values random out : Li
   abbrev made : List ℕ
   made = whole_of cs (elements_of 4 values) zs
 
-  pub sized : (n : ℕ) → n ≡ k.entries + (k.gates + k.gates) + 6 → n ≡ share_size (columns_of sheet)
-  sized n e = e ∙ (room m.counted).size_is
-
   pub fillable : (w : List ℕ) → length w ≡ share_size (columns_of sheet) → Fillable sheet k values random w
   fillable w e = record {
     counted = m.counted;
@@ -54,11 +50,11 @@ module _ {sheet : List ℕ} {k : Counts} {servers : ℕ} {values random out : Li
   pub one_fits : message_bytes (share_size (columns_of sheet)) ≤ length out
   one_fits = omega (arith, messages_fit)
 
-  -- server 0's message
-  pub first_asks : Random random (servers - 1) (length made) × Elements made × (6 + 4 * length made ≤ length out)
-  first_asks =
+  -- server 0's share
+  pub share_asks : Random random (servers - 1) (length made) × Elements made
+  share_asks =
       let l : Legal sheet values = record { is_read = m.counted.is_read; legal = m.legal } in
-      (rw long m.elements, elements_made zs l m.elements.elements, rw long one_fits)
+      (rw long m.elements, elements_made zs l m.elements.elements)
 
   -- the others
   pub others_ask : (n : ℕ) (t : List ℕ) → n ≡ share_size (columns_of sheet) → length t ≡ length out

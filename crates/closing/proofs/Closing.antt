@@ -15,8 +15,12 @@ use Rattle.words.proofs.Splice.{length_part}
 use Rattle.words.proofs.Elements.{bytes_elements}
 use Rattle.words.proofs.Below.{all_take, all_drop}
 use Rattle.words.proofs.Loops.{sets_splice}
-use Rattle.records.specs.Outcome.{or_else}
-use Rattle.records.specs.Answers.{only_if, if_done}
+use Rattle.std.specs.Prelude.{Result, Ok, Err}
+use Rattle.records.specs.Outcome.{refused, or_else}
+use Rattle.records.specs.Refusals.{outcome_of}
+use Rattle.records.specs.Answers.{answered, only_if}
+use Rattle.records.specs.declared.Refusal.{Refusal}
+use Rattle.records.specs.declared.Refusal.TheVariants as why
 use Rattle.records.proofs.Outcome.{or_first}
 use Rattle.totals_message.specs.Totals.{totals_header}
 use Rattle.rules.specs.Settings.{document01}
@@ -31,7 +35,6 @@ use Rattle.layout.specs.declared.Table.{Table}
 use Rattle.waiting.specs.Changes.{lent}
 use Rattle.waiting.proofs.Changes.{kept, renewed}
 use Rattle.table.specs.Reading.{found_in, Sound}
-use Rattle.table.specs.declared.Found.TheVariants as answer
 use Rattle.table.proofs.Answers.{unsound, not_refused}
 use Rattle.table.proofs.Stages.{while_open_lem, once_closed, waits_count}
 use Rattle.closing.specs.Calls.{Closes}
@@ -62,19 +65,21 @@ module _ (T : Lent) where
   length_same = refl
 
 -- ---- the call
-module _ (T : Lent) (out : List ℕ) (written : ℕ) where
-  refused : (n : ℕ) → close_refused document01 T (length out) ≡ n → (n ≡ 0 → ⊥) → Closes T out written n T.bytes out written
-  unfolding only_if if_done
-  refused n r z =
+module _ (T : Lent) (out : List ℕ) where
+  refuses : (n : ℕ) → close_refused document01 T (length out) ≡ n → (n ≡ 0 → ⊥) → (r : Result ℕ Refusal) → outcome_of r ≡ refused n
+      → Closes T out r T.bytes out
+  unfolding answered only_if
+  refuses n e z r o =
       let f = ne_eqb n 0 z in
       record {
-        writes = record { answer_is = sym r; out_is = rw (r, f); written_is = rw (r, f) };
-        table_is = sym (kept (close_refused document01 T (length out)) (close_table document01 T) T n r z);
+        answer_is = o ∙ rw (e, f) refl;
+        out_is = rw (e, f);
+        table_is = sym (kept (close_refused document01 T (length out)) (close_table document01 T) T n e z);
       }
 
-  pub close_unsound : (n : ℕ) → found_in T ≡ answer.Refused n → Closes T out written n T.bytes out written
+  pub close_unsound : (n : ℕ) → found_in T ≡ refused n → (r : Result ℕ Refusal) → outcome_of r ≡ refused n → Closes T out r T.bytes out
   unfolding close_refused
-  close_unsound n e = let u = unsound T n e in refused n (rw u.0 (or_first n _ u.1)) u.1
+  close_unsound n e r o = let u = unsound T n e in refuses n (rw u.0 (or_first n _ u.1)) u.1 r o
 
   -- where the table is sound
   module _ (k : Table) (s : Sound T k) where
@@ -95,27 +100,27 @@ module _ (T : Lent) (out : List ℕ) (written : ℕ) where
     unfolding close_refused close_refusal table_state or_else
     refusal_is = rw (not_refused T k s)
 
-    pub close_closed : (k.stage ≡ 0 → ⊥) → Closes T out written 11 T.bytes out written
-    close_closed n = refused 11 (refusal_is ∙ once_closed T k s _ n) (λ z. omega arith)
+    pub close_closed : k.closed ≡ true → Closes T out (Err why.Stage) T.bytes out
+    close_closed e = refuses 11 (refusal_is ∙ once_closed T k s _ e) (λ z. omega arith) (Err why.Stage) refl
 
     pub close_closes : 6 + 4 * k.published ≤ length out → Closable T.bytes k (length out)
     close_closes l = record { limited = s.limited; totals_long = omega (arith, s.long); enough = l }
 
     -- n returns wait
-    module _ (is_open_lem : k.stage ≡ 0) (n : ℕ) (e : n ≡ waiting_count T.slots) where
+    module _ (is_open_lem : k.closed ≡ false) (n : ℕ) (e : n ≡ waiting_count T.slots) where
       open_is : close_refused document01 T (length out) ≡ checks n
       open_is = refusal_is ∙ while_open_lem T k s (λ ws. checks (length ws)) is_open_lem ∙ ap checks (waits_count T k s ∙ sym e)
 
-      pub close_waits : (n ≡ 0 → ⊥) → Closes T out written 11 T.bytes out written
+      pub close_waits : (n ≡ 0 → ⊥) → Closes T out (Err why.Stage) T.bytes out
       unfolding or_else
-      close_waits z = refused 11 (open_is ∙ rw (ne_eqb n 0 z)) (λ z. omega arith)
+      close_waits z = refuses 11 (open_is ∙ rw (ne_eqb n 0 z)) (λ z. omega arith) (Err why.Stage) refl
 
-      pub close_few : n ≡ 0 → k.entered < k.least → Closes T out written 15 T.bytes out written
+      pub close_few : n ≡ 0 → k.entered < k.least → Closes T out (Err why.Few) T.bytes out
       unfolding or_else
       close_few none few =
           let less : leb (least_in document01 T.bytes) (entered_in document01 T.bytes) ≡ false =
           lt-leb (least_in document01 T.bytes) (entered_in document01 T.bytes) (omega (arith, counts_are.0, counts_are.1)) in
-          refused 15 (open_is ∙ rw (eq-eqb n 0 none, less)) (λ z. omega arith)
+          refuses 15 (open_is ∙ rw (eq-eqb n 0 none, less)) (λ z. omega arith) (Err why.Few) refl
 
       module _ (none : n ≡ 0) (enough : k.least ≤ k.entered) where
         room_is : close_refused document01 T (length out) ≡ check (leb (6 + 4 * k.published) (length out)) 14
@@ -125,8 +130,8 @@ module _ (T : Lent) (out : List ℕ) (written : ℕ) where
             le-leb (least_in document01 T.bytes) (entered_in document01 T.bytes) (omega (arith, counts_are.0, counts_are.1)) in
             open_is ∙ rw (eq-eqb n 0 none, reached, published_is)
 
-        pub close_narrow : length out < 6 + 4 * k.published → Closes T out written 14 T.bytes out written
-        close_narrow l = refused 14 (room_is ∙ rw (lt-leb (6 + 4 * k.published) (length out) l)) (λ z. omega arith)
+        pub close_narrow : length out < 6 + 4 * k.published → Closes T out (Err why.Room) T.bytes out
+        close_narrow l = refuses 14 (room_is ∙ rw (lt-leb (6 + 4 * k.published) (length out) l)) (λ z. omega arith) (Err why.Room) refl
 
         message_is : All (λ b. b < 256) T.bytes → close_bytes document01 T ≡ closing_bytes k T.bytes
         message_is each =
@@ -134,17 +139,13 @@ module _ (T : Lent) (out : List ℕ) (written : ℕ) where
             rw s.says (message_same T (rw s.says at l) each)
 
         pub close_done : 6 + 4 * k.published ≤ length out → All (λ b. b < 256) T.bytes
-            → Closes T out written 0 (set T.bytes 1 1) (splice out 0 (closing_bytes k T.bytes)) (6 + 4 * k.published)
-        unfolding only_if if_done close_table
+            → Closes T out (Ok (6 + 4 * k.published)) (set T.bytes 1 1) (splice out 0 (closing_bytes k T.bytes))
+        unfolding answered only_if close_table
         close_done l each =
             let r : close_refused document01 T (length out) ≡ 0 = room_is ∙ rw (le-leb (6 + 4 * k.published) (length out) l) in
             record {
-              writes =
-                  record {
-                    answer_is = sym r;
-                    out_is = rw (r, message_is each);
-                    written_is = rw (r, published_is);
-                  };
+              answer_is = rw (r, published_is) refl;
+              out_is = rw (r, message_is each);
               table_is =
                   ap (λ t. lent t T.slots T.elements) (sets_splice T.bytes 1 (1 ∷ []) (omega (arith, s.long)))
                   ∙ sym (renewed (close_refused document01 T (length out)) (close_table document01 T) T r);

@@ -5,65 +5,53 @@
 ghost use Rattle.waiting.specs.Changes.{lent};
 ghost use Rattle.closing.specs.Calls.{Drops, Closes};
 
+use layout::CLOSED;
 use layout::writing::write_closing;
-use layout::{CLOSED, OPEN};
+use records::Refusal;
 use slots::{Change, Slot};
 use table::deciding::decide;
-use table::{Found, read};
-use waiting::place_of;
-use waiting::writing::refused;
+use table::read;
+use waiting::{count, place_of};
 
 // Drops the return that waits under an id, in whichever stage. The id stays used.
-pub fn drop(table: &mut [u8], list: [Slot; 8], numbers: &mut [u32], id: u32) -> Change
+pub fn drop(
+    table: &mut [u8],
+    list: [Slot; 8],
+    numbers: &mut [u32],
+    id: u32,
+) -> Result<Change, Refusal>
     ensures { Drops (lent table.old list numbers.old) id result table.new numbers.new }
 {
-    match read(table, list, numbers) {
-        Found::Refused(fault) => refused(fault),
-        Found::Table(k) => {
-            if OPEN < k.stage {
-                return refused(11);
-            }
-            let at = place_of(list, id);
-            if 8 <= at {
-                return refused(11);
-            }
-            decide(table, k, numbers, at, 0, id)
-        }
+    let k = read(table, list, numbers)?;
+    if k.closed {
+        return Err(Refusal::Stage);
     }
+    let at = place_of(list, id).ok_or(Refusal::Stage)?;
+    Ok(decide(table, k, numbers, at, 0, id))
 }
 
 // Closes a table in which nothing waits and at least Q returns are entered: their count and the totals go into the closing message,
-// and it takes nothing more.
+// and it takes nothing more. Gives the length of the message.
 pub fn close(
     table: &mut [u8],
     list: [Slot; 8],
     numbers: &[u32],
     out: &mut [u8],
-    written: &mut usize,
-) -> u32
-    ensures { Closes (lent table.old list numbers.now) out.old written.old result
-        table.new out.new written.new }
+) -> Result<usize, Refusal>
+    ensures { Closes (lent table.old list numbers.now) out.old result table.new out.new }
 {
-    match read(table, list, numbers) {
-        Found::Refused(fault) => fault,
-        Found::Table(k) => {
-            if k.stage != OPEN {
-                return 11;
-            }
-            if waiting::count(list) != 0 {
-                return 11;
-            }
-            if k.entered < k.least {
-                return 15;
-            }
-            let size = 6 + 4 * k.published;
-            if out.len() < size {
-                return 14;
-            }
-            write_closing(table, k, out);
-            table[1] = CLOSED;
-            *written = size;
-            0
-        }
+    let k = read(table, list, numbers)?;
+    if k.closed || count(list) != 0 {
+        return Err(Refusal::Stage);
     }
+    if k.entered < k.least {
+        return Err(Refusal::Few);
+    }
+    let size = 6 + 4 * k.published;
+    if out.len() < size {
+        return Err(Refusal::Room);
+    }
+    write_closing(table, k, out);
+    table[1] = CLOSED;
+    Ok(size)
 }

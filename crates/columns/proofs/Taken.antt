@@ -1,6 +1,6 @@
 -- A column that is taken: what a record says by its kind, that the column is within its limits, and what it comes to.
 -- By the cases of the kind. Assumes nothing.
-use mathlib.Core.Path.{◌≡◌, refl, sym, ap, ◌∙◌}
+use mathlib.Core.Path.{◌≡◌, sym, ap, ◌∙◌}
 use mathlib.Core.List.{List, [], ◌∷◌}
 use Prim.Native.Nat.{ℕ, ◌-◌, ◌^◌, ◌≤◌}
 use native.Mathlib.Nat.{pow-le-pow_right, mul-le-mul}
@@ -13,11 +13,9 @@ use Rattle.rules.specs.Circuit.{constants_of, gates_of, products_at, products_of
 use Rattle.rules.proofs.Circuits.Limits.{InLimits, column_limited, column_refused}
 use Rattle.rules.proofs.Circuits.BitLength.{bit_length_lem}
 use Rattle.columns.specs.declared.Column as code
-use Rattle.columns.specs.declared.Column.TheVariants as kind
-use Rattle.columns.specs.declared.Judged.TheVariants as answer
 use Rattle.columns.specs.declared.Counts.{Counts}
 use Rattle.columns.specs.Counting.{counts_of, Small}
-use Rattle.columns.specs.Kinds.{to_code, from_code, judged_of, column_in}
+use Rattle.columns.specs.Kinds.{to_code, from_code, judged_of}
 use Rattle.columns.proofs.ColumnBytes.{from_to_code}
 use Rattle.columns.proofs.Sums.{entries, published, constants, gates, products, tests, total_one, largest_one}
 
@@ -101,25 +99,13 @@ pub columns_small : (e : ℕ) (cs : List Column) → All InLimits cs → entries
 columns_small e cs h l = small_more l (columns_bounded cs h)
 
 -- ---- what the answer of code tells
-is_taken : (r : Outcome Column) (c : code.Column) → judged_of r ≡ answer.Taken c → r ≡ ok (from_code c)
-unfolding judged_of
+is_taken : (r : Outcome Column) (c : code.Column) → judged_of r ≡ ok c → r ≡ ok (from_code c)
 is_taken (ok a) c h = let e : to_code a ≡ c = cc in ap ok (sym (from_to_code a) ∙ ap from_code e)
 is_taken (refused n) c h = let z : ◌≡◌ {A = ℕ} 0 1 = cc in absurd (omega arith)
 
-is_refused : (r : Outcome Column) (n : ℕ) → judged_of r ≡ answer.Refused n → r ≡ refused n
-unfolding judged_of
+is_refused : (r : Outcome Column) (n : ℕ) → judged_of r ≡ refused n → r ≡ refused n
 is_refused (ok a) n h = let z : ◌≡◌ {A = ℕ} 0 1 = cc in absurd (omega arith)
 is_refused (refused m) n h = cc
-
-pub column_told : (r : Outcome Column) (c : code.Column) → judged_of r ≡ answer.Taken c → c ≡ to_code (column_in r)
-unfolding judged_of column_in
-column_told (ok a) c h = cc
-column_told (refused n) c h = let z : ◌≡◌ {A = ℕ} 0 1 = cc in absurd (omega arith)
-
-pub column_none : (r : Outcome Column) (n : ℕ) → judged_of r ≡ answer.Refused n → kind.YesNo ≡ to_code (column_in r)
-unfolding judged_of column_in
-column_none (ok a) n h = let z : ◌≡◌ {A = ℕ} 0 1 = cc in absurd (omega arith)
-column_none (refused m) n h = refl
 
 module _ (k : ℕ) (body : List ℕ) where
   pub record Taken (c : code.Column) : Type 0 where
@@ -127,13 +113,13 @@ module _ (k : ℕ) (body : List ℕ) where
     pub in_limits : InLimits (from_code c)
     pub small : Small 64 (counts_of (from_code c ∷ []))
 
-  pub taken : (c : code.Column) → judged_of (column_of k body) ≡ answer.Taken c → Taken c
+  pub taken : (c : code.Column) → judged_of (column_of k body) ≡ ok c → Taken c
   taken c h =
       let e = is_taken (column_of k body) c h in
       let l = column_limited k body (from_code c) e in
       record { is_ok = e; in_limits = l; small = column_small (from_code c) l }
 
-  pub outside : (n : ℕ) → judged_of (column_of k body) ≡ answer.Refused n → (column_of k body ≡ refused n) × (n ≡ 2)
+  pub outside : (n : ℕ) → judged_of (column_of k body) ≡ refused n → (column_of k body ≡ refused n) × (n ≡ 2)
   outside n h =
       let e = is_refused (column_of k body) n h in
       (e, column_refused k body n e)

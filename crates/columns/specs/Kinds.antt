@@ -6,8 +6,16 @@ use Rattle.records.specs.Outcome.{Outcome, ok, refused}
 use Rattle.rules.specs.Columns.{Column, yes_no, choice, number, top, point, column_body}
 use Rattle.columns.specs.declared.Column as code
 use Rattle.columns.specs.declared.Column.TheVariants as kind
-use Rattle.columns.specs.declared.Judged.{Judged}
-use Rattle.columns.specs.declared.Judged.TheVariants as answer
+use Rattle.columns.specs.declared.Kind.{Kind}
+use Rattle.columns.specs.declared.Kind.TheVariants as byte
+
+-- ---- the byte of a kind
+abbrev pub code_of : Kind → ℕ
+code_of byte.YesNo = 17
+code_of byte.Choice = 18
+code_of byte.Number = 19
+code_of byte.Top = 20
+code_of byte.Point = 21
 
 -- ---- how many bytes it has, the kind byte too; 0 for an unknown kind
 abbrev pub with_kind : Option ℕ → ℕ
@@ -33,11 +41,6 @@ from_code (kind.Top n) = top n
 from_code (kind.Point n) = point n
 
 -- what a record says: the column, or the refusal
-unfoldable pub judged_of : Outcome Column → Judged
-judged_of (ok c) = answer.Taken (to_code c)
-judged_of (refused n) = answer.Refused n
-
--- the column of a record that is taken
-unfoldable pub column_in : Outcome Column → Column
-column_in (ok c) = c
-column_in (refused n) = yes_no
+abbrev pub judged_of : Outcome Column → Outcome code.Column
+judged_of (ok c) = ok (to_code c)
+judged_of (refused n) = refused n

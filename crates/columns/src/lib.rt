@@ -2,15 +2,19 @@
 // what it comes to, its largest value. The definitions that the contracts cite are those of the crate rules and of specs/.
 #![tactic(auto)]
 
-ghost use Rattle.std.specs.Prelude.{◌≡◌, [], ◌∷◌, ◌+◌, ◌^◌, ◌≤◌, length};
-ghost use Rattle.rules.specs.Columns.{choice, number, top, point, bit_length, within, limited_column, column_of, largest_of};
+ghost use Rattle.std.specs.Prelude.{◌≡◌, [], ◌∷◌, ◌+◌, ◌^◌, ◌≤◌, length, MatchOption};
+ghost use Rattle.std.proofs.Math.Option.{none};
+ghost use Rattle.records.specs.Refusals.{outcome_of};
+ghost use Rattle.rules.specs.Columns.{top, point, bit_length, within, limited_column, column_body, column_of, largest_of};
 ghost use Rattle.rules.proofs.Circuits.Limits.{InLimits};
 ghost use Rattle.columns.specs.Counting.{counts_of};
-ghost use Rattle.columns.specs.Kinds.{bytes_of_kind, judged_of, from_code};
+ghost use Rattle.columns.specs.Kinds.{code_of, bytes_of_kind, judged_of, from_code};
+
+use records::Refusal;
 
 // What columns come to: entries, published entries, constants, multiplications, those of them that check no bit, and tests; and
 // their largest value.
-#[derive(Clone, Copy)]
+#[derive(Clone, Copy, Debug, Default, PartialEq, Eq)]
 pub struct Counts {
     pub columns: usize,
     pub entries: usize,
@@ -24,7 +28,7 @@ pub struct Counts {
 
 // A column: yes/no, a choice of so many options, a number of so many bits, a number up to a top, a point of two numbers of so
 // many bits.
-#[derive(Clone, Copy)]
+#[derive(Clone, Copy, Debug, PartialEq, Eq)]
 pub enum Column {
     YesNo,
     Choice(usize),
@@ -33,127 +37,88 @@ pub enum Column {
     Point(usize),
 }
 
-// What a record says: a column, or the number of its refusal.
-#[derive(Clone, Copy)]
-pub enum Judged {
-    Taken(Column),
-    Refused(u32),
+// The kind of a column, by its kind byte.
+#[derive(Clone, Copy, Debug, PartialEq, Eq)]
+pub enum Kind {
+    YesNo = 17,
+    Choice = 18,
+    Number = 19,
+    Top = 20,
+    Point = 21,
 }
 
-// No column at all.
+impl Kind {
+    // The kind of a byte, if it is one.
+    #[tactic(auto, unfolding(rules::specs::Columns::column_body))]
+    pub fn of(byte: u8) -> Option<Kind>
+        ensures { MatchOption result (column_body byte ≡ none) (λ kind. code_of kind ≡ byte) }
+    {
+        match byte {
+            17 => Some(Kind::YesNo),
+            18 => Some(Kind::Choice),
+            19 => Some(Kind::Number),
+            20 => Some(Kind::Top),
+            21 => Some(Kind::Point),
+            _ => None,
+        }
+    }
+}
+
+// No column at all: what the default is, in the words of the rules.
 pub fn none() -> Counts
     ensures { result ≡ counts_of [] }
 {
-    Counts {
-        columns: 0,
-        entries: 0,
-        published: 0,
-        constants: 0,
-        gates: 0,
-        products: 0,
-        tests: 0,
-        largest: 0,
+    Counts::default()
+}
+
+// The bytes of a column, its kind byte too.
+#[tactic(auto, unfolding(rules::specs::Columns::column_body, crate::specs::Kinds::bytes_of_kind))]
+pub fn bytes_of(kind: Kind) -> usize
+    ensures { result ≡ bytes_of_kind (code_of kind) }
+{
+    match kind {
+        Kind::YesNo => 1,
+        Kind::Choice | Kind::Number | Kind::Point => 2,
+        Kind::Top => 5,
     }
 }
 
-// The bytes of a column, its kind byte too; 0 for an unknown kind.
-pub fn bytes_of(kind: u8) -> usize
-    ensures { result ≡ bytes_of_kind kind }
+// A column of the number n, where n is from `least` to `most`.
+#[tactic(auto, unfolding(rules::specs::Columns::limited_column))]
+fn limited(n: usize, least: usize, most: usize, column: Column) -> Result<Column, Refusal>
+    ensures { outcome_of result ≡ judged_of (limited_column (within least most n) (from_code column)) }
 {
-    if kind == 17 {
-        return 1;
+    if !(least..=most).contains(&n) {
+        return Err(Refusal::Limit);
     }
-    if kind == 18 {
-        return 2;
-    }
-    if kind == 19 {
-        return 2;
-    }
-    if kind == 20 {
-        return 5;
-    }
-    if kind == 21 {
-        return 2;
-    }
-    0
+    Ok(column)
 }
 
-// A choice of n options.
-fn choice_of(n: usize) -> Judged
-    ensures { result ≡ judged_of (limited_column (within 2 64 n) (choice n)) }
+// What a record with a whole body says.
+#[tactic(auto, unfolding(rules::specs::Columns::column_of, rules::specs::Columns::column_body, crate::specs::Kinds::bytes_of_kind))]
+pub fn column_of(kind: Kind, body: &[u8]) -> Result<Column, Refusal>
+    requires { bytes_of_kind (code_of kind) ≡ length body.now + 1 }
+    ensures { outcome_of result ≡ judged_of (column_of (code_of kind) body.now) }
 {
-    if n < 2 {
-        return Judged::Refused(2);
+    match kind {
+        Kind::YesNo => Ok(Column::YesNo),
+        Kind::Choice => {
+            let options = usize::from(body[0]);
+            limited(options, 2, 64, Column::Choice(options))
+        }
+        Kind::Number => {
+            let bits = usize::from(body[0]);
+            limited(bits, 1, 24, Column::Number(bits))
+        }
+        Kind::Top => {
+            let top = words::read_u32(body, 0);
+            limited(top as usize, 1, 16_777_215, Column::Top(top))
+        }
+        Kind::Point => {
+            let bits = usize::from(body[0]);
+            limited(bits, 1, 12, Column::Point(bits))
+        }
     }
-    if 64 < n {
-        return Judged::Refused(2);
-    }
-    Judged::Taken(Column::Choice(n))
-}
-
-// A number of n bits.
-fn number_of(n: usize) -> Judged
-    ensures { result ≡ judged_of (limited_column (within 1 24 n) (number n)) }
-{
-    if n < 1 {
-        return Judged::Refused(2);
-    }
-    if 24 < n {
-        return Judged::Refused(2);
-    }
-    Judged::Taken(Column::Number(n))
-}
-
-// A number up to n.
-fn top_of(n: u32) -> Judged
-    ensures { result ≡ judged_of (limited_column (within 1 16777215 n) (top n)) }
-{
-    if n < 1 {
-        return Judged::Refused(2);
-    }
-    if 16777215 < n {
-        return Judged::Refused(2);
-    }
-    Judged::Taken(Column::Top(n))
-}
-
-// A point of two numbers of n bits.
-fn point_of(n: usize) -> Judged
-    ensures { result ≡ judged_of (limited_column (within 1 12 n) (point n)) }
-{
-    if n < 1 {
-        return Judged::Refused(2);
-    }
-    if 12 < n {
-        return Judged::Refused(2);
-    }
-    Judged::Taken(Column::Point(n))
-}
-
-fn wide(n: u8) -> usize
-    ensures { result ≡ n }
-{
-    n as usize
-}
-
-// What a record of a known kind with a whole body says.
-pub fn column_of(kind: u8, body: &[u8]) -> Judged
-    requires { bytes_of_kind kind ≡ length body.now + 1 }
-    ensures { result ≡ judged_of (column_of kind body.now) }
-{
-    if kind == 17 {
-        return Judged::Taken(Column::YesNo);
-    }
-    if kind == 18 {
-        return choice_of(wide(body[0]));
-    }
-    if kind == 19 {
-        return number_of(wide(body[0]));
-    }
-    if kind == 20 {
-        return top_of(words::read_u32(body, 0));
-    }
-    point_of(wide(body[0]))
 }
 
 // 2 to the n.
@@ -165,6 +130,7 @@ pub fn power(n: usize) -> u32
 }
 
 // The largest value of an entry that a column publishes.
+#[tactic(auto, unfolding(rules::specs::Columns::largest_of))]
 pub fn largest_of(column: Column) -> u32
     requires { InLimits (from_code column) }
     ensures { result ≡ largest_of (from_code column) }

@@ -7,7 +7,7 @@ use native.Mathlib.Omega.{arith}
 use borrow.Author.Tests.{ne_eqb, le-leb, lt-leb}
 use lib.ListN.{length}
 use Rattle.words.specs.Bytes.{splice}
-use Rattle.records.specs.Outcome.{ok}
+use Rattle.records.specs.Outcome.{Outcome, ok, refused}
 use Rattle.records.proofs.Outcome.{or_none, or_first}
 use Rattle.rules.specs.Settings.{document01}
 use Rattle.rules.specs.Columns.{read_sheet, columns_of}
@@ -22,36 +22,33 @@ use Rattle.columns.proofs.Taken.{columns_small}
 use Rattle.sizes.specs.Room.{steps_size}
 use Rattle.sizes.proofs.Room.{adds_made_lem, scales_made_lem}
 use Rattle.sheet.specs.Reading.{reading_of}
-use Rattle.sheet.specs.declared.Reading.TheVariants as sheet
 use Rattle.sheet.proofs.Answers.{reading_refused}
-use Rattle.records.specs.declared.Written.{Written}
 use Rattle.records.specs.Answers.{answered, only_if}
 use Rattle.compile.specs.Writing.{written_of, circuit_in}
-use Rattle.records.specs.declared.Written.TheVariants as answer
 
 -- what `write` promises of its answer and of the buffer
-abbrev Answers : List ℕ → List ℕ → Written → List ℕ → Type 0
+abbrev Answers : List ℕ → List ℕ → Outcome ℕ → List ℕ → Type 0
 Answers s out r t = (r ≡ written_of s (length out)) × (t ≡ circuit_in s out)
 
 module _ (s out : List ℕ) where
-  refuse : (n : ℕ) → sheet_circuit_refusal document01 s (length out) ≡ n → (n ≡ 0 → ⊥) → Answers s out (answer.Refused n) out
+  refuse : (n : ℕ) → sheet_circuit_refusal document01 s (length out) ≡ n → (n ≡ 0 → ⊥) → Answers s out (refused n) out
   unfolding written_of circuit_in answered only_if
   refuse n e z = (rw (e, ne_eqb n 0 z), rw (e, ne_eqb n 0 z))
 
   -- the sheet is refused
-  pub refuse_sheet : (n : ℕ) → reading_of s ≡ sheet.Refused n → Answers s out (answer.Refused n) out
+  pub refuse_sheet : (n : ℕ) → reading_of s ≡ refused n → Answers s out (refused n) out
   unfolding sheet_circuit_refusal
   refuse_sheet n e = let r = reading_refused s n e in refuse n (rw r.0 (or_first n _ r.1)) r.1
 
   module _ (is_read : read_sheet s ≡ ok (columns_of s)) where
-    pub refuse_short : length out < length (sheet_circuit document01 s) → Answers s out (answer.Refused 14) out
+    pub refuse_short : length out < length (sheet_circuit document01 s) → Answers s out (refused 14) out
     unfolding sheet_circuit_refusal
     refuse_short h =
         refuse 14 (rw ((sheet_fault_lem s (columns_of s) is_read).0, or_none, lt-leb (length (sheet_circuit document01 s)) (length out) h))
         (λ z. omega arith)
 
     pub done : (n : ℕ) (t : List ℕ) → n ≡ length (sheet_circuit document01 s) → n ≤ length out
-        → t ≡ splice out 0 (sheet_circuit document01 s) → Answers s out (answer.Done n) t
+        → t ≡ splice out 0 (sheet_circuit document01 s) → Answers s out (ok n) t
     unfolding written_of circuit_in answered only_if sheet_circuit_refusal
     done n t e h p =
         let fits : length (sheet_circuit document01 s) ≤ length out = omega arith in

@@ -4,8 +4,8 @@ use Rattle.words.specs.Bytes.{splice}
 use Rattle.rules.specs.Settings.{document01}
 use Rattle.rules.specs.Circuit.{Step, constant, add, bit_sum}
 use Rattle.rules.specs.CircuitReader.{sheet_circuit, sheet_circuit_refusal}
+use Rattle.records.specs.Outcome.{Outcome}
 use Rattle.records.specs.Answers.{answered, only_if}
-use Rattle.records.specs.declared.Written.{Written}
 
 -- s became t: the n bytes ys stand from place at, nothing else changed, and next is the place behind them
 pub record Put (s : List ℕ) (at n : ℕ) (ys t : List ℕ) (next : ℕ) : Type 0 where
@@ -20,7 +20,7 @@ abbrev pub rest_steps : ℕ → ℕ → ℕ → ℕ → List Step
 rest_steps n b w q = constant (document01.modulus - n) ∷ add q w ∷ bit_sum b (w + 1 + 3 * b) (q + 1)
 
 -- the answer where a buffer of so many bytes is lent
-unfoldable pub written_of : List ℕ → ℕ → Written
+unfoldable pub written_of : List ℕ → ℕ → Outcome ℕ
 written_of sheet room = answered (sheet_circuit_refusal document01 sheet room) (length (sheet_circuit document01 sheet))
 
 -- the buffer afterwards

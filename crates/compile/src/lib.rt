@@ -6,6 +6,7 @@
 ghost use Rattle.std.specs.Prelude.{◌≡◌, [], ◌∷◌, ◌++◌, ◌+◌, ◌*◌, ◌≤◌, ◌<◌, length};
 ghost use Rattle.words.specs.Bytes.{bytes_of};
 ghost use Rattle.records.specs.Outcome.{ok};
+ghost use Rattle.records.specs.Refusals.{outcome_of};
 ghost use Rattle.rules.specs.Settings.{document01};
 ghost use Rattle.rules.specs.Columns.{choice, number, top, bit_length, read_sheet, columns_of};
 ghost use Rattle.rules.specs.Circuit.{circuit_bytes, bit_check, bit_checks, option_adds, option_sum, bit_adds, test};
@@ -13,31 +14,32 @@ ghost use Rattle.rules.specs.Circuit.{number_checks, column_steps, wires_of};
 ghost use Rattle.rules.specs.CircuitReader.{sheet_circuit};
 ghost use Rattle.rules.proofs.Circuits.Limits.{InLimits};
 ghost use Rattle.rules.specs.Sizes.{column_size};
-ghost use Rattle.columns.specs.Counting.{counts_of};
 ghost use Rattle.columns.specs.Kinds.{from_code};
+ghost use Rattle.circuit.specs.Reading.{code_of};
 ghost use Rattle.compile.specs.Writing.{Put, rest_steps, written_of, circuit_in};
 
 mod points;
 
-use columns::{Column, Counts, bit_length, counts_of};
+use circuit::StepKind;
+use columns::{Column, bit_length, counts_of};
 use points::put_point;
-use records::Written;
-use sheet::Reading;
+use records::Refusal;
+use sheet::cursor;
 
 // A kind byte and a wire or an entry number.
-fn put_one(out: &mut [u8], at: usize, kind: u8, a: u32) -> usize
+fn put_one(out: &mut [u8], at: usize, kind: StepKind, a: u32) -> usize
     requires { at + 3 ≤ length out.old }
-    ensures { Put out.old at 3 (kind ∷ bytes_of 2 a) out.new result }
+    ensures { Put out.old at 3 (code_of kind ∷ bytes_of 2 a) out.new result }
 {
-    out[at] = kind;
+    out[at] = kind.code();
     words::write_u16(out, at + 1, a);
     at + 3
 }
 
 // A kind byte and two wires.
-fn put_pair(out: &mut [u8], at: usize, kind: u8, a: u32, b: u32) -> usize
+fn put_pair(out: &mut [u8], at: usize, kind: StepKind, a: u32, b: u32) -> usize
     requires { at + 5 ≤ length out.old }
-    ensures { Put out.old at 5 (kind ∷ bytes_of 2 a ++ bytes_of 2 b) out.new result }
+    ensures { Put out.old at 5 (code_of kind ∷ bytes_of 2 a ++ bytes_of 2 b) out.new result }
 {
     let next = put_one(out, at, kind, a);
     words::write_u16(out, next, b);
@@ -49,7 +51,7 @@ fn put_scale(out: &mut [u8], at: usize, a: u32, constant: u32) -> usize
     requires { at + 7 ≤ length out.old }
     ensures { Put out.old at 7 (4 ∷ bytes_of 2 a ++ bytes_of 4 constant) out.new result }
 {
-    let next = put_one(out, at, 4, a);
+    let next = put_one(out, at, StepKind::Scale, a);
     words::write_u32(out, next, constant);
     next + 4
 }
@@ -59,7 +61,7 @@ fn put_constant(out: &mut [u8], at: usize, constant: u32) -> usize
     requires { at + 5 ≤ length out.old }
     ensures { Put out.old at 5 (1 ∷ bytes_of 4 constant) out.new result }
 {
-    out[at] = 1;
+    out[at] = StepKind::Constant.code();
     words::write_u32(out, at + 1, constant);
     at + 5
 }
@@ -69,10 +71,10 @@ fn bit_check(out: &mut [u8], at: usize, e: u32, w: u32) -> usize
     requires { (at + 16 ≤ length out.old) × (w < 65536) }
     ensures { Put out.old at 16 (circuit_bytes document01 (bit_check e w)) out.new result }
 {
-    let sum = put_one(out, at, 2, e);
-    let product = put_pair(out, sum, 3, w, 0);
-    let test = put_pair(out, product, 5, w, w + 1);
-    put_one(out, test, 6, w + 2)
+    let sum = put_one(out, at, StepKind::Entry, e);
+    let product = put_pair(out, sum, StepKind::Add, w, 0);
+    let test = put_pair(out, product, StepKind::Multiply, w, w + 1);
+    put_one(out, test, StepKind::Test, w + 2)
 }
 
 // `n` bit checks, of the entries from `e`.
@@ -81,10 +83,8 @@ fn bit_checks(out: &mut [u8], at: usize, n: u32, e: u32, w: u32) -> usize
     ensures { Put out.old at (16 * n) (circuit_bytes document01 (bit_checks n e w)) out.new result }
 {
     let mut place = at;
-    let mut i: u32 = 0;
-    while i < n {
+    for i in 0..n {
         place = bit_check(out, place, e + i, w + 3 * i);
-        i += 1;
     }
     place
 }
@@ -97,13 +97,11 @@ fn option_sum(out: &mut [u8], at: usize, n: u32, w: u32, q: u32) -> usize
 {
     let mut place = at;
     let mut sum: u32 = 0;
-    let mut i: u32 = 0;
-    while i < n {
-        place = put_pair(out, place, 3, sum, w + 3 * i);
+    for i in 0..n {
+        place = put_pair(out, place, StepKind::Add, sum, w + 3 * i);
         sum = q + i;
-        i += 1;
     }
-    put_one(out, place, 6, sum)
+    put_one(out, place, StepKind::Test, sum)
 }
 
 // The sum of `n` bits, each times its weight, onto wire `q`; bit wires as with options. Then its test.
@@ -114,14 +112,12 @@ fn bit_sum(out: &mut [u8], at: usize, n: u32, w: u32, q: u32) -> usize
 {
     let mut place = at;
     let mut weight: u32 = 1;
-    let mut i: u32 = 0;
-    while i < n {
+    for i in 0..n {
         let sum = put_scale(out, place, w + 3 * i, weight);
-        place = put_pair(out, sum, 3, q + 2 * i, q + 2 * i + 1);
+        place = put_pair(out, sum, StepKind::Add, q + 2 * i, q + 2 * i + 1);
         weight = weight + weight;
-        i += 1;
     }
-    put_one(out, place, 6, q + 2 * n)
+    put_one(out, place, StepKind::Test, q + 2 * n)
 }
 
 // A choice of `n` options, whose first entry is `e`.
@@ -151,7 +147,7 @@ fn put_number(out: &mut [u8], at: usize, n: u32, e: u32, w: u32) -> usize
     ensures { Put out.old at (column_size document01 (number n))
         (circuit_bytes document01 (column_steps document01 e w (number n))) out.new result }
 {
-    let checks = put_one(out, at, 2, e);
+    let checks = put_one(out, at, StepKind::Entry, e);
     put_number_checks(out, checks, n, w, e + 1, w + 1)
 }
 
@@ -161,7 +157,7 @@ fn put_rest(out: &mut [u8], at: usize, n: u32, b: u32, w: u32, q: u32) -> usize
     ensures { Put out.old at (12 * b + 13) (circuit_bytes document01 (rest_steps n b w q)) out.new result }
 {
     let sum = put_constant(out, at, field::P - n);
-    let bits = put_pair(out, sum, 3, q, w);
+    let bits = put_pair(out, sum, StepKind::Add, q, w);
     bit_sum(out, bits, b, w + 1 + 3 * b, q + 1)
 }
 
@@ -173,7 +169,7 @@ fn put_top(out: &mut [u8], at: usize, n: u32, b: u32, e: u32, w: u32) -> usize
         (circuit_bytes document01 (column_steps document01 e w (top n))) out.new result }
 {
     let q = w + 1 + 6 * b;
-    let bits = put_one(out, at, 2, e);
+    let bits = put_one(out, at, StepKind::Entry, e);
     let minus = bit_checks(out, bits, 2 * b, e + 1, w + 1);
     let sum = put_scale(out, minus, w, field::P - 1);
     let rest = bit_sum(out, sum, b, w + 1, q);
@@ -204,48 +200,30 @@ fn wires_of(column: Column) -> u32
     sizes::columns_wires(counts_of(column))
 }
 
-// Writes the circuit of a sheet that is read, which has so many columns, where there is room for it.
-fn put_circuit(sheet: &[u8], columns: usize, out: &mut [u8]) -> usize
-    requires { (read_sheet sheet.now ≡ ok (columns_of sheet.now)) × (columns ≡ length (columns_of sheet.now))
+// Writes the circuit of a sheet that is read, where there is room for it.
+fn put_circuit(sheet: &[u8], out: &mut [u8]) -> usize
+    requires { (read_sheet sheet.now ≡ ok (columns_of sheet.now))
         × (length (sheet_circuit document01 sheet.now) ≤ length out.old) }
     ensures { Put out.old 0 (length (sheet_circuit document01 sheet.now))
         (sheet_circuit document01 sheet.now) out.new result }
 {
     let mut at = put_constant(out, 0, field::P - 1);
     let mut wire: u32 = 1;
-    let mut c = sheet::cursor::start();
-    while c.index < columns {
-        let step = sheet::cursor::next(sheet, c);
-        let column = step.column;
-        at = put_column(out, at, column, c.entry as u32, wire);
-        wire += wires_of(column);
-        c = step.next;
+    for place in cursor::columns(sheet) {
+        at = put_column(out, at, place.column, place.before.entry as u32, wire);
+        wire += wires_of(place.column);
     }
     at
 }
 
-// Writes the circuit of a sheet that is read, which comes to these counts, or refuses where the buffer is too short for it.
-fn write_read(sheet: &[u8], counts: Counts, out: &mut [u8]) -> Written
-    requires { (read_sheet sheet.now ≡ ok (columns_of sheet.now)) × (counts ≡ counts_of (columns_of sheet.now)) }
-    ensures { (result ≡ written_of sheet.now (length out.old))
-        × (out.new ≡ circuit_in sheet.now out.old) }
-{
-    let n = sizes::circuit_size(counts);
-    if out.len() < n {
-        return Written::Refused(14);
-    }
-    put_circuit(sheet, counts.columns, out);
-    Written::Done(n)
-}
-
 // Writes a sheet's circuit: how long it is, or the refusal, with the buffer as it was.
-pub fn write(sheet: &[u8], out: &mut [u8]) -> Written
-    ensures { (result ≡ written_of sheet.now (length out.old))
+pub fn write(sheet: &[u8], out: &mut [u8]) -> Result<usize, Refusal>
+    ensures { (outcome_of result ≡ written_of sheet.now (length out.old))
         × (out.new ≡ circuit_in sheet.now out.old) }
 {
-    let reading = sheet::read(sheet);
-    match reading {
-        Reading::Counts(counts) => write_read(sheet, counts, out),
-        Reading::Refused(n) => Written::Refused(n),
+    let counts = sheet::read(sheet)?;
+    if out.len() < sizes::circuit_size(counts) {
+        return Err(Refusal::Room);
     }
+    Ok(put_circuit(sheet, out))
 }

@@ -7,16 +7,17 @@ ghost use Rattle.rules.specs.Sizes.{column_size};
 ghost use Rattle.compile.specs.Writing.{Put};
 
 use crate::{put_number_checks, put_one, put_pair, put_scale};
+use circuit::StepKind;
 
 // The check that wire `a` times wire `b` is wire `c`, where `w` is the next wire.
 fn put_product_check(out: &mut [u8], at: usize, a: u32, b: u32, c: u32, w: u32) -> usize
     requires { (at + 20 ≤ length out.old) × (w < 65536) }
     ensures { Put out.old at 20 (circuit_bytes document01 (product_check document01 a b c w)) out.new result }
 {
-    let minus = put_pair(out, at, 5, a, b);
+    let minus = put_pair(out, at, StepKind::Multiply, a, b);
     let sum = put_scale(out, minus, c, field::P - 1);
-    let test = put_pair(out, sum, 3, w, w + 1);
-    put_one(out, test, 6, w + 2)
+    let test = put_pair(out, sum, StepKind::Add, w, w + 1);
+    put_one(out, test, StepKind::Test, w + 2)
 }
 
 // The checks of a point whose first entry is `e`, on wire `w`; `q` is the wire behind the checks of its numbers.
@@ -37,9 +38,9 @@ pub fn put_point(out: &mut [u8], at: usize, n: u32, e: u32, w: u32) -> usize
     ensures { Put out.old at (column_size document01 (point n))
         (circuit_bytes document01 (column_steps document01 e w (point n))) out.new result }
 {
-    let square = put_one(out, at, 2, e);
-    let second = put_one(out, square, 2, e + 1);
-    let product = put_one(out, second, 2, e + 2);
-    let checks = put_one(out, product, 2, e + 3);
+    let square = put_one(out, at, StepKind::Entry, e);
+    let second = put_one(out, square, StepKind::Entry, e + 1);
+    let product = put_one(out, second, StepKind::Entry, e + 2);
+    let checks = put_one(out, product, StepKind::Entry, e + 3);
     put_point_checks(out, checks, n, e, w, w + 4 + (5 * n + 1) + (5 * n + 1))
 }

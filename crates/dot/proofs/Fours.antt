@@ -10,7 +10,7 @@ use Rattle.algebra.specs.Sums.{sum, inner}
 use Rattle.algebra.proofs.Remainders.{same_rest}
 use Rattle.field.specs.Residues.{prime, top, residues}
 use Rattle.field.proofs.Below.{sum_below}
-use Rattle.dot.proofs.Parts.{parts_add}
+use Rattle.dot.proofs.Parts.{parts_add, Parts}
 
 -- a sum splits at any place
 sum_append : (g : ℕ → ℕ) (m n : ℕ) → sum residues (m + n) g ≡ (sum residues m g + sum residues n (λ i. g (m + i))) % prime
@@ -103,6 +103,10 @@ module _ (x y : ℕ → ℕ) where
         next : (t : ℕ) {u v : ℕ} → u ≡ v → (t + u) % prime ≡ (t + v % prime) % prime
         next t {u} {v} e = ap (λ (w : ℕ). (t + w) % prime) e ∙ sym (add-mod-mod t v prime)
 
-    pub finish : {low high i : ℕ} → Quarters low high i → i ≡ q → (low + high) % prime ≡ inner residues (4 * q) x y
-    finish {low} {high} {i} v e =
-        v.is ∙ ap (λ (n : ℕ). four q n % prime) e ∙ sym (four_quarters q)
+    -- what the turns leave is the inner product of the first members, four to each
+    pub finish : {low high i : ℕ} → Quarters low high i → i ≡ q → Parts x y low high (4 * q)
+    finish {low} {high} {i} v e = record {
+      low_most = omega (arith, v.low_most);
+      high_most = omega (arith, v.high_most);
+      is = v.is ∙ ap (λ (n : ℕ). four q n % prime) e ∙ sym (four_quarters q);
+    }

@@ -2,13 +2,12 @@
 -- is lower + 2147483648 * upper and 2147483648 leaves 1, so the two sums leave what the inner product is. Assumes nothing.
 use mathlib.Core.Path.{◌≡◌, refl, sym, ap, ap₂, ◌∙◌}
 use Prim.Native.Nat.{ℕ, ◌+◌, ◌*◌, ◌/◌, ◌%◌, ◌^◌, ◌≤◌, ◌<◌}
-use native.Mathlib.Nat.{add-zero, mod-add-mod, add-mod-mod}
+use native.Mathlib.Nat.{mod-add-mod, add-mod-mod}
 use native.Mathlib.Numerals.{add-one}
 use native.Mathlib.Omega.{arith}
 use Rattle.algebra.specs.Sums.{sum, inner}
 use Rattle.field.specs.Residues.{prime, top, residues}
 use Rattle.field.proofs.Reduction.{folded}
-use Rattle.dot.specs.Lengths.{longest}
 
 -- the parts of one more number z
 pub parts_add : (low high z : ℕ) → (low + z % top + (high + z / top)) % prime ≡ ((low + high) % prime + z) % prime
@@ -20,10 +19,6 @@ parts_add low high z =
     ∙ add-mod-mod (low + high) z prime
     ∙ sym (mod-add-mod (low + high) prime z)
 
--- the sum of the upper parts has room for one more
-pub high_fits : (high z i : ℕ) → high ≤ 4 * top * i → i < longest → z < 2 ^ 64 → high + z / top < 2 ^ 64
-high_fits high z i h k fits = omega arith
-
 module _ (x y : ℕ → ℕ) where
   -- low and high are the sums of the parts of the first i products
   pub record Parts (low high i : ℕ) : Type 0 where
@@ -31,17 +26,9 @@ module _ (x y : ℕ → ℕ) where
     pub high_most : high ≤ 4 * top * i
     pub is : (low + high) % prime ≡ inner residues i x y
 
-  -- from a number that leaves the inner product so far
-  pub begin : (begun i : ℕ) → begun ≤ 2 * top * i → begun % prime ≡ inner residues i x y → Parts begun 0 i
-  begin begun i h e = record {
-    low_most = h;
-    high_most = omega arith;
-    is = ap (λ (t : ℕ). t % prime) (add-zero begun) ∙ e;
-  }
-
   pub start : Parts 0 0 0
   unfolding sum
-  start = begin 0 0 (omega arith) refl
+  start = record { low_most = omega arith; high_most = omega arith; is = refl }
 
   pub turn : {low high i : ℕ} (z : ℕ) → Parts low high i → z ≡ x i * y i → z < 2 ^ 64
       → Parts (low + z % top) (high + z / top) (i + 1)

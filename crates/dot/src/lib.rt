@@ -22,12 +22,10 @@ pub fn inner(a: &[u32], b: &[u32]) -> u32
 {
     let mut low: u64 = 0;
     let mut high: u64 = 0;
-    let mut i = 0;
-    while i < a.len() {
-        let x = field::product(a[i], b[i]);
-        low += x % TOP;
-        high += x / TOP;
-        i += 1;
+    for (x, y) in a.iter().zip(b) {
+        let z = field::product(*x, *y);
+        low += z % TOP;
+        high += z / TOP;
     }
     field::residue(low + high)
 }
@@ -48,52 +46,8 @@ fn product_at(a: &[u64], b: &[u64], i: usize) -> u64
     low_half(a[i]) * low_half(b[i])
 }
 
-// A number that leaves the inner product of the first 4 q members. One product from each quarter is summed before the
-// sum is split: four of them fit into 64 bits.
-fn quarters(a: &[u64], b: &[u64], q: usize) -> u64
-    requires q_in_bounds { (4 * q ≤ length a.now) × (length a.now ≡ length b.now) × (length a.now ≤ longest) }
-    requires elements { Elements a.now × Elements b.now }
-    ensures { (result ≤ 2 * top * (4 * q)) × (result % prime ≡ Sums·inner residues (4 * q)
-        (λ i. get_or a.now i 0) (λ i. get_or b.now i 0)) }
-{
-    let mut low: u64 = 0;
-    let mut high: u64 = 0;
-    let mut i = 0;
-    while i < q {
-        let x = product_at(a, b, i)
-            + product_at(a, b, q + i)
-            + product_at(a, b, 2 * q + i)
-            + product_at(a, b, 3 * q + i);
-        low += x % TOP;
-        high += x / TOP;
-        i += 1;
-    }
-    low + high
-}
-
-// The inner product, from a number that leaves that of the first members, of which there are `first`.
-fn inner_from(a: &[u64], b: &[u64], first: usize, begun: u64) -> u32
-    requires first_in_bounds { (first ≤ length a.now) × (length a.now ≡ length b.now) × (length a.now ≤ longest) }
-    requires elements { Elements a.now × Elements b.now }
-    requires begun_bound { (begun ≤ 2 * top * first) × (begun % prime ≡ Sums·inner residues first
-        (λ i. get_or a.now i 0) (λ i. get_or b.now i 0)) }
-    ensures { result ≡ Sums·inner residues (length a.now)
-        (λ i. get_or a.now i 0) (λ i. get_or b.now i 0) }
-{
-    let mut low = begun;
-    let mut high: u64 = 0;
-    let mut i = first;
-    while i < a.len() {
-        let x = product_at(a, b, i);
-        low += x % TOP;
-        high += x / TOP;
-        i += 1;
-    }
-    field::residue(low + high)
-}
-
-// The inner product of elements that are kept in 64 bits: faster than `inner`, as the loop over quarters works on
-// several members at once.
+// The inner product of elements that are kept in 64 bits: faster than `inner`, as the first loop works on several members at
+// once. It takes one product from each quarter and sums them before the sum is split: four of them fit into 64 bits.
 pub fn inner_wide(a: &[u64], b: &[u64]) -> u32
     requires { (length a.now ≡ length b.now) × (length a.now ≤ longest)
         × Elements a.now × Elements b.now }
@@ -101,5 +55,20 @@ pub fn inner_wide(a: &[u64], b: &[u64]) -> u32
         (λ i. get_or a.now i 0) (λ i. get_or b.now i 0) }
 {
     let q = a.len() / 4;
-    inner_from(a, b, 4 * q, quarters(a, b, q))
+    let mut low: u64 = 0;
+    let mut high: u64 = 0;
+    'quarters: for i in 0..q {
+        let x = product_at(a, b, i)
+            + product_at(a, b, q + i)
+            + product_at(a, b, 2 * q + i)
+            + product_at(a, b, 3 * q + i);
+        low += x % TOP;
+        high += x / TOP;
+    }
+    'rest: for i in 4 * q..a.len() {
+        let x = product_at(a, b, i);
+        low += x % TOP;
+        high += x / TOP;
+    }
+    field::residue(low + high)
 }

@@ -18,10 +18,8 @@ pub fn read(s: &[u8], out: &mut [u32])
     requires { length s.now ≡ 4 * length out.old }
     ensures { out.new ≡ elements_of 4 s.now }
 {
-    let mut k: usize = 0;
-    while k < out.len() {
-        out[k] = words::read_u32(s, 4 * k);
-        k += 1;
+    for (k, x) in out.iter_mut().enumerate() {
+        *x = words::read_u32(s, 4 * k);
     }
 }
 
@@ -30,39 +28,35 @@ pub fn write(s: &mut [u8], at: usize, xs: &[u32])
     requires { at + 4 * length xs.now ≤ length s.old }
     ensures { s.new ≡ splice s.old at (bytes_of_all 4 xs.now) }
 {
-    let mut i: usize = 0;
-    while i < xs.len() {
-        words::write_u32(s, at + 4 * i, xs[i]);
-        i += 1;
+    for (i, x) in xs.iter().enumerate() {
+        words::write_u32(s, at + 4 * i, *x);
     }
 }
 
-// Whether each element of a run is below `bound`. The loop looks at all of them: so it takes several in a turn.
+// Whether each element of a run is below `bound`. The loop looks at all of them: so it takes several in a turn. An `if`
+// takes fewer instructions there than `below &= ..`.
 pub fn below(s: &[u8], bound: u32) -> bool
     ensures { result ≡ all_below bound (elements_of 4 s.now) }
 {
-    let mut at: usize = 0;
     let mut below = true;
-    while 4 <= s.len() - at {
-        if bound <= words::read_u32(s, at) {
+    for k in 0..s.len() / 4 {
+        if bound <= words::read_u32(s, 4 * k) {
             below = false;
         }
-        at += 4;
     }
     below
 }
 
-// Whether each of a run of numbers is below `bound`. The loop looks at all of them: so it takes several in a turn.
+// Whether each of a run of numbers is below `bound`. The loop looks at all of them: so it takes several in a turn. An
+// `if` takes fewer instructions there than `below &= ..`.
 pub fn all_below(xs: &[u32], bound: u32) -> bool
     ensures { result ≡ all_below bound xs.now }
 {
-    let mut i: usize = 0;
     let mut below = true;
-    while i < xs.len() {
-        if bound <= xs[i] {
+    for x in xs {
+        if bound <= *x {
             below = false;
         }
-        i += 1;
     }
     below
 }

@@ -27,7 +27,8 @@ use Rattle.sheet.specs.declared.cursor.Cursor.{Cursor}
 use Rattle.sheet.specs.declared.cursor.Step.{Step}
 use Rattle.sheet.specs.Cursor.{begin, Stands, step_at}
 use Rattle.sheet.proofs.Cursors.{place}
-use Rattle.sheet.proofs.Walks.{Walks, walk_start, stands_by_place, walk_end, walk_done, walk_next}
+use Rattle.sheet.specs.Cursor.{Walks}
+use Rattle.sheet.proofs.Walks.{walk_start, stands_by_place, walk_end, walk_done, walk_next}
 use Rattle.layout.specs.Places.{totals_at}
 use Rattle.layout.specs.declared.Table.{Table}
 use Rattle.rounds.specs.Waits.{numbers_in}

@@ -8,7 +8,14 @@ use native.Mathlib.Omega.{arith}
 use lib.Dec.{lit≤}
 use lib.ListN.{length, take}
 use Rattle.algebra.proofs.Members.{and_left, and_right}
+use Rattle.std.specs.Prelude.{Result, Ok, Err, Some}
+use Rattle.std.specs.Result.{IsErrAnd}
+use Rattle.std.proofs.lemmas.Result.{err_from_is_err_and}
 use Rattle.words.specs.Bytes.{all_below}
+use Rattle.records.specs.Outcome.{refused}
+use Rattle.records.specs.Refusals.{number_of}
+use Rattle.records.specs.declared.Refusal.{Refusal}
+use Rattle.records.proofs.Refusals.{number_nonzero}
 use Rattle.words.proofs.Splice.{length_part}
 use Rattle.words.proofs.Below.{all_of_below, below_of_all, all_take}
 use Rattle.slots.specs.declared.Change.{Change}
@@ -21,14 +28,14 @@ use Rattle.rules.specs.WaitingList.{waiting_count, waiting_sound}
 use Rattle.rules.specs.Table.{Lent, columns_at, totals_in, header_sound, counts_sound, table_state, table_sound, enter_refused, enter_table}
 use Rattle.layout.specs.declared.Table.{Table}
 use Rattle.waiting.specs.declared.Waiting.{Waiting}
-use Rattle.waiting.specs.Changes.{refused_by, records_at, lent}
+use Rattle.waiting.specs.Changes.{records_at, lent}
 use Rattle.waiting.proofs.Changes.{refused_changes, done_changes}
 use Rattle.table.specs.Deciding.{Placed, Decided}
 use Rattle.table.proofs.Answers.{headed_of}
 use Rattle.table.proofs.Decided.{placed, decided_is}
 use Rattle.rounds.specs.Waits.{numbers_in, Waits, share_in}
 use Rattle.rounds.specs.Named.{waits_as, named_in}
-use Rattle.rounds.specs.declared.named.Named.TheVariants as answer
+use Rattle.rounds.specs.declared.named.Named.{Named}
 use Rattle.rounds.proofs.Holding.{share_is, size_is, numbers_long}
 use Rattle.rounds.proofs.Naming.{enter_refusal_lem, not_found, Names}
 use Rattle.entering.specs.Totals.{Adds, with_published}
@@ -64,31 +71,35 @@ module _ (T : Lent) (id : ℕ) where
   unfolding enter_refused enter_refusal table_state
   refused_is = enter_refusal_lem T id
 
-  pub enter_unnamed : (m : ℕ) → named_in T id 3 ≡ answer.Refused m → Enters T id (refused_by m) T.bytes T.elements
-  enter_unnamed m e =
-      let b = not_found T id 3 m e in
-      refused_changes (enter_refused document01 T id) (enter_table document01 T id) T m (refused_is ∙ rw (b.0, b.1))
-      (λ z. omega (arith, b.1))
+  refused_by_lem : (e : Refusal) → refused (number_of e) ≡ named_in T id 3 → Enters T id (Err e) T.bytes T.elements
+  refused_by_lem e q =
+      let b = not_found T id 3 (number_of e) q in
+      refused_changes (enter_refused document01 T id) (enter_table document01 T id) T (number_of e) (refused_is ∙ rw (b.0, b.1))
+      (number_nonzero e)
+
+  pub enter_unnamed : (a : Result Change Refusal) (e : Refusal) → IsErrAnd a (λ y. y ≡ e) → refused (number_of e) ≡ named_in T id 3
+      → Enters T id a T.bytes T.elements
+  enter_unnamed a e h q = let p = err_from_is_err_and a h in rw (p.1, p.2) (refused_by_lem e q)
 
   -- the return that is named, and its share as the code cuts it out
-  module _ (k : Table) (j : ℕ) (w : Waiting) (n : Names T id 3 k j w) (xs : List ℕ) (x : xs ≡ share_in k j T.elements) where
-    share_same : xs ≡ take (share_size (columns_at document01 T)) (numbers_in T j)
-    share_same = x ∙ share_is T k n.waits.sound.says j
+  module _ (v : Named) (n : Names T id 3 v.table v.at v.waiting) (xs : List ℕ) (x : xs ≡ share_in v.table v.at T.elements) where
+    share_same : xs ≡ take (share_size (columns_at document01 T)) (numbers_in T v.at)
+    share_same = x ∙ share_is T v.table n.waits.sound.says v.at
 
-    pub enter_adds : Adds T.bytes k xs
-    enter_adds = adds T k j n.waits xs share_same
+    pub enter_adds : Adds T.bytes v.table xs
+    enter_adds = adds T v.table v.at n.waits xs share_same
 
-    pub enter_placed : (t : List ℕ) → length t ≡ length T.bytes → Placed t k T.elements j 1
-    enter_placed t l = placed T k n.waits.sound j n.waits.within n.waits.not_free t l 1 (lit≤ tt)
+    pub enter_placed : (t : List ℕ) → length t ≡ length T.bytes → Placed t v.table T.elements v.at 1
+    enter_placed t l = placed T v.table n.waits.sound v.at n.waits.within n.waits.not_free t l 1 (lit≤ tt)
 
-    pub enter_done : (c : Change) (t es : List ℕ) → Decided k j 1 id (with_published T.bytes xs) T.elements c t es
-        → Enters T id c t es
+    pub enter_done : (c : Change) (t es : List ℕ) → Decided v.table v.at 1 id (with_published T.bytes xs) T.elements c t es
+        → Enters T id (Ok c) t es
     unfolding enter_table
     enter_done c t es d =
         let s = n.waits.sound in
-        let new : lent t (applied T.slots (records_at j free_slot)) es ≡ enter_table document01 T id
-        = rw d.frees at (decided_is T k s 1 id (with_published T.bytes xs) j n.place_is c t es d)
-        ∙ rw (share_same, added_is T id j n.place_is) in
+        let new : lent t (applied T.slots (Some (records_at v.at free_slot))) es ≡ enter_table document01 T id
+        = rw d.frees at (decided_is T v.table s 1 id (with_published T.bytes xs) v.at n.place_is c t es d)
+        ∙ rw (share_same, added_is T id v.at n.place_is) in
         rw d.frees
-        (done_changes (enter_refused document01 T id) (enter_table document01 T id) T j free_slot t es (refused_is ∙ rw n.stands)
+        (done_changes (enter_refused document01 T id) (enter_table document01 T id) T v.at free_slot t es (refused_is ∙ rw n.stands)
         (omega (arith, n.waits.within, s.eight)) new)

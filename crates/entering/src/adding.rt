@@ -14,15 +14,14 @@ fn add_words(t: &mut [u8], to: usize, xs: &[u32], from: usize, n: usize)
     ensures { t.new
         ≡ splice t.old to (bytes_of_all 4 (tabulate (words_added t.old to xs.now from) n)) }
 {
-    let mut i: usize = 0;
-    while i < n {
+    for i in 0..n {
         let sum = field::add(words::read_u32(t, to + 4 * i), xs[from + i]);
         words::write_u32(t, to + 4 * i, sum);
-        i += 1;
     }
 }
 
-// Adds the published entries of the share xs to the totals, column by column.
+// Adds the published entries of the share xs to the totals, column by column. The walk is a cursor's and no iterator: the table that
+// is written holds the sheet.
 pub fn add_published(t: &mut [u8], k: Table, xs: &[u32])
     requires { Adds t.old k xs.now }
     ensures { t.new ≡ with_published t.old xs.now }

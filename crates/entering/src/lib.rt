@@ -5,23 +5,25 @@
 ghost use Rattle.waiting.specs.Changes.{lent};
 ghost use Rattle.entering.specs.Calls.{Enters};
 
-use rounds::named::{Named, find, share_at};
+use records::Refusal;
+use rounds::named::{find, share_at};
 use slots::{Change, Slot};
 use table::deciding::decide;
-use waiting::AWAITS_ENTRY;
-use waiting::writing::refused;
+use waiting::Stage;
 
 mod adding;
 
 // Enters the return that waits for its entry under an id.
-pub fn enter(table: &mut [u8], list: [Slot; 8], numbers: &mut [u32], id: u32) -> Change
+pub fn enter(
+    table: &mut [u8],
+    list: [Slot; 8],
+    numbers: &mut [u32],
+    id: u32,
+) -> Result<Change, Refusal>
     ensures { Enters (lent table.old list numbers.old) id result table.new numbers.new }
 {
-    match find(table, list, numbers, id, AWAITS_ENTRY) {
-        Named::Refused(fault) => refused(fault),
-        Named::At(k, at, _) => {
-            adding::add_published(table, k, share_at(numbers, k, at));
-            decide(table, k, numbers, at, 1, id)
-        }
-    }
+    let named = find(table, list, numbers, id, Stage::AwaitsEntry)?;
+    let k = named.table;
+    adding::add_published(table, k, share_at(numbers, k, named.at));
+    Ok(decide(table, k, numbers, named.at, 1, id))
 }

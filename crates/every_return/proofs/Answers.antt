@@ -10,7 +10,7 @@ use borrow.Author.Tests.{lt-leb, le-leb, leb-true, eq-eqb, ne_eqb, eqb-true, eqb
 use lib.Dec.{leb, eqb}
 use lib.ListN.{length}
 use Rattle.words.specs.Bytes.{splice}
-use Rattle.records.specs.Outcome.{ok, or_else}
+use Rattle.records.specs.Outcome.{ok, refused, or_else}
 use Rattle.records.specs.Answers.{only_if}
 use Rattle.records.proofs.Outcome.{or_none, or_first, or_zero}
 use Rattle.rules.specs.Columns.{read_sheet, sheet_fault, columns_of, check}
@@ -19,7 +19,6 @@ use Rattle.rules.proofs.Circuits.Limits.{limits}
 use Rattle.rules.proofs.Circuits.Refusals.{sheet_read, sheet_fault_lem}
 use Rattle.every_return.specs.Listing.{Writable, listed_of, lists_out}
 use Rattle.every_return.specs.declared.Lists.{Lists}
-use Rattle.every_return.specs.declared.Listed.TheVariants as answer
 
 check_zero : (b : Bool) (n : ℕ) → check b n ≡ 0 → (n ≡ 0 → ⊥) → b ≡ true
 check_zero true n h z = refl
@@ -59,32 +58,32 @@ module _ (s : List ℕ) (room : ℕ) where
       not_refused h = after_count ∙ rw (le-leb (every_return_length s) room h)
 
   -- ---- the answer by the refusal
-  pub answer_refused : (n : ℕ) → refusal ≡ n → (n ≡ 0 → ⊥) → listed_of s room ≡ answer.Refused n
+  pub answer_refused : (n : ℕ) → refusal ≡ n → (n ≡ 0 → ⊥) → listed_of s room ≡ refused n
   unfolding listed_of
   answer_refused n e z = rw (e, ne_eqb n 0 z)
 
-  pub answer_done : refusal ≡ 0 → listed_of s room ≡ answer.Done (found s)
+  pub answer_done : refusal ≡ 0 → listed_of s room ≡ ok (found s)
   unfolding listed_of
   answer_done e = rw (eq-eqb refusal 0 e)
 
   -- ---- the refusal by the answer
-  refused_by_lem : (b : Bool) (n : ℕ) → cond b (answer.Done (found s)) (answer.Refused refusal) ≡ answer.Refused n
+  refused_by_lem : (b : Bool) (n : ℕ) → cond b (ok (found s)) (refused refusal) ≡ refused n
       → (b ≡ false) × (refusal ≡ n)
   refused_by_lem true n e = let z : ◌≡◌ {A = ℕ} 0 1 = cc in absurd (omega arith)
   refused_by_lem false n e = (refl, cc)
 
-  done_by : (b : Bool) (d : Lists) → cond b (answer.Done (found s)) (answer.Refused refusal) ≡ answer.Done d
+  done_by : (b : Bool) (d : Lists) → cond b (ok (found s)) (refused refusal) ≡ ok d
       → (b ≡ true) × (d ≡ found s)
   done_by true d e = (refl, cc)
   done_by false d e = let z : ◌≡◌ {A = ℕ} 0 1 = cc in absurd (omega arith)
 
-  pub listed_refused : (n : ℕ) → listed_of s room ≡ answer.Refused n → (refusal ≡ n) × (n ≡ 0 → ⊥)
+  pub listed_refused : (n : ℕ) → listed_of s room ≡ refused n → (refusal ≡ n) × (n ≡ 0 → ⊥)
   unfolding listed_of
   listed_refused n e =
       let r = refused_by_lem (eqb refusal 0) n e in
       (r.1, λ z. eqb-false refusal 0 r.0 (r.1 ∙ z))
 
-  pub listed_done : (d : Lists) → listed_of s room ≡ answer.Done d → (refusal ≡ 0) × (d ≡ found s)
+  pub listed_done : (d : Lists) → listed_of s room ≡ ok d → (refusal ≡ 0) × (d ≡ found s)
   unfolding listed_of
   listed_done d e =
       let r = done_by (eqb refusal 0) d e in
@@ -100,13 +99,13 @@ bytes_few s e lists h =
 
 -- ---- what the buffer holds then
 module _ (s out : List ℕ) where
-  pub out_kept : (n : ℕ) → listed_of s (length out) ≡ answer.Refused n → out ≡ lists_out s out
+  pub out_kept : (n : ℕ) → listed_of s (length out) ≡ refused n → out ≡ lists_out s out
   unfolding lists_out only_if
   out_kept n e =
       let r = listed_refused s (length out) n e in
       sym (rw (r.0, ne_eqb n 0 r.1) refl)
 
-  module _ (d : Lists) (e : listed_of s (length out) ≡ answer.Done d) where
+  module _ (d : Lists) (e : listed_of s (length out) ≡ ok d) where
     none : every_return_refusal s (length out) ≡ 0
     none = (listed_done s (length out) d e).0
 

@@ -11,6 +11,7 @@ use lib.ListN.{length, get_or, take, drop}
 use lib.Pow.{pow_pos}
 use Rattle.algebra.specs.Lists.{All, all[], all∷}
 use Rattle.words.proofs.Below.{all_drop}
+use Rattle.records.specs.Outcome.{ok, refused}
 use Rattle.rules.specs.Columns.{Column, yes_no, choice, number, top, point, values_of}
 use Rattle.rules.specs.EveryReturn.{lists_in, most_lists}
 use Rattle.rules.proofs.Circuits.Limits.{InLimits}
@@ -60,25 +61,24 @@ lists_most cs k h = rw (lists_split cs k) (le-mul_of_pos_right (lists_in (take k
 
 -- ---- the count up to the limit
 module _ (cs : List Column) where
-  pub few_lists : lists_in cs ≤ most_lists → counted_up cs ≡ lists_in cs
+  pub few_lists : lists_in cs ≤ most_lists → counted_up cs ≡ ok (lists_in cs)
   unfolding counted_up
   few_lists h = rw (le-leb (lists_in cs) most_lists h)
 
-  pub many_lists : most_lists < lists_in cs → counted_up cs ≡ suc most_lists
+  pub many_lists : most_lists < lists_in cs → counted_up cs ≡ refused 17
   unfolding counted_up
   many_lists h = rw (lt-leb (lists_in cs) most_lists h)
 
-  module _ (lists : ℕ) (e : lists ≡ counted_up cs) where
-    pub count_is : lists ≤ most_lists → lists ≡ lists_in cs
-    count_is h = go (dec_le (lists_in cs) most_lists)
-      where
-        go : Dec (lists_in cs ≤ most_lists) → lists ≡ lists_in cs
-        go (yes k) = e ∙ few_lists k
-        go (no k) = absurd (omega (arith, e ∙ many_lists (omega arith)))
+  pub count_is : (lists : ℕ) → ok lists ≡ counted_up cs → (lists ≡ lists_in cs) × (lists_in cs ≤ most_lists)
+  count_is lists e = go (dec_le (lists_in cs) most_lists)
+    where
+      go : Dec (lists_in cs ≤ most_lists) → (lists ≡ lists_in cs) × (lists_in cs ≤ most_lists)
+      go (yes k) = let q = e ∙ few_lists k in (cc, k)
+      go (no k) = let q = e ∙ many_lists (omega arith) in absurd (cc)
 
-    pub count_large : most_lists < lists → most_lists < lists_in cs
-    count_large h = go (dec_le (lists_in cs) most_lists)
-      where
-        go : Dec (lists_in cs ≤ most_lists) → most_lists < lists_in cs
-        go (yes k) = absurd (omega (arith, e ∙ few_lists k))
-        go (no k) = omega arith
+  pub count_large : (n : ℕ) → refused n ≡ counted_up cs → (n ≡ 17) × (most_lists < lists_in cs)
+  count_large n e = go (dec_le (lists_in cs) most_lists)
+    where
+      go : Dec (lists_in cs ≤ most_lists) → (n ≡ 17) × (most_lists < lists_in cs)
+      go (yes k) = let q = e ∙ few_lists k in absurd (cc)
+      go (no k) = let h : most_lists < lists_in cs = omega arith in let q = e ∙ many_lists h in (cc, h)

@@ -2,13 +2,12 @@
 -- answers and leaves. Assumes nothing.
 use Rattle.std.specs.Prelude.{◌≡◌, cond, List, ℕ, zero, suc, ◌+◌, ◌-◌, ◌*◌, ◌≤◌, leb, ltb, eqb, length}
 use Rattle.words.specs.Bytes.{bytes_of, splice}
-use Rattle.records.specs.Outcome.{ok}
+use Rattle.records.specs.Outcome.{Outcome, ok, refused}
 use Rattle.records.specs.Answers.{only_if}
 use Rattle.rules.specs.Columns.{Column, read_sheet, columns_of}
 use Rattle.rules.specs.EveryReturn.{lists_in, every_return_bytes, every_return_length, every_return_refusal, most_lists}
 use Rattle.every_return.specs.declared.Count.{Count}
-use Rattle.every_return.specs.declared.Listed.{Listed}
-use Rattle.every_return.specs.declared.Listed.TheVariants as answer
+use Rattle.every_return.specs.declared.Lists.{Lists}
 
 -- the value v k, 4 bytes, stands at place p of each list k below n; a list is w bytes
 unfoldable pub column_put : (ℕ → ℕ) → ℕ → ℕ → List ℕ → ℕ → List ℕ
@@ -28,17 +27,17 @@ pub record Writable (sheet : List ℕ) (columns lists : ℕ) (out : List ℕ) : 
   pub lists_are : lists ≡ lists_in (columns_of sheet)
   pub room : 4 * length (columns_of sheet) * lists ≤ length out
 
--- how many lists there are, up to one more than the limit
-unfoldable pub counted_up : List Column → ℕ
-counted_up cs = cond (leb (lists_in cs) most_lists) (lists_in cs) (suc most_lists)
+-- how many lists there are, or the refusal of too many
+unfoldable pub counted_up : List Column → Outcome ℕ
+counted_up cs = cond (leb (lists_in cs) most_lists) (ok (lists_in cs)) (refused 17)
 
 -- the answer where a buffer of so many bytes is lent
-unfoldable pub listed_of : List ℕ → ℕ → Listed
+unfoldable pub listed_of : List ℕ → ℕ → Outcome Lists
 listed_of sheet room =
     cond (eqb (every_return_refusal sheet room) 0)
-    (answer.Done
+    (ok
     (record { columns = length (columns_of sheet); lists = lists_in (columns_of sheet); written = every_return_length sheet }))
-    (answer.Refused (every_return_refusal sheet room))
+    (refused (every_return_refusal sheet room))
 
 -- the buffer afterwards
 unfoldable pub lists_out : List ℕ → List ℕ → List ℕ

@@ -5,29 +5,24 @@
 
 ghost use Rattle.std.specs.Prelude.{◌≡◌, ◌+◌, ◌*◌, ◌/◌, ◌%◌, ◌≤◌, ◌<◌, length};
 ghost use Rattle.words.specs.Bytes.{splice};
-ghost use Rattle.rules.specs.Columns.{columns_of};
+ghost use Rattle.records.specs.Outcome.{ok};
+ghost use Rattle.records.specs.Refusals.{outcome_of};
+ghost use Rattle.rules.specs.Columns.{read_sheet, columns_of};
 ghost use Rattle.rules.specs.EveryReturn.{every_return_bytes};
-ghost use Rattle.values.specs.Encode.{HasColumns};
 ghost use Rattle.every_return.specs.Listing.{column_put, next_count, Writable, counted_up, listed_of, lists_out};
 
-use sheet::Reading;
-use sheet::cursor::{next, start};
+use records::Refusal;
+use sheet::cursor;
 use values::values_of;
 
 const MAX_LISTS: u64 = 4096;
 
 // What a call that is not refused comes to: the columns, the lists, and how many bytes were written.
-#[derive(Clone, Copy)]
+#[derive(Clone, Copy, Debug, PartialEq, Eq)]
 pub struct Lists {
     pub columns: usize,
     pub lists: u32,
     pub written: usize,
-}
-
-#[derive(Clone, Copy)]
-pub enum Listed {
-    Done(Lists),
-    Refused(u32),
 }
 
 // A column's value in a list, and in how many lists it stands from there on.
@@ -38,6 +33,7 @@ struct Count {
 }
 
 // From one list to the next: a value stands in `behind` lists, and there are `values` of them.
+#[tactic(auto, unfolding(crate::specs::Listing::next_count))]
 fn next_count(c: Count, behind: u32, values: u32) -> Count
     requires { c.value < values }
     ensures { result ≡ next_count behind values c }
@@ -69,11 +65,9 @@ fn write_column(out: &mut [u8], size: usize, place: usize, lists: u32, behind: u
         value: 0,
         left: behind,
     };
-    let mut k: u32 = 0;
-    while k < lists {
-        words::write_u32(out, size * (k as usize) + place, count.value);
+    for k in 0..lists as usize {
+        words::write_u32(out, size * k + place, count.value);
         count = next_count(count, behind, values);
-        k += 1;
     }
 }
 
@@ -84,71 +78,51 @@ fn write_columns(s: &[u8], columns: usize, lists: u32, out: &mut [u8])
 {
     let size = 4 * columns;
     let mut behind = lists;
-    let mut c = start();
-    while c.index < columns {
-        let step = next(s, c);
-        let column = step.column;
-        let values = values_of(column);
-        behind = behind / values;
-        write_column(out, size, 4 * c.index, lists, behind, values);
-        c = step.next;
+    for place in cursor::columns(s) {
+        let values = values_of(place.column);
+        behind /= values;
+        write_column(out, size, 4 * place.before.index, lists, behind, values);
     }
 }
 
-// How many lists there are; one more than the limit where there are more.
-fn count_lists(s: &[u8], columns: usize) -> u64
-    requires { HasColumns s.now columns }
-    ensures { result ≡ counted_up (columns_of s.now) }
+// How many lists there are, where there are not too many.
+fn count_lists(s: &[u8]) -> Result<u32, Refusal>
+    requires { read_sheet s.now ≡ ok (columns_of s.now) }
+    ensures { outcome_of result ≡ counted_up (columns_of s.now) }
 {
     let mut total: u64 = 1;
-    let mut c = start();
-    while c.index < columns {
-        let step = next(s, c);
-        let column = step.column;
-        total = total * (values_of(column) as u64);
+    for place in cursor::columns(s) {
+        total *= u64::from(values_of(place.column));
         if MAX_LISTS < total {
-            return MAX_LISTS + 1;
+            return Err(Refusal::Many);
         }
-        c = step.next;
     }
-    total
+    Ok(total as u32)
 }
 
-// Whether the lists can be written into a buffer of so much room: what they come to, or the number of the first refusal.
-fn judge(s: &[u8], room: usize) -> Listed
-    ensures { result ≡ listed_of s.now room }
+// What the lists come to, or the first refusal where they cannot be written into a buffer of so much room.
+fn judge(s: &[u8], room: usize) -> Result<Lists, Refusal>
+    ensures { outcome_of result ≡ listed_of s.now room }
 {
-    match sheet::read(s) {
-        Reading::Refused(n) => Listed::Refused(n),
-        Reading::Counts(counts) => {
-            let columns = counts.columns;
-            let lists = count_lists(s, columns);
-            if MAX_LISTS < lists {
-                return Listed::Refused(17);
-            }
-            let bytes = 4 * columns * (lists as usize);
-            if room < bytes {
-                return Listed::Refused(14);
-            }
-            Listed::Done(Lists {
-                columns: columns,
-                lists: lists as u32,
-                written: bytes,
-            })
-        }
+    let columns = sheet::read(s)?.columns;
+    let lists = count_lists(s)?;
+    let written = 4 * columns * (lists as usize);
+    if room < written {
+        return Err(Refusal::Room);
     }
+    Ok(Lists {
+        columns,
+        lists,
+        written,
+    })
 }
 
 // Writes every legal list of a sheet's values from the front of `out`; a refusal leaves `out` as it was.
-pub fn write(s: &[u8], out: &mut [u8]) -> Listed
-    ensures { (result ≡ listed_of s.now (length out.old))
+pub fn write(s: &[u8], out: &mut [u8]) -> Result<Lists, Refusal>
+    ensures { (outcome_of result ≡ listed_of s.now (length out.old))
         × (out.new ≡ lists_out s.now out.old) }
 {
-    match judge(s, out.len()) {
-        Listed::Refused(n) => Listed::Refused(n),
-        Listed::Done(found) => {
-            write_columns(s, found.columns, found.lists, out);
-            Listed::Done(found)
-        }
-    }
+    let found = judge(s, out.len())?;
+    write_columns(s, found.columns, found.lists, out);
+    Ok(found)
 }

@@ -1,7 +1,7 @@
 -- Bounds. A remainder is below the prime, so each value of a sum, a product or an inverse modulo the prime is an
 -- element, and a table of such values is a list of elements. Assumes nothing.
 use mathlib.Core.List.{List, [], ◌∷◌, ◌++◌}
-use Prim.Native.Nat.{ℕ, zero, suc, ◌+◌, ◌-◌, ◌*◌, ◌%◌, ◌^◌, ◌≤◌, ◌<◌}
+use Prim.Native.Nat.{ℕ, zero, suc, ◌+◌, ◌-◌, ◌*◌, ◌%◌, ◌≤◌, ◌<◌}
 use native.Mathlib.Nat.{mod-lt, mul-le-mul}
 use native.Mathlib.Omega.{arith}
 use lib.Dec.{lit<}
@@ -14,11 +14,6 @@ use Rattle.field.specs.Residues.{prime, residues, Elements}
 -- a product of two elements
 pub product_elements : (a b : ℕ) → a < prime → b < prime → a * b ≤ (prime - 1) * (prime - 1)
 product_elements a b h k = mul-le-mul {n₁ = a} {m₁ = b} {n₂ = prime - 1} {m₂ = prime - 1} (omega arith) (omega arith)
-
--- of two numbers of 32 bits
-pub product_words : (a b : ℕ) → a < 2 ^ 32 → b < 2 ^ 32 → a * b < 2 ^ 64
-product_words a b h k =
-    omega (arith, mul-le-mul {n₁ = a} {m₁ = b} {n₂ = 2 ^ 32 - 1} {m₂ = 2 ^ 32 - 1} (omega arith) (omega arith))
 
 remainder : (n : ℕ) → n % prime < prime
 remainder n = mod-lt n (lit< tt)

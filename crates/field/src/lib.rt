@@ -31,7 +31,7 @@ fn fold(x: u64) -> u64
 pub fn product(a: u32, b: u32) -> u64
     ensures { result ≡ a * b }
 {
-    (a as u64) * (b as u64)
+    u64::from(a) * u64::from(b)
 }
 
 // x modulo P, for any x: two folds leave less than 2 P.
@@ -45,21 +45,21 @@ pub fn add(a: u32, b: u32) -> u32
     requires { (a < prime) × (b < prime) }
     ensures { result ≡ residues.◌⊕◌ a b }
 {
-    reduce((a as u64) + (b as u64))
+    reduce(u64::from(a) + u64::from(b))
 }
 
 pub fn sub(a: u32, b: u32) -> u32
     requires { (a < prime) × (b < prime) }
     ensures { result ≡ minus residues a b }
 {
-    reduce((a as u64) + ((P - b) as u64))
+    reduce(u64::from(a) + u64::from(P - b))
 }
 
 pub fn neg(a: u32) -> u32
     requires { a < prime }
     ensures { result ≡ residues.neg a }
 {
-    reduce((P - a) as u64)
+    reduce(u64::from(P - a))
 }
 
 pub fn mul(a: u32, b: u32) -> u32
@@ -74,7 +74,7 @@ pub fn mul_add(a: u32, b: u32, c: u32) -> u32
     requires { (a < prime) × (b < prime) × (c < prime) }
     ensures { result ≡ residues.◌⊕◌ (residues.◌⊗◌ a b) c }
 {
-    reduce(fold(product(a, b) + (c as u64)))
+    reduce(fold(product(a, b) + u64::from(c)))
 }
 
 // a * b + c * d

@@ -15,14 +15,16 @@ pub struct Fraction {
     pub under: u32,
 }
 
-// The sum of two fractions.
-fn plus(a: Fraction, b: Fraction) -> Fraction
-    requires { Element a × Element b }
-    ensures { result ≡ plus_of a b }
-{
-    Fraction {
-        over: field::mul_mul(a.over, b.under, b.over, a.under),
-        under: field::mul(a.under, b.under),
+impl Fraction {
+    // The sum of two fractions.
+    fn plus(self, b: Self) -> Self
+        requires { Element self × Element b }
+        ensures { result ≡ plus_of self b }
+    {
+        Self {
+            over: field::mul_mul(self.over, b.under, b.over, self.under),
+            under: field::mul(self.under, b.under),
+        }
     }
 }
 
@@ -39,7 +41,8 @@ fn term(y: &[u32], weights: &[u32], s: usize, r: u32, i: usize) -> Fraction
     }
 }
 
-// The sum of all these fractions. Two of them are added first, so that half the products do not wait for the sum so far.
+// The sum of all these fractions. Two of them are added first, so that half the products do not wait for the sum so far: with two
+// terms to a turn and one that may be left, the loop counts by hand.
 pub fn sum(y: &[u32], weights: &[u32], s: usize, r: u32) -> Fraction
     requires { (length weights.now ≡ length y.now) × Elements y.now × Elements weights.now × (r < prime)
         × (s + length y.now ≤ 1024) }
@@ -51,11 +54,11 @@ pub fn sum(y: &[u32], weights: &[u32], s: usize, r: u32) -> Fraction
     while i + 1 < n {
         let a = term(y, weights, s, r, i);
         let b = term(y, weights, s, r, i + 1);
-        done = plus(done, plus(a, b));
+        done = done.plus(a.plus(b));
         i += 2;
     }
     if i < n {
-        return plus(done, term(y, weights, s, r, i));
+        return done.plus(term(y, weights, s, r, i));
     }
     done
 }

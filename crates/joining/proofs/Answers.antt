@@ -8,9 +8,13 @@ use native.Mathlib.Omega.{arith}
 use borrow.Author.Tests.{leb-true, ne_eqb}
 use lib.Dec.{leb}
 use lib.ListN.{length}
-use Rattle.records.specs.Answers.{only_if}
-use Rattle.records.specs.declared.Written.TheVariants as written
+use Rattle.std.specs.Prelude.{Result, Ok}
+use Rattle.records.specs.Answers.{answered, only_if}
+use Rattle.records.specs.Outcome.{ok, refused}
+use Rattle.records.specs.Refusals.{number_of, outcome_of}
+use Rattle.records.specs.declared.Refusal.{Refusal}
 use Rattle.records.proofs.Outcome.{or_zero}
+use Rattle.records.proofs.Refusals.{number_nonzero}
 use Rattle.words.specs.Bytes.{splice}
 use Rattle.rules.specs.Settings.{document01}
 use Rattle.rules.specs.Columns.{within, published_in, columns_of, sheet_fault, servers_fault, returns_fault, totals_fault}
@@ -21,8 +25,8 @@ use Rattle.totals_message.specs.Totals.{totals_bytes, joined_fault_at, SummableT
 use Rattle.steps.proofs.Parts.{check_holds}
 use Rattle.totals_message.proofs.Totals.{joined_fault_lem, join_totals_lem, totals_summable}
 use Rattle.joining.specs.Calls.{joined_of, Joins, totals_of, Joinable, judged}
-use Rattle.joining.specs.declared.Joined.TheVariants as answer
-use Rattle.joining.proofs.Pooling.{refused_of, done_of}
+use Rattle.joining.specs.declared.Joining.{Joining}
+use Rattle.joining.proofs.Faults.{refused_by, refused_told, done_told}
 
 -- messages without a refusal
 pub record Fit (servers : ℕ) (sheet : List ℕ) (returns : ℕ) (joined out : List ℕ) (w : ℕ) : Type 0 where
@@ -33,12 +37,12 @@ pub record Fit (servers : ℕ) (sheet : List ℕ) (returns : ℕ) (joined out : 
   pub header : 6 ≤ length joined
 
 module _ (servers : ℕ) (sheet : List ℕ) (returns : ℕ) (joined out : List ℕ) where
-  pub joins_refused : (n : ℕ) → judged servers sheet returns joined (length out) ≡ written.Refused n
-      → Joins servers sheet returns joined out (answer.Refused n) out
-  unfolding judged joined_of only_if
-  joins_refused n e =
-      let r = refused_of (join_refusal document01 servers sheet returns joined (length out)) _ n e in
-      record { answer_is = rw (r.0, ne_eqb n 0 r.1); out_is = rw (r.0, ne_eqb n 0 r.1) }
+  pub joins_refused : (a : Result Joining Refusal) (r : Refusal) → outcome_of a ≡ refused (number_of r)
+      → refused (number_of r) ≡ judged servers sheet returns joined (length out) → Joins servers sheet returns joined out a out
+  unfolding judged answered joined_of only_if
+  joins_refused a r is e =
+      let n : number_of r ≡ join_refusal document01 servers sheet returns joined (length out) = refused_told _ _ _ e in
+      record { answer_is = is ∙ refused_by r _ _ n; out_is = rw (sym n, ne_eqb (number_of r) 0 (number_nonzero r)) }
 
   fit_of_lem : (w : ℕ) → w ≡ 4 * published_in (columns_of sheet)
       → join_refusal document01 servers sheet returns joined (length out) ≡ 0 → Fit servers sheet returns joined out w
@@ -70,10 +74,10 @@ module _ (servers : ℕ) (sheet : List ℕ) (returns : ℕ) (joined out : List �
         header = omega arith;
       }
 
-  pub judged_fit : (w : ℕ) → judged servers sheet returns joined (length out) ≡ written.Done w → Fit servers sheet returns joined out w
-  unfolding judged
+  pub judged_fit : (w : ℕ) → ok w ≡ judged servers sheet returns joined (length out) → Fit servers sheet returns joined out w
+  unfolding judged answered
   judged_fit w e =
-      let d = done_of (join_refusal document01 servers sheet returns joined (length out)) _ w e in
+      let d = done_told (join_refusal document01 servers sheet returns joined (length out)) _ w e in
       fit_of_lem w d.1 d.0
 
   module _ (w : ℕ) (f : Fit servers sheet returns joined out w) where
@@ -81,7 +85,7 @@ module _ (servers : ℕ) (sheet : List ℕ) (returns : ℕ) (joined out : List �
     fit_joinable = rw f.entries_are f.joinable
 
     pub joins_done : Joins servers sheet returns joined out
-        (answer.Done (record { accepted = accepted_count joined; written = w })) (splice out 0 (totals_of servers (w / 4) joined))
+        (Ok (record { accepted = accepted_count joined; written = w })) (splice out 0 (totals_of servers (w / 4) joined))
     unfolding joined_of only_if join_count join_bytes totals_of
     joins_done =
         record {

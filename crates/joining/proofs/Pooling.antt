@@ -1,81 +1,57 @@
 -- The refusals before any message is looked at, in their order: each check that passes is put away, and the first that fails is the
 -- answer. And what such an answer tells. Assumes nothing.
-use mathlib.Core.Path.{◌≡◌, refl, ◌∙◌}
-use mathlib.Core.Bool.{Bool, true, false, cond}
+use mathlib.Core.Path.{◌≡◌, sym}
 use mathlib.Core.List.{List}
-use Prim.Native.Nat.{ℕ, ◌≤◌, ◌<◌}
+use Prim.Native.Nat.{ℕ, ◌≤◌}
 use native.Mathlib.Omega.{arith}
-use borrow.Author.Tests.{lt-leb, le-leb, eqb-true, eqb-false, ne_eqb}
-use lib.Dec.{eqb}
-use Rattle.records.specs.Outcome.{ok, or_else}
+use Rattle.records.specs.Outcome.{ok, refused, or_else}
+use Rattle.records.specs.Refusals.{number_of}
 use Rattle.records.specs.Answers.{answered}
-use Rattle.records.specs.declared.Written.TheVariants as written
-use Rattle.records.proofs.Outcome.{or_none, or_first, or_zero}
+use Rattle.records.specs.declared.Refusal.{Refusal}
+use Rattle.records.proofs.Outcome.{or_zero}
+use Rattle.records.proofs.Refusals.{first_counts, second_counts}
 use Rattle.rules.specs.Settings.{document01}
-use Rattle.rules.specs.Columns.{within, published_in, read_sheet, sheet_fault, columns_of, servers_fault, returns_fault, totals_fault}
+use Rattle.rules.specs.Columns.{Column, within, published_in, read_sheet, columns_of}
+use Rattle.rules.specs.Columns.{sheet_fault, servers_fault, returns_fault, totals_fault}
 use Rattle.rules.proofs.Circuits.Limits.{within_both}
 use Rattle.rules.proofs.Circuits.Refusals.{sheet_fault_lem, sheet_read, sheet_limits_lem}
 use Rattle.steps.proofs.Parts.{check_holds}
 use Rattle.totals_message.specs.Totals.{Limited}
 use Rattle.joining.specs.Calls.{pool_fault, pooled}
-
--- ---- an answer taken apart
-refused_by_lem : (b : Bool) (r w n : ℕ) → cond b (written.Done w) (written.Refused r) ≡ written.Refused n → (b ≡ false) × (r ≡ n)
-refused_by_lem true r w n e = let z : ◌≡◌ {A = ℕ} 0 1 = cc in absurd (omega arith)
-refused_by_lem false r w n e = (refl, cc)
-
-pub refused_of : (r w n : ℕ) → answered r w ≡ written.Refused n → (r ≡ n) × (n ≡ 0 → ⊥)
-unfolding answered
-refused_of r w n e =
-    let f = refused_by_lem (eqb r 0) r w n e in
-    (f.1, λ z. eqb-false r 0 f.0 (f.1 ∙ z))
-
-done_by : (b : Bool) (r w n : ℕ) → cond b (written.Done w) (written.Refused r) ≡ written.Done n → (b ≡ true) × (n ≡ w)
-done_by true r w n e = (refl, cc)
-done_by false r w n e = let z : ◌≡◌ {A = ℕ} 0 1 = cc in absurd (omega arith)
-
-pub done_of : (r w n : ℕ) → answered r w ≡ written.Done n → (r ≡ 0) × (n ≡ w)
-unfolding answered
-done_of r w n e =
-    let f = done_by (eqb r 0) r w n e in
-    (eqb-true r 0 f.0, f.1)
+use Rattle.joining.proofs.Faults.{refused_by, done_by, done_told}
 
 -- ---- by the checks
 module _ (servers : ℕ) (sheet : List ℕ) (returns : ℕ) where
-  refused : (n : ℕ) → pool_fault servers sheet returns ≡ n → (n ≡ 0 → ⊥) → written.Refused n ≡ pooled servers sheet returns
+  abbrev columns : List Column
+  columns = columns_of sheet
+
+  refused_for : (r : Refusal) → number_of r ≡ pool_fault servers sheet returns → refused (number_of r) ≡ pooled servers sheet returns
   unfolding pooled answered
-  refused n e z = rw (e, ne_eqb n 0 z)
+  refused_for r e = refused_by r _ _ e
 
-  pub servers_low : servers < 2 → written.Refused 2 ≡ pooled servers sheet returns
+  pub servers_refused : (r : Refusal) → number_of r ≡ servers_fault servers → refused (number_of r) ≡ pooled servers sheet returns
   unfolding pool_fault
-  servers_low h = refused 2 (rw (lt-leb 2 servers h) (or_first 2 _ (λ z. omega arith))) (λ z. omega arith)
+  servers_refused r e = refused_for r (first_counts r _ _ e)
 
-  pub servers_high : 2 ≤ servers → 8 < servers → written.Refused 2 ≡ pooled servers sheet returns
-  unfolding pool_fault
-  servers_high h k =
-      refused 2 (rw (le-leb 2 servers h, lt-leb servers 8 k) (or_first 2 _ (λ z. omega arith))) (λ z. omega arith)
-
-  module _ (some : 2 ≤ servers) (few : servers ≤ 8) where
-    after_servers : pool_fault servers sheet returns
-        ≡ or_else (sheet_fault sheet) (or_else (returns_fault returns) (totals_fault document01 returns (columns_of sheet)))
+  module _ (some : 0 ≡ servers_fault servers) where
+    pub sheet_refused : (r : Refusal) → number_of r ≡ sheet_fault sheet → refused (number_of r) ≡ pooled servers sheet returns
     unfolding pool_fault
-    after_servers = rw (le-leb 2 servers some, le-leb servers 8 few) (or_none _)
+    sheet_refused r e = refused_for r (second_counts _ _ _ some (first_counts r _ _ e))
 
-    pub sheet_refused : (n : ℕ) → sheet_fault sheet ≡ n → (n ≡ 0 → ⊥) → written.Refused n ≡ pooled servers sheet returns
-    sheet_refused n e z = refused n (after_servers ∙ rw e (or_first n _ z)) z
+    module _ (is_read : read_sheet sheet ≡ ok columns) where
+      abbrev returns_faults : ℕ
+      returns_faults = or_else (returns_fault returns) (totals_fault document01 returns columns)
 
-    -- the sheet is read, and n is the refusal of N
-    module _ (is_read : read_sheet sheet ≡ ok (columns_of sheet)) (n : ℕ)
-        (n-is : n ≡ or_else (returns_fault returns) (totals_fault document01 returns (columns_of sheet))) where
-      after_sheet : pool_fault servers sheet returns ≡ n
-      after_sheet = after_servers ∙ rw ((sheet_fault_lem sheet (columns_of sheet) is_read).0, or_none, n-is)
+      after_sheet : (f : ℕ) → f ≡ returns_faults → f ≡ pool_fault servers sheet returns
+      unfolding pool_fault
+      after_sheet f e = second_counts _ _ _ some (second_counts _ _ _ (sym (sheet_fault_lem sheet columns is_read).0) e)
 
-      pub returns_refused : (n ≡ 0 → ⊥) → written.Refused n ≡ pooled servers sheet returns
-      returns_refused z = refused n after_sheet z
+      pub returns_refused : (r : Refusal) → number_of r ≡ returns_faults → refused (number_of r) ≡ pooled servers sheet returns
+      returns_refused r e = refused_for r (after_sheet _ e)
 
-      pub all_passed : n ≡ 0 → (p : ℕ) → p ≡ published_in (columns_of sheet) → written.Done p ≡ pooled servers sheet returns
+      pub all_passed : (p : ℕ) → 0 ≡ returns_faults → p ≡ published_in columns → ok p ≡ pooled servers sheet returns
       unfolding pooled answered
-      all_passed z p e = rw (after_sheet, z, e)
+      all_passed p e q = done_by _ _ p (after_sheet 0 e) q
 
 -- ---- what an answer tells: S, N and the sheet are within their limits, and p entries are published
 pub record Poolable (servers : ℕ) (sheet : List ℕ) (returns p : ℕ) : Type 0 where
@@ -86,11 +62,6 @@ pub record Poolable (servers : ℕ) (sheet : List ℕ) (returns p : ℕ) : Type 
   pub few_returns : returns ≤ 1024
 
 module _ (servers : ℕ) (sheet : List ℕ) (returns : ℕ) where
-  pub pooled_refused : (n : ℕ) → pooled servers sheet returns ≡ written.Refused n
-      → (pool_fault servers sheet returns ≡ n) × (n ≡ 0 → ⊥)
-  unfolding pooled
-  pooled_refused n e = refused_of (pool_fault servers sheet returns) _ n e
-
   pub passed : (p : ℕ) → p ≡ published_in (columns_of sheet) → pool_fault servers sheet returns ≡ 0 → Poolable servers sheet returns p
   unfolding pool_fault
   passed p q e =
@@ -107,8 +78,8 @@ module _ (servers : ℕ) (sheet : List ℕ) (returns : ℕ) where
         few_returns = (within_both 1 1024 returns (check_holds (within 1 1024 returns) 1 c.0)).1;
       }
 
-  pub pooled_done : (p : ℕ) → pooled servers sheet returns ≡ written.Done p → Poolable servers sheet returns p
-  unfolding pooled
+  pub pooled_done : (p : ℕ) → ok p ≡ pooled servers sheet returns → Poolable servers sheet returns p
+  unfolding pooled answered
   pooled_done p e =
-      let d = done_of (pool_fault servers sheet returns) _ p e in
+      let d = done_told (pool_fault servers sheet returns) _ p e in
       passed p d.1 d.0

@@ -1,5 +1,5 @@
 // The loops of `kernels` as functions that C and Rust can call, for measuring them: the static library of the benchmarks. Each calls the
-// function of its name, with its clauses.
+// function of its name, with its clauses, and answers 0 where the arguments fit, else 1.
 #![tactic(auto)]
 
 ghost use Rattle.std.specs.Prelude.{length, get_or};
@@ -15,7 +15,7 @@ pub extern "C" fn kernel_inner(a: &[u32], b: &[u32], out: &mut u32) -> u32
         (inner residues (length a.now) (λ i. get_or a.now i 0) (λ i. get_or b.now i 0))
         out.old result out.new }
 {
-    kernels::kernel_inner(a, b, out)
+    u32::from(kernels::kernel_inner(a, b, out).is_err())
 }
 
 #[unsafe(no_mangle)]
@@ -24,7 +24,7 @@ pub extern "C" fn kernel_ascending(x: u32, out: &mut [u32]) -> u32
         (tabulate (λ j. ascending residues 0 j x) (length out.old))
         out.old result out.new }
 {
-    kernels::kernel_ascending(x, out)
+    u32::from(kernels::kernel_ascending(x, out).is_err())
 }
 
 #[unsafe(no_mangle)]
@@ -32,5 +32,5 @@ pub extern "C" fn kernel_powers(s: u32, out: &mut [u32]) -> u32
     ensures { Outcome (powers_fit s) (tabulate (power residues s) (length out.old))
         out.old result out.new }
 {
-    kernels::kernel_powers(s, out)
+    u32::from(kernels::kernel_powers(s, out).is_err())
 }

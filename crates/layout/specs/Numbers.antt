@@ -1,17 +1,22 @@
 -- The numbers of a table: what a table says, and their limits.
 -- Assumes nothing.
-use Rattle.std.specs.Prelude.{List, ℕ, ◌≤◌, ◌<◌, length}
+use Rattle.std.specs.Prelude.{Bool, true, false, not, List, ℕ, ◌≤◌, ◌<◌, eqb, length}
 use Rattle.rules.specs.Settings.{document01}
 use Rattle.rules.specs.Columns.{entries_in, published_in}
 use Rattle.rules.specs.Circuit.{gates_in, tests_in}
-use Rattle.rules.specs.Table.{stage_byte, servers_in, own_in, returns_in, decided_in, entered_in, least_in, sheet_size, columns_in}
+use Rattle.rules.specs.Table.{stage_open, stage_closed, stage_byte, servers_in, own_in, returns_in, decided_in, entered_in, least_in, sheet_size, columns_in}
 use Rattle.layout.specs.declared.Table.{Table}
+
+-- the stage of a table, by whether it is closed
+abbrev pub stage_of : Bool → ℕ
+stage_of false = stage_open
+stage_of true = stage_closed
 
 -- what a table says, by rules
 unfoldable pub table_of : List ℕ → Table
 table_of T =
     record {
-      stage = stage_byte document01 T;
+      closed = not (eqb (stage_byte document01 T) stage_open);
       servers = servers_in document01 T;
       own = own_in document01 T;
       returns = returns_in document01 T;
@@ -28,7 +33,6 @@ table_of T =
 
 -- the numbers of a table whose header and sheet are sound
 pub record Limited (k : Table) : Type 0 where
-  pub stage_most : k.stage ≤ 1
   pub servers_some : 2 ≤ k.servers
   pub servers_few : k.servers ≤ 8
   pub own_one : k.own < k.servers

@@ -11,7 +11,7 @@ pub const TABLE: u8 = 3;
 // The bytes before the sheet.
 pub const HEADER: usize = 14;
 
-// The stages of a table.
+// The stages of a table, as its second byte says them.
 pub const OPEN: u8 = 0;
 
 pub const CLOSED: u8 = 1;
@@ -19,7 +19,7 @@ pub const CLOSED: u8 = 1;
 // What a table says: its header, and what its sheet comes to.
 #[derive(Clone, Copy)]
 pub struct Table {
-    pub stage: u8,
+    pub closed: bool,
     pub servers: u32,
     pub own: u32,
     pub returns: u32,

@@ -11,11 +11,8 @@ pub fn clear(t: &mut [u8], at: usize, n: usize)
     requires { at + n ≤ length t.old }
     ensures { t.new ≡ splice t.old at (replicate n 0) }
 {
-    let mut i: usize = 0;
-    while i < n {
-        t[at + i] = 0;
-        i += 1;
-    }
+    let end = at + n;
+    t[at..end].fill(0);
 }
 
 // Writes the header of a fresh table with a sheet of n bytes.

@@ -6,12 +6,14 @@ use mathlib.Core.List.{List, ◌∷◌, ◌++◌}
 use Prim.Native.Nat.{ℕ, ◌+◌, ◌*◌, ◌^◌, ◌≤◌, ◌<◌}
 use native.Mathlib.Nat.{mul-le-mul_left, add-zero}
 use native.Mathlib.Omega.{arith}
-use borrow.Author.Tests.{eqb-true, eqb-false, ne_eqb}
 use lib.Dec.{eqb}
 use lib.ListN.{length, get_or}
 use Rattle.algebra.proofs.Tables.{get_d_tabulate}
-use Rattle.records.specs.Outcome.{or_else}
-use Rattle.records.proofs.Outcome.{or_none, or_first, or_assoc, or_zero}
+use Rattle.records.specs.Outcome.{ok, refused, or_else}
+use Rattle.records.specs.Refusals.{number_of}
+use Rattle.records.specs.declared.Refusal.{Refusal}
+use Rattle.records.proofs.Outcome.{or_none, or_assoc, or_zero}
+use Rattle.records.proofs.Refusals.{first_counts}
 use Rattle.rules.specs.Settings.{document01}
 use Rattle.rules.specs.Columns.{Column, point, published_of, published_in, columns_of, check}
 use Rattle.rules.specs.Joining.{accepted_count, join_count, join_totals}
@@ -24,21 +26,11 @@ use Rattle.steps.proofs.Parts.{check_holds}
 use Rattle.totals_message.specs.Totals.{totals_bytes, total_at, joined_fault_at, SummableTotals}
 use Rattle.totals_message.proofs.Totals.{joined_fault_lem, join_totals_lem, totals_summable, count_within}
 use Rattle.joining.specs.Calls.{pool_fault}
+use Rattle.joining.proofs.Faults.{refused_by, refused_told, done_told}
 use Rattle.joining.proofs.Pooling.{Poolable, passed}
 use Rattle.line.specs.declared.Place.{Place}
-use Rattle.line.specs.declared.Placed.TheVariants as place
-use Rattle.line.specs.declared.Fitting.TheVariants as answer
 use Rattle.line.specs.Numbers.{sums_in, line_of, fitting_of}
 use Rattle.line.specs.Calls.{Takeable, totals_from, line_fault, place_of, placed, fit_of}
-
--- ---- the judge's answer taken apart
-refused_by_lem : (b : Bool) (r n : ℕ) (p : Place) → cond b (place.At p) (place.Refused r) ≡ place.Refused n → (b ≡ false) × (r ≡ n)
-refused_by_lem true r n p e = let z : ◌≡◌ {A = ℕ} 0 1 = cc in absurd (omega arith)
-refused_by_lem false r n p e = (refl, cc)
-
-at_by : (b : Bool) (r : ℕ) (p q : Place) → cond b (place.At p) (place.Refused r) ≡ place.At q → (b ≡ true) × (q ≡ p)
-at_by true r p q e = (refl, cc)
-at_by false r p q e = let z : ◌≡◌ {A = ℕ} 0 1 = cc in absurd (omega arith)
 
 -- ---- totals that are placed
 -- a total is an element
@@ -47,7 +39,8 @@ unfolding total_at
 total_below servers published joined k = sum_below servers _
 
 -- a column of two numbers has four totals
-four_within : (cs : List Column) (column : ℕ) → names_point column cs ≡ true → published_in (columns_before column cs) + 4 ≤ published_in cs
+four_within : (cs : List Column) (column : ℕ) → names_point column cs ≡ true
+    → published_in (columns_before column cs) + 4 ≤ published_in cs
 unfolding published_of
 four_within cs column h =
     let d = named column cs h in
@@ -72,14 +65,10 @@ module _ (servers : ℕ) (sheet : List ℕ) (returns : ℕ) (joined : List ℕ) 
   unfolding line_refusal line_fault pool_fault
   refusal_is = simp or_assoc
 
-  pub fit_refused : (n : ℕ) → placed servers sheet returns joined column ≡ place.Refused n
-      → answer.Refused n ≡ fit_of servers sheet returns joined column
+  pub fit_refused : (r : Refusal) → refused (number_of r) ≡ placed servers sheet returns joined column
+      → refused (number_of r) ≡ fit_of servers sheet returns joined column
   unfolding placed fit_of
-  fit_refused n e =
-      let f = line_fault servers sheet returns joined column in
-      let r = refused_by_lem (eqb f 0) f n at e in
-      let z : n ≡ 0 → ⊥ = λ k. eqb-false f 0 r.0 (r.1 ∙ k) in
-      rw (refusal_is, r.1, or_first n (check (not (is_zero (determinant sums))) 18) z, ne_eqb n 0 z)
+  fit_refused r e = refused_by r _ _ (first_counts r _ _ (refused_told _ _ at e) ∙ sym refusal_is)
 
   -- what is known of them
   pub record Fits (p : Place) : Type 0 where
@@ -137,18 +126,17 @@ module _ (servers : ℕ) (sheet : List ℕ) (returns : ℕ) (joined : List ℕ) 
         narrow = small_sums (omega (arith, count_within servers p returns joined sound, h.few_returns));
       }
 
-  pub placed_fits : (p : Place) → placed servers sheet returns joined column ≡ place.At p → Fits p
+  pub placed_fits : (p : Place) → ok p ≡ placed servers sheet returns joined column → Fits p
   unfolding placed
   placed_fits p e =
-      let f = line_fault servers sheet returns joined column in
-      let r = at_by (eqb f 0) f at p e in
-      rw r.1 (fits_at (eqb-true f 0 r.0))
+      let r = done_told (line_fault servers sheet returns joined column) at p e in
+      rw r.1 (fits_at r.0)
 
   pub fit_done : (p : Place) → Fits p → fitting_of (sums_in (totals_from servers p joined)) ≡ fit_of servers sheet returns joined column
   unfolding fitting_of fit_of
   fit_done p h = rw (h.sums_are, refusal_is, h.none, or_none) (go (is_zero (determinant sums)))
     where
-      go : (b : Bool) → cond b (answer.Refused 18) (answer.Done (line_of sums))
-          ≡ cond (eqb (check (not b) 18) 0) (answer.Done (line_of sums)) (answer.Refused (check (not b) 18))
+      go : (b : Bool) → cond b (refused 18) (ok (line_of sums))
+          ≡ cond (eqb (check (not b) 18) 0) (ok (line_of sums)) (refused (check (not b) 18))
       go true = refl
       go false = refl

@@ -7,9 +7,9 @@ use Prim.Native.Nat.{ℕ, zero, suc, ◌+◌, ◌-◌, ◌≤◌, ◌<◌}
 use native.Mathlib.Numerals.{add-one}
 use native.Mathlib.Omega.{arith}
 use lib.ListN.{length, get_or, take}
+use Rattle.std.specs.Prelude.{None}
 use Rattle.rules.specs.Columns.{Column, yes_no, published_in}
 use Rattle.rules.specs.Line.{is_point, names_point}
-use Rattle.line.specs.declared.Found.TheVariants as found
 use Rattle.line.specs.Calls.{point_at, found_in}
 
 names_at : (cs : List Column) (k : ℕ) → k < length cs → names_point (suc k) cs ≡ is_point (get_or cs k yes_no)
@@ -34,6 +34,6 @@ found_at cs k column h e =
     let before : column - 1 ≡ k = omega arith in
     rw (before, at, names_at cs k h)
 
-pub found_none : (cs : List Column) (column : ℕ) → (column ≤ length cs → column ≡ 0) → found.Nowhere ≡ found_in cs column
+pub found_none : (cs : List Column) (column : ℕ) → (column ≤ length cs → column ≡ 0) → None ≡ found_in cs column
 unfolding found_in
 found_none cs column h = rw (names_past cs column h)

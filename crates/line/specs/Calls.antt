@@ -1,7 +1,7 @@
 -- What a call that tells the line of a column comes to: its answer is rules', at document 01's setting. And its parts.
 -- Assumes nothing.
-use Rattle.std.specs.Prelude.{cond, List, ℕ, ◌+◌, ◌≤◌, ◌<◌, eqb, length}
-use Rattle.records.specs.Outcome.{or_else}
+use Rattle.std.specs.Prelude.{cond, List, ℕ, ◌+◌, ◌≤◌, ◌<◌, eqb, length, Option, Some, None}
+use Rattle.records.specs.Outcome.{Outcome, ok, refused, or_else}
 use Rattle.rules.specs.Settings.{document01}
 use Rattle.rules.specs.Columns.{Column, check, published_in, columns_of}
 use Rattle.rules.specs.Joining.{accepted_count, joined_fault}
@@ -10,28 +10,23 @@ use Rattle.totals_message.specs.Totals.{total_at, SummableTotals}
 use Rattle.joining.specs.Calls.{pool_fault}
 use Rattle.line.specs.declared.Totals.{Totals}
 use Rattle.line.specs.declared.Place.{Place}
-use Rattle.line.specs.declared.Fitting.{Fitting}
-use Rattle.line.specs.declared.Fitting.TheVariants as answer
-use Rattle.line.specs.declared.Found.{Found}
-use Rattle.line.specs.declared.Found.TheVariants as found
-use Rattle.line.specs.declared.Placed.{Placed}
-use Rattle.line.specs.declared.Placed.TheVariants as place
+use Rattle.line.specs.declared.Line.{Line}
 use Rattle.line.specs.Numbers.{line_of}
 
 -- the three numbers, or the refusal
-unfoldable pub fit_of : ℕ → List ℕ → ℕ → List ℕ → ℕ → Fitting
+unfoldable pub fit_of : ℕ → List ℕ → ℕ → List ℕ → ℕ → Outcome Line
 fit_of servers sheet returns joined column =
     let refusal = line_refusal document01 servers sheet returns joined column in
-    cond (eqb refusal 0) (answer.Done (line_of (line_sums document01 servers sheet joined column))) (answer.Refused refusal)
+    cond (eqb refusal 0) (ok (line_of (line_sums document01 servers sheet joined column))) (refused refusal)
 
 -- ---- the column
 -- a column with so many published entries before it
-unfoldable pub point_at : Column → ℕ → Found
-point_at c first = cond (is_point c) (found.At first) found.Nowhere
+unfoldable pub point_at : Column → ℕ → Option ℕ
+point_at c first = cond (is_point c) (Some first) None
 
 -- the column with this number
-unfoldable pub found_in : List Column → ℕ → Found
-found_in cs column = cond (names_point column cs) (found.At (published_in (columns_before column cs))) found.Nowhere
+unfoldable pub found_in : List Column → ℕ → Option ℕ
+found_in cs column = cond (names_point column cs) (Some (published_in (columns_before column cs))) None
 
 -- ---- the messages
 -- messages whose totals can be summed, four of them from `first` on
@@ -61,7 +56,7 @@ abbrev pub place_of : List ℕ → ℕ → Place
 place_of sheet column =
     record { published = published_in (columns_of sheet); first = published_in (columns_before column (columns_of sheet)) }
 
-unfoldable pub placed : ℕ → List ℕ → ℕ → List ℕ → ℕ → Placed
+unfoldable pub placed : ℕ → List ℕ → ℕ → List ℕ → ℕ → Outcome Place
 placed servers sheet returns joined column =
     let fault = line_fault servers sheet returns joined column in
-    cond (eqb fault 0) (place.At (place_of sheet column)) (place.Refused fault)
+    cond (eqb fault 0) (ok (place_of sheet column)) (refused fault)

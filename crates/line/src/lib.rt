@@ -4,6 +4,7 @@
 
 ghost use Rattle.std.specs.Prelude.{◌≡◌, ◌*◌, ◌^◌, ◌<◌, pos, ◌-ℤ◌};
 ghost use Rattle.records.specs.Outcome.{ok};
+ghost use Rattle.records.specs.Refusals.{outcome_of};
 ghost use Rattle.rules.specs.Columns.{read_sheet, columns_of};
 ghost use Rattle.rules.specs.Line.{Narrow};
 ghost use Rattle.columns.specs.Kinds.{from_code};
@@ -12,8 +13,8 @@ ghost use Rattle.line.specs.Numbers.{sums_in, line_of, fitting_of};
 ghost use Rattle.line.specs.Calls.{point_at, found_in, Takeable, totals_from, placed, fit_of};
 
 use columns::Column;
-use records::Written;
-use sheet::cursor::{next, start};
+use records::Refusal;
+use sheet::cursor;
 
 // The number of returns and the four totals of a column: of x, x * x, y and x * y.
 #[derive(Clone, Copy)]
@@ -33,30 +34,11 @@ pub struct Line {
     pub intercept: i64,
 }
 
-#[derive(Clone, Copy)]
-pub enum Fitting {
-    Done(Line),
-    Refused(u32),
-}
-
-// Where the totals of a column of two numbers begin, if there is one.
-#[derive(Clone, Copy)]
-enum Found {
-    At(usize),
-    Nowhere,
-}
-
 // The published entries of a sheet, and where the totals of the column begin among them.
 #[derive(Clone, Copy)]
 struct Place {
     published: usize,
     first: usize,
-}
-
-#[derive(Clone, Copy)]
-enum Placed {
-    At(Place),
-    Refused(u32),
 }
 
 // a b - c d
@@ -72,58 +54,46 @@ fn line_of(t: Totals) -> Line
     requires { Narrow (2 ^ 62) (sums_in t) }
     ensures { result ≡ line_of (sums_in t) }
 {
-    let determinant = difference(t.n, t.xx, t.x, t.x);
-    let slope = difference(t.n, t.xy, t.x, t.y);
-    let intercept = difference(t.xx, t.y, t.x, t.xy);
     Line {
-        determinant: determinant,
-        slope: slope,
-        intercept: intercept,
+        determinant: difference(t.n, t.xx, t.x, t.x),
+        slope: difference(t.n, t.xy, t.x, t.y),
+        intercept: difference(t.xx, t.y, t.x, t.xy),
     }
 }
 
-// The line of totals; 18 where D is 0.
-fn fitted(t: Totals) -> Fitting
+// The line of totals; there is none where D is 0.
+fn fitted(t: Totals) -> Result<Line, Refusal>
     requires { Narrow (2 ^ 62) (sums_in t) }
-    ensures { result ≡ fitting_of (sums_in t) }
+    ensures { outcome_of result ≡ fitting_of (sums_in t) }
 {
     let line = line_of(t);
-    let determinant = line.determinant;
-    if determinant == 0 {
-        return Fitting::Refused(18);
+    if line.determinant == 0 {
+        return Err(Refusal::NoLine);
     }
-    Fitting::Done(line)
+    Ok(line)
 }
 
 // Where the totals of a column begin that has so many published entries before it, if it is one of two numbers.
-fn point_at(column: Column, first: usize) -> Found
+fn point_at(column: Column, first: usize) -> Option<usize>
     ensures { result ≡ point_at (from_code column) first }
 {
     match column {
-        Column::YesNo => Found::Nowhere,
-        Column::Choice(_) => Found::Nowhere,
-        Column::Number(_) => Found::Nowhere,
-        Column::Top(_) => Found::Nowhere,
-        Column::Point(_) => Found::At(first),
+        Column::Point(_) => Some(first),
+        _ => None,
     }
 }
 
 // Where the totals of the column with this number begin; columns are numbered from 1.
-fn find(s: &[u8], column: u32) -> Found
+fn find(s: &[u8], column: u32) -> Option<usize>
     requires { read_sheet s.now ≡ ok (columns_of s.now) }
     ensures { result ≡ found_in (columns_of s.now) column }
 {
-    let mut c = start();
-    while c.at < s.len() {
-        let step = next(s, c);
-        let behind = step.next;
-        if behind.index == column as usize {
-            let named = step.column;
-            return point_at(named, c.published);
+    for place in cursor::columns(s) {
+        if place.after.index == column as usize {
+            return point_at(place.column, place.before.published);
         }
-        c = behind;
     }
-    Found::Nowhere
+    None
 }
 
 // Total k of joined messages.
@@ -131,7 +101,7 @@ fn total(joined: &[u8], servers: u32, published: usize, k: usize) -> u64
     requires { SummableTotals servers published k joined.now }
     ensures { result ≡ total_at servers published joined.now k }
 {
-    totals_message::totals_sum(joined, servers, published, k) as u64
+    u64::from(totals_message::totals_sum(joined, servers, published, k))
 }
 
 // The number of returns, and the four totals from `first` on.
@@ -139,10 +109,9 @@ fn totals_of(joined: &[u8], servers: u32, place: Place) -> Totals
     requires { Takeable servers place joined.now }
     ensures { result ≡ totals_from servers place joined.now }
 {
-    let published = place.published;
-    let first = place.first;
+    let Place { published, first } = place;
     Totals {
-        n: totals_message::accepted_count(joined) as u64,
+        n: u64::from(totals_message::accepted_count(joined)),
         x: total(joined, servers, published, first),
         xx: total(joined, servers, published, first + 1),
         y: total(joined, servers, published, first + 2),
@@ -150,34 +119,32 @@ fn totals_of(joined: &[u8], servers: u32, place: Place) -> Totals
     }
 }
 
-// Where the totals of the column stand, or the number of the first refusal: of S, the sheet and N, of the column, of the messages.
-fn judge(servers: u32, sheet: &[u8], returns: u32, joined: &[u8], column: u32) -> Placed
-    ensures { result ≡ placed servers sheet.now returns joined.now column }
+// Where the totals of the column stand, or the first refusal: of S, the sheet and N, of the column, of the messages.
+fn judge(
+    servers: u32,
+    sheet: &[u8],
+    returns: u32,
+    joined: &[u8],
+    column: u32,
+) -> Result<Place, Refusal>
+    ensures { outcome_of result ≡ placed servers sheet.now returns joined.now column }
 {
-    match joining::poolable(servers, sheet, returns) {
-        Written::Refused(n) => Placed::Refused(n),
-        Written::Done(published) => match find(sheet, column) {
-            Found::Nowhere => Placed::Refused(2),
-            Found::At(first) => {
-                let unsound = totals_message::totals_refusal(joined, servers, published, returns);
-                if unsound != 0 {
-                    return Placed::Refused(unsound);
-                }
-                Placed::At(Place {
-                    published: published,
-                    first: first,
-                })
-            }
-        },
-    }
+    let published = joining::poolable(servers, sheet, returns)?;
+    let first = find(sheet, column).ok_or(Refusal::Limit)?;
+    totals_message::check_totals(joined, servers, published, returns)?;
+    Ok(Place { published, first })
 }
 
 // The line of a column of two numbers, from the joined totals messages of S servers.
-pub fn fit(servers: u32, sheet: &[u8], returns: u32, joined: &[u8], column: u32) -> Fitting
-    ensures { result ≡ fit_of servers sheet.now returns joined.now column }
+pub fn fit(
+    servers: u32,
+    sheet: &[u8],
+    returns: u32,
+    joined: &[u8],
+    column: u32,
+) -> Result<Line, Refusal>
+    ensures { outcome_of result ≡ fit_of servers sheet.now returns joined.now column }
 {
-    match judge(servers, sheet, returns, joined, column) {
-        Placed::Refused(n) => Fitting::Refused(n),
-        Placed::At(place) => fitted(totals_of(joined, servers, place)),
-    }
+    let place = judge(servers, sheet, returns, joined, column)?;
+    fitted(totals_of(joined, servers, place))
 }

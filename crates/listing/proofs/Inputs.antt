@@ -9,7 +9,8 @@ use lib.ListN.{length, get_or, take, drop}
 use Rattle.words.specs.Bytes.{value_of, part}
 use Rattle.steps.proofs.Parts.{span, to_end}
 use Rattle.rules.specs.Settings.{document01}
-use Rattle.rules.specs.Recount.{input_size, input_servers, input_sheet, input_returns, input_joined, refusal_text, recount_refusal, recount_text}
+use Rattle.rules.specs.Recount.{input_size, input_servers, input_sheet, input_returns, input_joined}
+use Rattle.rules.specs.Recount.{refusal_text, recount_refusal, recount_text}
 use Rattle.listing.specs.Text.{Put, joined_text, Lists}
 
 pub lists : (input out out' : List ℕ) (r : ℕ) → Put out 0 (recount_text document01 input) out' r → Lists input out r out'

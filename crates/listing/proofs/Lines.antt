@@ -74,7 +74,8 @@ columns_none ts = refl
 
 columns_end : (column k : ℕ) (cs : List Column) (ts : List ℕ) → k < length cs
     → column_lines column (take (suc k) cs) ts
-    ≡ column_lines column (take k cs) ts ++ option_lines (column + k) 0 (published_of (get_or cs k yes_no)) (drop (published_in (take k cs)) ts)
+    ≡ column_lines column (take k cs) ts
+    ++ option_lines (column + k) 0 (published_of (get_or cs k yes_no)) (drop (published_in (take k cs)) ts)
 unfolding column_lines published_in
 columns_end column k [] ts h = absurd (omega arith)
 columns_end column zero (c ∷ cs) ts h = rw (add-zero, append-nil)

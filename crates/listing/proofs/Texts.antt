@@ -1,11 +1,10 @@
 -- The text by what joining answers. A buffer of 1,024 bytes has room for the totals of any sheet, so that joining's number is
 -- that of a buffer that just fits; where there is none, the totals stand in the buffer as elements. Assumes nothing.
 use mathlib.Core.Path.{◌≡◌, refl, sym, ap, ◌∙◌}
-use mathlib.Core.Bool.{Bool, true, false, cond}
 use mathlib.Core.List.{List, [], ◌∷◌, ◌++◌, append_assoc}
 use Prim.Native.Nat.{ℕ, ◌*◌, ◌^◌, ◌≤◌, ◌<◌}
 use native.Mathlib.Omega.{arith}
-use borrow.Author.Tests.{le-leb, ne_eqb, eqb-true, eqb-false}
+use borrow.Author.Tests.{le-leb, ne_eqb}
 use lib.Dec.{lit<}
 use lib.ListN.{length, take}
 use lib.Seq.{length-take-le}
@@ -14,7 +13,11 @@ use Rattle.algebra.proofs.Tables.{length_tabulate}
 use Rattle.words.specs.Bytes.{elements_of, splice}
 use Rattle.words.proofs.Elements.{length_bytes_all, elements_bytes}
 use Rattle.words.proofs.Splice.{part_splice, length_splice}
+use Rattle.std.specs.Prelude.{Ok, Err}
 use Rattle.records.specs.Outcome.{Outcome, ok, refused}
+use Rattle.records.specs.Refusals.{number_of}
+use Rattle.records.specs.declared.Refusal.{Refusal}
+use Rattle.records.proofs.Refusals.{number_nonzero}
 use Rattle.records.specs.Answers.{only_if}
 use Rattle.records.proofs.Outcome.{or_zero}
 use Rattle.rules.specs.Settings.{document01}
@@ -28,8 +31,7 @@ use Rattle.totals_message.specs.Totals.{total_at}
 use Rattle.totals_message.proofs.Totals.{join_totals_lem}
 use Rattle.joining.specs.Calls.{joined_of, Joins}
 use Rattle.joining.specs.declared.Joining.{Joining}
-use Rattle.joining.specs.declared.Joined.{Joined}
-use Rattle.joining.specs.declared.Joined.TheVariants as answer
+use Rattle.joining.proofs.Faults.{refused_told, done_told}
 use Rattle.listing.specs.Text.{joined_text}
 
 -- ---- room for the totals of any sheet
@@ -77,15 +79,6 @@ module _ (servers : ℕ) (sheet : List ℕ) (returns : ℕ) (joined : List ℕ) 
       (elements_bytes 4 (lit< tt) _ (all_tabulate _ (published_in (columns_of sheet)) (λ k h. total_below k)))
 
 -- ---- by the answer
-by_refused : (b : Bool) (d : Joining) (r n : ℕ) → answer.Refused n ≡ cond b (answer.Done d) (answer.Refused r)
-    → (b ≡ false) × (r ≡ n)
-by_refused true d r n e = let z : ◌≡◌ {A = ℕ} 0 1 = cc in absurd (omega arith)
-by_refused false d r n e = (refl, cc)
-
-by_done : (b : Bool) (d x : Joining) (r : ℕ) → answer.Done x ≡ cond b (answer.Done d) (answer.Refused r) → (b ≡ true) × (x ≡ d)
-by_done true d x r e = (refl, cc)
-by_done false d x r e = let z : ◌≡◌ {A = ℕ} 0 1 = cc in absurd (omega arith)
-
 -- what the buffer of totals holds, and the text
 pub record Counted (servers : ℕ) (sheet : List ℕ) (returns : ℕ) (joined : List ℕ) (d : Joining) (sums : List ℕ) : Type 0 where
   pub is_read : read_sheet sheet ≡ ok (columns_of sheet)
@@ -99,25 +92,23 @@ pub record Counted (servers : ℕ) (sheet : List ℕ) (returns : ℕ) (joined : 
       ++ column_lines 1 (columns_of sheet) (elements_of 4 (take d.written sums))
 
 module _ (servers : ℕ) (sheet : List ℕ) (returns : ℕ) (joined sums : List ℕ) (fits : 1024 ≤ length sums) (after : List ℕ) where
-  pub text_refused : (a : Joined) (n : ℕ) → Joins servers sheet returns joined sums a after → a ≡ answer.Refused n
-      → joined_text servers sheet returns joined ≡ refusal_text n
+  pub text_refused : (r : Refusal) → Joins servers sheet returns joined sums (Err r) after
+      → joined_text servers sheet returns joined ≡ refusal_text (number_of r)
   unfolding joined_of joined_text
-  text_refused a n j is =
-      let r = by_refused _ _ _ n (sym is ∙ j.answer_is) in
-      let e : number servers sheet returns joined (4 * published_in (columns_of sheet)) ≡ n
-      = sym (same_number servers sheet returns joined (length sums) fits) ∙ r.1 in
-      rw (e, ne_eqb n 0 (λ z. eqb-false _ 0 r.0 (r.1 ∙ z)))
+  text_refused r j =
+      let e : number servers sheet returns joined (4 * published_in (columns_of sheet)) ≡ number_of r
+      = sym (refused_told _ _ _ j.answer_is ∙ same_number servers sheet returns joined (length sums) fits) in
+      rw (e, ne_eqb (number_of r) 0 (number_nonzero r))
 
-  pub text_counted : (a : Joined) (d : Joining) → Joins servers sheet returns joined sums a after → a ≡ answer.Done d
-      → Counted servers sheet returns joined d after
+  pub text_counted : (d : Joining) → Joins servers sheet returns joined sums (Ok d) after → Counted servers sheet returns joined d after
   unfolding joined_of joined_text only_if
-  text_counted a d j is =
+  text_counted d j =
       let p = published_in (columns_of sheet) in
       let ys = join_bytes document01 servers sheet joined in
       let few = published_few sheet in
       let long = bytes_long servers sheet returns joined in
-      let r = by_done _ _ d _ (sym is ∙ j.answer_is) in
-      let none : number servers sheet returns joined (length sums) ≡ 0 = eqb-true _ 0 r.0 in
+      let r = done_told (number servers sheet returns joined (length sums)) _ d j.answer_is in
+      let none : number servers sheet returns joined (length sums) ≡ 0 = r.0 in
       let none' : number servers sheet returns joined (4 * p) ≡ 0
       = sym (same_number servers sheet returns joined (length sums) fits) ∙ none in
       let w : d.written ≡ 4 * p = ap (λ (x : Joining). x.written) r.1 in

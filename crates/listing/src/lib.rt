@@ -4,12 +4,14 @@
 #![tactic(auto)]
 
 ghost use Rattle.std.specs.Prelude.{◌≡◌, [], ◌∷◌, ◌++◌, ◌+◌, ◌≤◌, ◌<◌, length, take};
+ghost use Rattle.records.specs.Refusals.{number_of};
 ghost use Rattle.rules.specs.Recount.{decimal, accepted_text, refusal_text, line_text};
 ghost use Rattle.listing.specs.Text.{Put, options_text, columns_text, joined_text, text_most};
 ghost use Rattle.listing.specs.Text.{Options, Columns, Rooms, Lists, Start, ListsAll};
 
-use joining::{Joined, join};
-use sheet::cursor::{next, start};
+use joining::join;
+use records::Refusal;
+use sheet::cursor;
 
 // The decimal digit of a number below 10.
 fn digit(n: u32) -> u8
@@ -66,11 +68,9 @@ fn put_options(
     ensures { Put out.old at (options_text column n first totals.now) out.new result }
 {
     let mut next = at;
-    let mut option: usize = 0;
-    while option < n {
+    for option in 0..n {
         let total = elements::at(totals, first + option);
         next = put_line(out, next, column, option as u32, total);
-        option += 1;
     }
     next
 }
@@ -80,32 +80,23 @@ fn put_columns(out: &mut [u8], at: usize, s: &[u8], totals: &[u8]) -> usize
     requires { Columns at s.now out.old totals.now }
     ensures { Put out.old at (columns_text s.now totals.now) out.new result }
 {
-    let mut place = at;
-    let mut c = start();
-    while c.at < s.len() {
-        let step = next(s, c);
-        let behind = step.next;
-        let options = behind.published - c.published;
-        place = put_options(
-            out,
-            place,
-            (c.index + 1) as u32,
-            totals,
-            c.published,
-            options,
-        );
-        c = behind;
+    let mut next = at;
+    for place in cursor::columns(s) {
+        let column = place.after.index as u32;
+        let first = place.before.published;
+        let options = place.after.published - first;
+        next = put_options(out, next, column, totals, first, options);
     }
-    place
+    next
 }
 
 // The line of a refusal.
-fn put_refusal(out: &mut [u8], n: u32) -> usize
+fn put_refusal(out: &mut [u8], refusal: Refusal) -> usize
     requires { 30 ≤ length out.old }
-    ensures { Put out.old 0 (refusal_text n) out.new result }
+    ensures { Put out.old 0 (refusal_text (number_of refusal)) out.new result }
 {
     words::copy(out, 0, b"refused ");
-    put_number(out, 8, n, b'\n')
+    put_number(out, 8, refusal.number(), b'\n')
 }
 
 // The line of the accepted count.
@@ -130,19 +121,12 @@ fn put_joined(
     ensures { Put out.old 0 (joined_text servers s.now returns joined.now) out.new result }
 {
     match join(servers, s, returns, joined, sums) {
-        Joined::Refused(n) => put_refusal(out, n),
-        Joined::Done(done) => {
+        Err(refusal) => put_refusal(out, refusal),
+        Ok(done) => {
             let at = put_accepted(out, done.accepted);
-            let end = done.written;
-            put_columns(out, at, s, &sums[..end])
+            put_columns(out, at, s, &sums[..done.written])
         }
     }
-}
-
-fn wide(x: u8) -> u32
-    ensures { result ≡ x }
-{
-    x as u32
 }
 
 // The text that recount prints for an input, at the front of `out`: how many bytes it has.
@@ -151,15 +135,15 @@ pub fn text(input: &[u8], out: &mut [u8]) -> usize
     ensures { Lists input.now out.old result out.new }
 {
     if input.len() < 5 {
-        return put_refusal(out, 12);
+        return put_refusal(out, Refusal::Joined);
     }
     let size = words::read_u16(input, 0) as usize;
     let end = 5 + size;
     if input.len() < end {
-        return put_refusal(out, 12);
+        return put_refusal(out, Refusal::Joined);
     }
     let behind = 2 + size;
-    let servers = wide(input[behind]);
+    let servers = u32::from(input[behind]);
     let returns = words::read_u16(input, 3 + size);
     let mut sums = [0; 1024];
     put_joined(

@@ -6,11 +6,10 @@ use Prim.Native.Nat.{ℕ, ◌+◌, ◌≤◌, ◌<◌}
 use native.Mathlib.Numerals.{add-one}
 use native.Mathlib.Omega.{arith}
 use lib.Dec.{lit<}
-use lib.ListN.{length, length-set, set, take, drop}
-use lib.Seq.{take_at}
+use lib.ListN.{length, length-set, set, drop}
 use Rattle.algebra.specs.Sums.{product}
 use Rattle.algebra.specs.Lists.{tabulate}
-use Rattle.algebra.proofs.Tables.{length_tabulate, fill_none, fill_next, fill_all}
+use Rattle.algebra.proofs.Tables.{fill_none, fill_next}
 use Rattle.field.specs.Residues.{prime, residues}
 use Rattle.field.proofs.Below.{product_below}
 
@@ -48,13 +47,3 @@ module _ (g : ℕ → ℕ) where
     where
       next : r ≡ product residues (i + 1) g
       next = e ∙ ap (λ (t : ℕ). residues.◌⊗◌ t (g i)) v.is ∙ ap run (sym (add-one i))
-
-  pub finish : {d l : List ℕ} {acc i : ℕ} → Running d l acc i → length d ≤ i
-      → l ≡ tabulate (λ j. product residues j g) (length d)
-  finish {d} {l} {acc} {i} v h = fill_all run d l i h v.within v.filled
-
-  -- where the loop stops before the end of the buffer
-  pub first_filled : {d l : List ℕ} {acc i : ℕ} (n : ℕ) → Running d l acc i → i ≡ n
-      → take n l ≡ tabulate (λ j. product residues j g) n
-  first_filled {d} {l} {acc} {i} n v e =
-      rw (← e) (ap (take i) v.filled ∙ take_at (tabulate run i) (drop i d) i (length_tabulate run i))

@@ -1,17 +1,17 @@
 -- A loop that goes on with the powers of s where the first k are there. The power at k + i is that at i times that at k, and
 -- i is below k + i, so it stands in the part that is filled. Assumes nothing.
-use mathlib.Core.Path.{◌≡◌, refl, sym, ap, ap₂, ◌∙◌}
+use mathlib.Core.Path.{◌≡◌, sym, ap, ap₂, ◌∙◌}
 use mathlib.Core.List.{List, ◌++◌}
 use Prim.Native.Nat.{ℕ, zero, suc, ◌+◌, ◌-◌, ◌*◌, ◌%◌, ◌≤◌, ◌<◌}
 use native.Mathlib.Nat.{add-zero, add-suc, mod-eq_of_lt}
 use native.Mathlib.Numerals.{add-one}
 use native.Mathlib.Omega.{arith}
-use lib.ListN.{length, length-set, get_or, set, take, drop, take-append-drop}
-use lib.Seq.{get_or-take, take_all, take_at}
+use lib.ListN.{length, get_or, get_or-append, set, take, drop, take-append-drop}
+use lib.Seq.{get_or-take, length-take-le, take_at}
 use Rattle.algebra.specs.Sums.{product, power}
 use Rattle.algebra.specs.Lists.{tabulate}
 use Rattle.algebra.proofs.Remainders.{mod_mul_mod}
-use Rattle.algebra.proofs.Tables.{length_tabulate, get_d_tabulate, fill_next}
+use Rattle.algebra.proofs.Tables.{length_tabulate, get_d_tabulate, fill_next, fill_all}
 use Rattle.field.specs.Residues.{prime, residues}
 use Rattle.field.proofs.Below.{product_below}
 
@@ -36,21 +36,22 @@ module _ (s : ℕ) where
   power_add k (suc i) =
       ap entry (add-suc k i) ∙ ap (λ (t : ℕ). (t * s) % prime) (power_add k i) ∙ swap_last (entry i) (entry k) s
 
-  -- where the first n entries are all
-  pub whole : (l : List ℕ) (n : ℕ) → take n l ≡ tabulate (power residues s) n → length l ≡ n → l ≡ tabulate (power residues s) n
-  whole l n e h = sym (take_all n l (omega arith)) ∙ e
-
   -- the first k entries of a list are the powers
   pub first_at : (d : List ℕ) (k j : ℕ) → take k d ≡ tabulate (power residues s) k → j < k → get_or d j 0 ≡ power residues s j
   first_at d k j e h = sym (get_or-take k d j 0 h) ∙ ap (λ (t : List ℕ). get_or t j 0) e ∙ get_d_tabulate entry k j 0 h
 
-  -- the powers up to k + i, then what was there before
+  -- the first k places of d are lent, and p comes back with the powers
+  pub lent_first : (d p : List ℕ) (k : ℕ) → k ≤ length d → p ≡ tabulate (power residues s) (length (take k d))
+      → take k (p ++ drop k d) ≡ tabulate (power residues s) k
+  lent_first d p k h e =
+      let q : p ≡ tabulate entry k = e ∙ ap (tabulate entry) (length-take-le k d h) in
+      take_at p (drop k d) k (ap length q ∙ length_tabulate entry k) ∙ q
+
+  -- the powers up to i, then what was there before
   pub record Stretched (k by : ℕ) (before now : List ℕ) (i : ℕ) : Type 0 where
-    pub some : 0 < k
     pub factor : by ≡ power residues s k
-    pub within : k + i ≤ length before
-    pub same : length now ≡ length before
-    pub filled : now ≡ tabulate (power residues s) (k + i) ++ drop (k + i) before
+    pub within : i ≤ length before
+    pub filled : now ≡ tabulate (power residues s) i ++ drop i before
 
   pub factor_of : (d : List ℕ) (k r : ℕ) → 0 < k → take k d ≡ tabulate (power residues s) k
       → r ≡ residues.◌⊗◌ (get_or d (k - 1) 0) s → r ≡ power residues s k
@@ -58,38 +59,33 @@ module _ (s : ℕ) where
       let whole : k - 1 + 1 ≡ k = omega arith in
       q ∙ ap (λ (t : ℕ). (t * s) % prime) (first_at d k (k - 1) e (omega arith)) ∙ power_next (k - 1) ∙ ap entry whole
 
-  pub start : (d : List ℕ) (k r : ℕ) → 0 < k → k ≤ length d → take k d ≡ tabulate (power residues s) k
-      → r ≡ power residues s k → Stretched k r d d 0
-  start d k r h l e q = record {
-    some = h;
+  pub start : (d : List ℕ) (k r : ℕ) → k ≤ length d → take k d ≡ tabulate (power residues s) k → r ≡ power residues s k
+      → Stretched k r d d k
+  start d k r l e q = record {
     factor = q;
-    within = omega arith;
-    same = refl;
-    filled =
-        sym (take-append-drop k d) ∙ ap (λ (t : List ℕ). t ++ drop k d) e
-        ∙ ap (λ (n : ℕ). tabulate entry n ++ drop n d) (sym (add-zero k));
+    within = l;
+    filled = sym (take-append-drop k d) ∙ ap (λ (t : List ℕ). t ++ drop k d) e;
   }
 
   module _ {k by : ℕ} {d l : List ℕ} {i : ℕ} (v : Stretched k by d l i) where
-    pub first_filled : (n : ℕ) → k + i ≡ n → take n l ≡ tabulate (power residues s) n
-    first_filled n e =
-        let t = tabulate entry (k + i) in
-        rw (← e) (ap (take (k + i)) v.filled ∙ take_at t (drop (k + i) d) (k + i) (length_tabulate entry (k + i)))
-
     -- the entry that is read
-    pub entry_at : get_or l i 0 ≡ power residues s i
-    entry_at = first_at l (k + i) i (first_filled (k + i) refl) (omega (arith, v.some))
+    pub entry_at : (j : ℕ) → j < i → get_or l j 0 ≡ power residues s j
+    entry_at j h =
+        ap (λ (t : List ℕ). get_or t j 0) v.filled
+        ∙ get_or-append (tabulate entry i) (drop i d) 0 j (rw length_tabulate h)
+        ∙ get_d_tabulate entry i j 0 h
 
-    pub turn : (r : ℕ) → k + i < length d → r ≡ residues.◌⊗◌ (get_or l i 0) by → Stretched k by d (set l (k + i) r) (i + 1)
-    turn r h e = record {
-      some = v.some;
-      factor = v.factor;
-      within = omega arith;
-      same = length-set l (k + i) r ∙ v.same;
-      filled =
-          fill_next entry d l (k + i) r h v.filled (e ∙ ap₂ residues.◌⊗◌ entry_at v.factor ∙ sym (power_add k i))
-          ∙ ap (λ (n : ℕ). tabulate entry n ++ drop n d) further;
-    }
-      where
-        further : k + i + 1 ≡ k + (i + 1)
-        further = omega arith
+    pub turn : (r : ℕ) → i < length d → 0 < k → k ≤ i → r ≡ residues.◌⊗◌ (get_or l (i - k) 0) by
+        → Stretched k by d (set l i r) (i + 1)
+    turn r h some m e =
+        let back : k + (i - k) ≡ i = omega arith in
+        record {
+          factor = v.factor;
+          within = omega arith;
+          filled =
+              fill_next entry d l i r h v.filled
+              (e ∙ ap₂ residues.◌⊗◌ (entry_at (i - k) (omega arith)) v.factor ∙ sym (power_add k (i - k)) ∙ ap entry back);
+        }
+
+    pub finish : length d ≤ i → l ≡ tabulate entry (length d)
+    finish h = fill_all entry d l i h v.within v.filled

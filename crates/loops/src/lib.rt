@@ -15,41 +15,34 @@ pub fn ascending(x: u32, out: &mut [u32])
         ≡ tabulate (λ j. Interpolation·ascending residues 0 j x) (length out.old) }
 {
     let mut acc: u32 = 1;
-    let mut i = 0;
-    while i < out.len() {
-        out[i] = acc;
+    for (i, place) in out.iter_mut().enumerate() {
+        *place = acc;
         acc = field::mul(acc, field::sub(x, i as u32));
-        i += 1;
     }
 }
 
-// The first n powers of s: out[j] = s to the power j, each from the one before.
-fn chain(s: u32, n: usize, out: &mut [u32])
-    requires { (s < prime) × (n ≤ length out.old) }
-    ensures { take n out.new ≡ tabulate (power residues s) n }
+// The powers of s, each from the one before.
+fn chain(s: u32, out: &mut [u32])
+    requires { s < prime }
+    ensures { out.new ≡ tabulate (power residues s) (length out.old) }
 {
     let mut acc: u32 = 1;
-    let mut i = 0;
-    while i < n {
-        out[i] = acc;
+    for place in out.iter_mut() {
+        *place = acc;
         acc = field::mul(acc, s);
-        i += 1;
     }
 }
 
-// The first n where the first k are there: each is the one k places before it times s to the power k, so that k turns
+// The powers of s where the first k are there: each is the one k places before it times s to the power k, so that k turns
 // do not wait for each other.
-fn stretch(s: u32, k: usize, n: usize, out: &mut [u32])
-    requires s_lt_prime { (s < prime) × (0 < k) × (k ≤ n) × (n ≤ length out.old) }
-    requires out_value { take k out.old ≡ tabulate (power residues s) k }
-    ensures { take n out.new ≡ tabulate (power residues s) n }
+fn stretch(s: u32, k: usize, out: &mut [u32])
+    requires k_in_bounds { (s < prime) × (0 < k) × (k ≤ length out.old) }
+    requires first_powers { take k out.old ≡ tabulate (power residues s) k }
+    ensures { out.new ≡ tabulate (power residues s) (length out.old) }
 {
     let by = field::mul(out[k - 1], s);
-    let rest = n - k;
-    let mut i = 0;
-    while i < rest {
-        out[k + i] = field::mul(out[i], by);
-        i += 1;
+    for i in k..out.len() {
+        out[i] = field::mul(out[i - k], by);
     }
 }
 
@@ -60,14 +53,14 @@ pub fn powers(s: u32, out: &mut [u32])
 {
     let n = out.len();
     if n <= 8 {
-        chain(s, n, out);
+        chain(s, out);
         return;
     }
-    chain(s, 8, out);
+    chain(s, &mut out[..8]);
     if n <= 32 {
-        stretch(s, 8, n, out);
+        stretch(s, 8, out);
         return;
     }
-    stretch(s, 8, 32, out);
-    stretch(s, 32, n, out);
+    stretch(s, 8, &mut out[..32]);
+    stretch(s, 32, out);
 }

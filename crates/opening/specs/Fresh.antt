@@ -1,22 +1,21 @@
 -- The room that a fresh table takes and its bytes, in the numbers of code: rules' openBytes (proofs/FreshTable).
 -- Assumes nothing.
 use Rattle.std.specs.Prelude.{Bool, cond, ◌&&◌, List, ◌++◌, ℕ, ◌+◌, ◌-◌, ◌≤◌, eqb, leb, length, replicate}
+use Rattle.records.specs.Outcome.{Outcome, ok, refused}
 use Rattle.rules.specs.Settings.{document01}
 use Rattle.rules.specs.Columns.{columns_of}
 use Rattle.rules.specs.WaitingList.{run_size}
 use Rattle.rules.specs.Table.{header_length, open_length}
 use Rattle.layout.specs.Writing.{start_bytes}
 use Rattle.opening.specs.declared.Size.{Size}
-use Rattle.opening.specs.declared.Room.{Room}
-use Rattle.opening.specs.declared.Room.TheVariants as answer
 
 -- what the table of a sheet and N takes besides its records
 abbrev pub size_for : List ℕ → ℕ → Size
 size_for sheet returns = record { bytes = open_length document01 sheet returns; numbers = run_size (columns_of sheet) }
 
 -- the room that a table takes, or the refusal
-unfoldable pub room_by : ℕ → Size → Room
-room_by refusal size = cond (eqb refusal 0) (answer.For size) (answer.Refused refusal)
+unfoldable pub room_by : ℕ → Size → Outcome Size
+room_by refusal size = cond (eqb refusal 0) (ok size) (refused refusal)
 
 -- so many bytes, records and numbers have room for it: rules' openRoom
 unfoldable pub room_for : Size → ℕ → ℕ → ℕ → Bool

@@ -4,6 +4,7 @@
 
 ghost use Rattle.std.specs.Prelude.{◌≡◌};
 ghost use Rattle.words.specs.Bytes.{splice};
+ghost use Rattle.records.specs.Refusals.{outcome_of};
 ghost use Rattle.rules.specs.Settings.{document01};
 ghost use Rattle.rules.specs.Table.{open_refusal};
 ghost use Rattle.opening.specs.Calls.{Opens};
@@ -12,9 +13,9 @@ ghost use Rattle.opening.specs.Fresh.{size_for, room_by, room_for, fresh_bytes, 
 use layout::HEADER;
 use layout::places::table_length;
 use layout::writing::{clear, write_start};
-use limits::{least_sound, share_size};
-use sheet::Reading;
-use sheet::returns::returns_refusal;
+use limits::{check_servers, least_sound, share_size};
+use records::Refusal;
+use sheet::returns::check_returns;
 use waiting::writing::erase;
 
 // What a table takes besides its records.
@@ -24,24 +25,12 @@ pub struct Size {
     pub numbers: usize,
 }
 
-// The room that a table takes, or the number of the refusal.
-#[derive(Clone, Copy)]
-pub enum Room {
-    For(Size),
-    Refused(u32),
-}
-
 // Whether so many bytes, records and numbers have room for a table: it takes eight records.
+#[tactic(auto, unfolding(crate::specs::Fresh::room_for))]
 fn has_room(size: Size, room: usize, records: usize, numbers: usize) -> bool
     ensures { result ≡ room_for size room records numbers }
 {
-    if room < size.bytes {
-        return false;
-    }
-    if records != 8 {
-        return false;
-    }
-    size.numbers <= numbers
+    size.bytes <= room && records == 8 && size.numbers <= numbers
 }
 
 // The room that opening takes, where so many bytes, records and numbers are lent. Q is tested before N: both are refused 2, and
@@ -55,40 +44,28 @@ fn open_checked(
     room: usize,
     records: usize,
     numbers: usize,
-) -> Room
-    ensures { result ≡ room_by (open_refusal document01 servers own sheet.now returns least room records numbers)
+) -> Result<Size, Refusal>
+    ensures { outcome_of result ≡ room_by (open_refusal document01 servers own sheet.now returns least room records numbers)
         (size_for sheet.now returns) }
 {
-    if servers < limits::MIN_SERVERS {
-        return Room::Refused(2);
-    }
-    if limits::MAX_SERVERS < servers {
-        return Room::Refused(2);
-    }
+    check_servers(servers)?;
     if servers <= own {
-        return Room::Refused(2);
+        return Err(Refusal::Limit);
     }
-    match sheet::read(sheet) {
-        Reading::Refused(fault) => Room::Refused(fault),
-        Reading::Counts(counts) => {
-            if !least_sound(returns, least) {
-                return Room::Refused(2);
-            }
-            let fault = returns_refusal(sheet, returns);
-            if fault != 0 {
-                return Room::Refused(fault);
-            }
-            let place = share_size(counts.entries, counts.gates) + 2;
-            let size = Size {
-                bytes: table_length(sheet.len(), counts.published, returns),
-                numbers: place * 8,
-            };
-            if !has_room(size, room, records, numbers) {
-                return Room::Refused(14);
-            }
-            Room::For(size)
-        }
+    let counts = sheet::read(sheet)?;
+    if !least_sound(returns, least) {
+        return Err(Refusal::Limit);
     }
+    check_returns(sheet, returns)?;
+    let place = share_size(counts.entries, counts.gates) + 2;
+    let size = Size {
+        bytes: table_length(sheet.len(), counts.published, returns),
+        numbers: place * 8,
+    };
+    if !has_room(size, room, records, numbers) {
+        return Err(Refusal::Room);
+    }
+    Ok(size)
 }
 
 // Writes a fresh table of so many bytes.
@@ -121,12 +98,11 @@ pub fn open(
     table: &mut [u8],
     records: usize,
     numbers: &mut [u32],
-    written: &mut usize,
-) -> u32
+) -> Result<usize, Refusal>
     ensures { Opens servers own sheet.now returns least table.old records numbers.old
-        written.old result table.new numbers.new written.new }
+        result table.new numbers.new }
 {
-    match open_checked(
+    let size = open_checked(
         servers,
         own,
         sheet,
@@ -135,21 +111,16 @@ pub fn open(
         table.len(),
         records,
         numbers.len(),
-    ) {
-        Room::Refused(fault) => fault,
-        Room::For(size) => {
-            write_fresh(
-                table,
-                servers as u8,
-                own as u8,
-                sheet,
-                returns,
-                least,
-                size.bytes,
-            );
-            erase(numbers, 0, size.numbers);
-            *written = size.bytes;
-            0
-        }
-    }
+    )?;
+    write_fresh(
+        table,
+        servers as u8,
+        own as u8,
+        sheet,
+        returns,
+        least,
+        size.bytes,
+    );
+    erase(numbers, 0, size.numbers);
+    Ok(size.bytes)
 }

@@ -4,14 +4,15 @@ use mathlib.Core.Path.{◌≡◌, refl, sym, ap, ◌∙◌, subst}
 use mathlib.Core.Logic.{◌⊎◌, inl, inr}
 use mathlib.Core.Bool.{Bool, true, false, cond}
 use mathlib.Core.List.{List}
-use Prim.Native.Nat.{ℕ, ◌<◌}
+use Prim.Native.Nat.{ℕ, zero, suc, ◌<◌}
 use native.Mathlib.Omega.{arith}
 use lib.Dec.{eqb}
 use lib.ListN.{length}
+use Rattle.std.specs.Prelude.{Option, None, IfSome}
 use Rattle.slots.specs.declared.Slot.{Slot}
 use Rattle.slots.specs.declared.Change.{Change}
 use Rattle.slots.specs.Slots.{eight_of, applied}
-use Rattle.slots.proofs.Eight.{eight_is, applied_refused}
+use Rattle.slots.proofs.Eight.{eight_is}
 use Rattle.records.specs.Outcome.{or_else}
 use Rattle.rules.specs.Settings.{document01}
 use Rattle.rules.specs.Table.{Lent, table_sound, table_fault}
@@ -66,12 +67,18 @@ module _ (fault : Lent → ℕ) (refuses : (T : Lent) → table_sound document01
   was_eight : fault worked ≡ 0 → eight_of ys ≡ ys
   was_eight z = elim eight_or_refused [ inl e ↦ e | inr e ↦ absurd (let k : fault worked ≡ 11 = e.0 in omega (arith, k, z)) ]
 
-  module _ (new : Lent → Lent) (c : Change) (t' es' : List ℕ) (h : Changes (fault worked) (new worked) worked c t' es') where
-    pub answer_is : c.refusal ≡ fault given
+  -- a call that answers r and does c to the list: one that is refused does nothing
+  module _ (new : Lent → Lent) (r : ℕ) (c : Option Change) (tie : (r ≡ 0 → ⊥) → c ≡ None) (t' es' : List ℕ)
+      (h : Changes (fault worked) (new worked) worked r c t' es') where
+    pub answer_is : r ≡ fault given
     answer_is = h.refusal_is ∙ fault_same
 
-    pub in_range : c.refusal ≡ 0 → c.at < length ys
-    in_range z = subst (λ (xs : List Slot). c.at < length xs) (was_eight (sym h.refusal_is ∙ z)) (h.within z)
+    pub in_range : IfSome c (λ x. x.at < length ys)
+    in_range = go r tie h.refusal_is
+      where
+        go : (n : ℕ) → ((n ≡ 0 → ⊥) → c ≡ None) → n ≡ fault worked → IfSome c (λ x. x.at < length ys)
+        go zero k e = subst (λ (xs : List Slot). IfSome c (λ x. x.at < length xs)) (was_eight (sym e)) h.within
+        go (suc n) k e = rw (k (λ z. omega arith)) tt
 
     -- the table that is left, in all its parts
     pub leaves : (ys' : List Slot) → ys' ≡ applied ys c → lent t' ys' es' ≡ unless_refused (fault given) (new given) given
@@ -87,6 +94,7 @@ module _ (fault : Lent → ℕ) (refuses : (T : Lent) → table_sound document01
         none : (fault worked ≡ 11) × (fault given ≡ 11) → lent t' (applied ys c) es' ≡ cond (eqb (fault given) 0) (new given) given
         none q =
             let as-was : lent t' (applied (eight_of ys) c) es' ≡ worked = h.table_is ∙ kept new worked worked q.0 in
-            let number : c.refusal ≡ 11 = h.refusal_is ∙ q.0 in
-            (λ i. lent (as-was i).bytes (applied_refused ys c (λ z. omega (arith, number, z)) i) (as-was i).elements)
+            let number : r ≡ 11 = h.refusal_is ∙ q.0 in
+            ap (λ (o : Option Change). lent t' (applied ys o) es') (tie (λ z. omega (arith, number, z)))
+            ∙ (λ i. lent (as-was i).bytes ys (as-was i).elements)
             ∙ sym (kept new given given q.1)

@@ -3,37 +3,63 @@
 use mathlib.Core.Path.{◌≡◌, refl, sym, ap, ◌∙◌}
 use mathlib.Core.Bool.{Bool, true, false, cond, ◌&&◌}
 use mathlib.Core.List.{List, [], ◌∷◌}
-use Prim.Native.Nat.{ℕ, ◌<◌}
-use borrow.Author.Tests.{eqb-true}
+use Prim.Native.Nat.{ℕ, zero, suc, ◌<◌}
+use native.Mathlib.Omega.{arith}
+use borrow.Author.Tests.{eqb-true, ne_eqb}
+use mir.Val.{bool_byte}
 use lib.Dec.{eqb, leb}
 use lib.ListN.{length, replicate}
 use Rattle.algebra.proofs.Members.{and_left, and_right}
 use Rattle.words.specs.Bytes.{splice}
-use Rattle.records.specs.Answers.{only_if, if_done}
+use Rattle.std.specs.Prelude.{None, Some, Result, Ok, Err, IfSome}
+use Rattle.std.specs.Result.{result_ok, result_and}
+use Rattle.records.specs.Outcome.{ok, refused}
+use Rattle.records.specs.Refusals.{number_of, fault_of, outcome_of}
+use Rattle.records.specs.Answers.{answered, only_if, if_done, length_of}
+use Rattle.records.specs.declared.Refusal.{Refusal}
+use Rattle.records.proofs.Answers.{writes}
+use Rattle.records.proofs.Refusals.{number_nonzero}
 use Rattle.slots.specs.declared.Slot.{Slot}
 use Rattle.slots.specs.declared.Change.{Change}
-use Rattle.slots.specs.Slots.{free_slot, eight_of, applied, cleared}
+use Rattle.slots.specs.Slots.{free_slot, eight_of, applied}
 use Rattle.rules.specs.Settings.{document01}
 use Rattle.rules.specs.Columns.{columns_of}
-use Rattle.rules.specs.Messages.{round_length}
 use Rattle.rules.specs.Server.{totals_length, share_refusal, one_refusal, two_refusal, enter_refusal, drop_refusal, close_refusal}
 use Rattle.rules.specs.WaitingList.{run_size}
 use Rattle.rules.specs.Table.{Lent, table_state, table_sound, table_fault, share_refused, share_table, share_bytes, one_refused, one_table, one_bytes}
 use Rattle.rules.specs.Table.{two_refused, two_table, two_verdict, enter_refused, enter_table, drop_refused, drop_table}
-use Rattle.rules.specs.Table.{close_refused, close_table, close_bytes, opened_in, open_room, open_length, open_bytes, opened_table}
+use Rattle.rules.specs.Table.{close_refused, close_table, close_bytes, opened_in, open_room, open_length}
 use Rattle.rules.proofs.Histories.Opening.{opening}
 use Rattle.waiting.specs.Changes.{lent, unless_refused}
-use Rattle.opening.specs.Calls.{Opens, refusal_of}
+use Rattle.opening.specs.Calls.{Opens}
 use Rattle.closing.specs.Calls as closing
 use Rattle.state.specs.Calls as state
+use Rattle.state.specs.declared.State as told
 use Rattle.rules.specs.State.{State, state_refusal, state_of}
 use Rattle.shares.specs.Calls.{Shares}
 use Rattle.round_one.specs.Calls.{RoundOne}
-use Rattle.round_two.specs.Calls.{RoundTwo}
+use Rattle.round_two.specs.Calls.{RoundTwo, change_of}
+use Rattle.round_two.specs.declared.Decision.{Decision}
 use Rattle.entering.specs.Calls as entering
 use Rattle.pool_server.specs.Calls.{TakesShare, TakesOne, Decides, Enters, Drops, Closes, TellsState}
 use Rattle.pool_server.specs.Calls as promise
 use Rattle.pool_server.proofs.Eight.{unsound_refused, fault_same, left_same, answer_is, in_range, leaves}
+
+-- ---- answers
+-- a refused call changes no record
+tie : {A : Type 0} (a : Result A Refusal) → (fault_of a ≡ 0 → ⊥) → result_ok a ≡ None
+tie (Ok x) n = absurd (n refl)
+tie (Err e) n = refl
+
+decision_tie : (a : Result Decision Refusal) → (fault_of a ≡ 0 → ⊥) → change_of a ≡ None
+decision_tie (Ok d) n = absurd (n refl)
+decision_tie (Err e) n = refl
+
+-- a call that is not refused writes n bytes
+answered_by : {A : Type 0} (a : Result A Refusal) (f n : ℕ) → fault_of a ≡ f → outcome_of (result_and a (Ok n)) ≡ answered f n
+unfolding answered
+answered_by (Ok x) f n e = rw (← e)
+answered_by (Err e) f n q = rw (← q, ne_eqb (number_of e) 0 (number_nonzero e))
 
 -- ---- a share
 module _ (m : List ℕ) (r s : ℕ) (out : List ℕ) where
@@ -41,27 +67,26 @@ module _ (m : List ℕ) (r s : ℕ) (out : List ℕ) where
   unfolding share_refused
   share_refuses = unsound_refused (λ T. share_refusal document01 (table_state document01 T) m r s (length out))
 
-pub share_in_range : (ys : List Slot) {t : List ℕ} {es m : List ℕ} {r s : ℕ} {out : List ℕ} {w : ℕ} {c : Change}
-    {es' out' : List ℕ} {w' : ℕ} → Shares (lent t (eight_of ys) es) m r s out w c es' out' w' → c.refusal ≡ 0 → c.at < length ys
-share_in_range ys {t} {es} {m} {r} {s} {out} {w} {c} {es'} {out'} {w'} h =
-    in_range (λ T. share_refused document01 T m r s (length out)) (share_refuses m r s out) t ys es
-    (λ T. share_table document01 T m r s) c t es' h.changes
+module _ (ys : List Slot) {t es m : List ℕ} {r s : ℕ} {out : List ℕ} (a : Result Change Refusal) {es' out' : List ℕ}
+    (h : Shares (lent t (eight_of ys) es) m r s out a es' out') where
+  pub share_in_range : IfSome (result_ok a) (λ x. x.at < length ys)
+  share_in_range =
+      in_range (λ T. share_refused document01 T m r s (length out)) (share_refuses m r s out) t ys es
+      (λ T. share_table document01 T m r s) (fault_of a) (result_ok a) (tie a) t es' h.changes
 
-pub shares : (ys : List Slot) {t : List ℕ} {es m : List ℕ} {r s : ℕ} {out : List ℕ} {w : ℕ} {c : Change} {ys' : List Slot}
-    {es' out' : List ℕ} {w' : ℕ} → Shares (lent t (eight_of ys) es) m r s out w c es' out' w' → ys' ≡ applied ys c
-    → TakesShare (lent t ys es) m r s out w c.refusal (lent t ys' es') out' w'
-unfolding only_if if_done
-shares ys {t} {es} {m} {r} {s} {out} {w} {c} {ys'} {es'} {out'} {w'} h e =
-    let fault : Lent → ℕ = λ T. share_refused document01 T m r s (length out) in
-    let refuses = share_refuses m r s out in
-    let new : Lent → Lent = λ T. share_table document01 T m r s in (
-      leaves fault refuses t ys es new c t es' h.changes ys' e,
-      record {
-        answer_is = answer_is fault refuses t ys es new c t es' h.changes;
-        out_is = h.out_is ∙ left_same fault refuses t ys es (λ T. splice out 0 (share_bytes document01 T m r s)) out;
-        written_is = h.written_is ∙ left_same fault refuses t ys es (λ T. round_length document01 34) w;
-      },
-    )
+  pub shares : (w : ℕ) {ys' : List Slot} {n w' : ℕ} → ys' ≡ applied ys (result_ok a) → n ≡ fault_of {A = ℕ} (result_and a (Ok 22))
+      → w' ≡ length_of (result_and a (Ok 22)) w → TakesShare (lent t ys es) m r s out w n (lent t ys' es') out' w'
+  unfolding only_if
+  shares w {ys'} {n} {w'} e q l =
+      let fault : Lent → ℕ = λ T. share_refused document01 T m r s (length out) in
+      let refuses = share_refuses m r s out in
+      let new : Lent → Lent = λ T. share_table document01 T m r s in
+      let given : Lent = lent t ys es in (
+        leaves fault refuses t ys es new (fault_of a) (result_ok a) (tie a) t es' h.changes ys' e,
+        writes (fault given) (share_bytes document01 given m r s) 22 out w (result_and a (Ok 22)) n out' w'
+            (answered_by a (fault given) 22 (answer_is fault refuses t ys es new (fault_of a) (result_ok a) (tie a) t es' h.changes))
+            (h.out_is ∙ left_same fault refuses t ys es (λ T. splice out 0 (share_bytes document01 T m r s)) out) q l,
+      )
 
 -- ---- round one
 module _ (id : ℕ) (joined out : List ℕ) where
@@ -69,27 +94,26 @@ module _ (id : ℕ) (joined out : List ℕ) where
   unfolding one_refused
   one_refuses = unsound_refused (λ T. one_refusal document01 (table_state document01 T) id joined (length out))
 
-pub one_in_range : (ys : List Slot) {t : List ℕ} {es : List ℕ} {id : ℕ} {joined out : List ℕ} {w : ℕ} {c : Change} {out' : List ℕ}
-    {w' : ℕ} → RoundOne (lent t (eight_of ys) es) id joined out w c out' w' → c.refusal ≡ 0 → c.at < length ys
-one_in_range ys {t} {es} {id} {joined} {out} {w} {c} {out'} {w'} h =
-    in_range (λ T. one_refused document01 T id joined (length out)) (one_refuses id joined out) t ys es
-    (λ T. one_table document01 T id joined) c t es h.changes
+module _ (ys : List Slot) {t es : List ℕ} {id : ℕ} {joined out : List ℕ} (a : Result Change Refusal) {out' : List ℕ}
+    (h : RoundOne (lent t (eight_of ys) es) id joined out a out') where
+  pub one_in_range : IfSome (result_ok a) (λ x. x.at < length ys)
+  one_in_range =
+      in_range (λ T. one_refused document01 T id joined (length out)) (one_refuses id joined out) t ys es
+      (λ T. one_table document01 T id joined) (fault_of a) (result_ok a) (tie a) t es h.changes
 
-pub ones : (ys : List Slot) {t : List ℕ} {es : List ℕ} {id : ℕ} {joined out : List ℕ} {w : ℕ} {c : Change} {ys' : List Slot}
-    {out' : List ℕ} {w' : ℕ} → RoundOne (lent t (eight_of ys) es) id joined out w c out' w' → ys' ≡ applied ys c
-    → TakesOne (lent t ys es) id joined out w c.refusal (lent t ys' es) out' w'
-unfolding only_if if_done
-ones ys {t} {es} {id} {joined} {out} {w} {c} {ys'} {out'} {w'} h e =
-    let fault : Lent → ℕ = λ T. one_refused document01 T id joined (length out) in
-    let refuses = one_refuses id joined out in
-    let new : Lent → Lent = λ T. one_table document01 T id joined in (
-      leaves fault refuses t ys es new c t es h.changes ys' e,
-      record {
-        answer_is = answer_is fault refuses t ys es new c t es h.changes;
-        out_is = h.out_is ∙ left_same fault refuses t ys es (λ T. splice out 0 (one_bytes document01 T id joined)) out;
-        written_is = h.written_is ∙ left_same fault refuses t ys es (λ T. round_length document01 35) w;
-      },
-    )
+  pub ones : (w : ℕ) {ys' : List Slot} {n w' : ℕ} → ys' ≡ applied ys (result_ok a) → n ≡ fault_of {A = ℕ} (result_and a (Ok 14))
+      → w' ≡ length_of (result_and a (Ok 14)) w → TakesOne (lent t ys es) id joined out w n (lent t ys' es) out' w'
+  unfolding only_if
+  ones w {ys'} {n} {w'} e q l =
+      let fault : Lent → ℕ = λ T. one_refused document01 T id joined (length out) in
+      let refuses = one_refuses id joined out in
+      let new : Lent → Lent = λ T. one_table document01 T id joined in
+      let given : Lent = lent t ys es in (
+        leaves fault refuses t ys es new (fault_of a) (result_ok a) (tie a) t es h.changes ys' e,
+        writes (fault given) (one_bytes document01 given id joined) 14 out w (result_and a (Ok 14)) n out' w'
+            (answered_by a (fault given) 14 (answer_is fault refuses t ys es new (fault_of a) (result_ok a) (tie a) t es h.changes))
+            (h.out_is ∙ left_same fault refuses t ys es (λ T. splice out 0 (one_bytes document01 T id joined)) out) q l,
+      )
 
 -- ---- round two
 module _ (id : ℕ) (joined : List ℕ) where
@@ -97,76 +121,97 @@ module _ (id : ℕ) (joined : List ℕ) where
   unfolding two_refused
   two_refuses = unsound_refused (λ T. two_refusal document01 (table_state document01 T) id joined)
 
-pub two_in_range : (ys : List Slot) {t : List ℕ} {es : List ℕ} {id : ℕ} {joined : List ℕ} {v : ℕ} {c : Change} {t' es' : List ℕ}
-    {v' : ℕ} → RoundTwo (lent t (eight_of ys) es) id joined v c t' es' v' → c.refusal ≡ 0 → c.at < length ys
-two_in_range ys {t} {es} {id} {joined} {v} {c} {t'} {es'} {v'} h =
-    in_range (λ T. two_refused document01 T id joined) (two_refuses id joined) t ys es (λ T. two_table document01 T id joined) c t' es'
-    h.changes
+module _ (ys : List Slot) {t es : List ℕ} {id : ℕ} {joined : List ℕ} (a : Result Decision Refusal) {t' es' : List ℕ}
+    (h : RoundTwo (lent t (eight_of ys) es) id joined a t' es') where
+  pub two_in_range : IfSome (change_of a) (λ x. x.at < length ys)
+  two_in_range =
+      in_range (λ T. two_refused document01 T id joined) (two_refuses id joined) t ys es (λ T. two_table document01 T id joined)
+      (fault_of a) (change_of a) (decision_tie a) t' es' h.changes
 
-pub twos : (ys : List Slot) {t : List ℕ} {es : List ℕ} {id : ℕ} {joined : List ℕ} {v : ℕ} {c : Change} {t' : List ℕ} {ys' : List Slot}
-    {es' : List ℕ} {v' : ℕ} → RoundTwo (lent t (eight_of ys) es) id joined v c t' es' v' → ys' ≡ applied ys c
-    → Decides (lent t ys es) id joined v c.refusal (lent t' ys' es') v'
-unfolding if_done
-twos ys {t} {es} {id} {joined} {v} {c} {t'} {ys'} {es'} {v'} h e =
-    let fault : Lent → ℕ = λ T. two_refused document01 T id joined in
-    let refuses = two_refuses id joined in
-    let new : Lent → Lent = λ T. two_table document01 T id joined in
-    record {
-      answer_is = answer_is fault refuses t ys es new c t' es' h.changes;
-      table_is = leaves fault refuses t ys es new c t' es' h.changes ys' e;
-      accepted_is = h.accepted_is ∙ left_same fault refuses t ys es (λ T. cond (two_verdict document01 T joined) 1 0) v;
-    }
+  -- v' stands behind the pointer then
+  pub twos : (v : ℕ) {ys' : List Slot} {v' : ℕ} → ys' ≡ applied ys (change_of a)
+      → v' ≡ if_done (fault_of a) (cond (two_verdict document01 (lent t ys es) joined) 1 0) v
+      → Decides (lent t ys es) id joined v (fault_of a) (lent t' ys' es') v'
+  twos v {ys'} {v'} e q =
+      let fault : Lent → ℕ = λ T. two_refused document01 T id joined in
+      let refuses = two_refuses id joined in
+      let new : Lent → Lent = λ T. two_table document01 T id joined in
+      let same = answer_is fault refuses t ys es new (fault_of a) (change_of a) (decision_tie a) t' es' h.changes in
+      record {
+        answer_is = same;
+        table_is = leaves fault refuses t ys es new (fault_of a) (change_of a) (decision_tie a) t' es' h.changes ys' e;
+        accepted_is = rw same at q;
+      }
+
+byte_is : (b : Bool) → bool_byte b ≡ cond b 1 0
+byte_is true = refl
+byte_is false = refl
+
+module _ (ys : List Slot) {t es : List ℕ} {id : ℕ} {joined : List ℕ} (v : ℕ) {t' es' : List ℕ} where
+  -- a decision d, which the verdict follows
+  pub decided : (d : Decision) → RoundTwo (lent t (eight_of ys) es) id joined (Ok d) t' es' → (ys' : List Slot)
+      → ys' ≡ applied ys (Some d.change) → Decides (lent t ys es) id joined v 0 (lent t' ys' es') (bool_byte d.accepted)
+  unfolding if_done two_verdict
+  decided d h ys' e = twos ys (Ok d) h v e (byte_is d.accepted ∙ rw h.accepted_is)
+
+  pub undecided : (e : Refusal) → RoundTwo (lent t (eight_of ys) es) id joined (Err e) t' es'
+      → Decides (lent t ys es) id joined v (number_of e) (lent t' ys es') v
+  unfolding if_done
+  undecided e h = twos ys (Err e) h v refl (rw (ne_eqb (number_of e) 0 (number_nonzero e)))
 
 -- ---- an entry and a drop
 enter_refuses : (id : ℕ) (T : Lent) → table_sound document01 T ≡ false → enter_refused document01 T id ≡ 11
 unfolding enter_refused
 enter_refuses id = unsound_refused (λ T. enter_refusal (table_state document01 T) id)
 
-pub enter_in_range : (id : ℕ) (ys : List Slot) {t es : List ℕ} {c : Change} {t' es' : List ℕ}
-    → entering.Enters (lent t (eight_of ys) es) id c t' es' → c.refusal ≡ 0 → c.at < length ys
-enter_in_range id ys {t} {es} {c} {t'} {es'} h =
-    in_range (λ T. enter_refused document01 T id) (enter_refuses id) t ys es (λ T. enter_table document01 T id) c t' es' h
+module _ (id : ℕ) (ys : List Slot) {t es : List ℕ} (a : Result Change Refusal) {t' es' : List ℕ}
+    (h : entering.Enters (lent t (eight_of ys) es) id a t' es') where
+  pub enter_in_range : IfSome (result_ok a) (λ x. x.at < length ys)
+  enter_in_range =
+      in_range (λ T. enter_refused document01 T id) (enter_refuses id) t ys es (λ T. enter_table document01 T id)
+      (fault_of a) (result_ok a) (tie a) t' es' h
 
-pub enters : (id : ℕ) (ys : List Slot) {t es : List ℕ} {c : Change} {t' : List ℕ} {ys' : List Slot} {es' : List ℕ}
-    → entering.Enters (lent t (eight_of ys) es) id c t' es' → ys' ≡ applied ys c
-    → Enters (lent t ys es) id c.refusal (lent t' ys' es')
-enters id ys {t} {es} {c} {t'} {ys'} {es'} h e =
-    let fault : Lent → ℕ = λ T. enter_refused document01 T id in
-    let new : Lent → Lent = λ T. enter_table document01 T id in
-    record {
-      answer_is = answer_is fault (enter_refuses id) t ys es new c t' es' h;
-      table_is = leaves fault (enter_refuses id) t ys es new c t' es' h ys' e;
-    }
+  pub enters : {ys' : List Slot} {n : ℕ} → ys' ≡ applied ys (result_ok a) → n ≡ fault_of a
+      → Enters (lent t ys es) id n (lent t' ys' es')
+  enters {ys'} {n} e q =
+      let fault : Lent → ℕ = λ T. enter_refused document01 T id in
+      let new : Lent → Lent = λ T. enter_table document01 T id in
+      record {
+        answer_is = q ∙ answer_is fault (enter_refuses id) t ys es new (fault_of a) (result_ok a) (tie a) t' es' h;
+        table_is = leaves fault (enter_refuses id) t ys es new (fault_of a) (result_ok a) (tie a) t' es' h ys' e;
+      }
 
 drop_refuses : (id : ℕ) (T : Lent) → table_sound document01 T ≡ false → drop_refused document01 T id ≡ 11
 unfolding drop_refused
 drop_refuses id = unsound_refused (λ T. drop_refusal (table_state document01 T) id)
 
-pub drop_in_range : (id : ℕ) (ys : List Slot) {t es : List ℕ} {c : Change} {t' es' : List ℕ}
-    → closing.Drops (lent t (eight_of ys) es) id c t' es' → c.refusal ≡ 0 → c.at < length ys
-drop_in_range id ys {t} {es} {c} {t'} {es'} h =
-    in_range (λ T. drop_refused document01 T id) (drop_refuses id) t ys es (λ T. drop_table document01 T id) c t' es' h
+module _ (id : ℕ) (ys : List Slot) {t es : List ℕ} (a : Result Change Refusal) {t' es' : List ℕ}
+    (h : closing.Drops (lent t (eight_of ys) es) id a t' es') where
+  pub drop_in_range : IfSome (result_ok a) (λ x. x.at < length ys)
+  drop_in_range =
+      in_range (λ T. drop_refused document01 T id) (drop_refuses id) t ys es (λ T. drop_table document01 T id)
+      (fault_of a) (result_ok a) (tie a) t' es' h
 
-pub drops : (id : ℕ) (ys : List Slot) {t es : List ℕ} {c : Change} {t' : List ℕ} {ys' : List Slot} {es' : List ℕ}
-    → closing.Drops (lent t (eight_of ys) es) id c t' es' → ys' ≡ applied ys c
-    → Drops (lent t ys es) id c.refusal (lent t' ys' es')
-drops id ys {t} {es} {c} {t'} {ys'} {es'} h e =
-    let fault : Lent → ℕ = λ T. drop_refused document01 T id in
-    let new : Lent → Lent = λ T. drop_table document01 T id in
-    record {
-      answer_is = answer_is fault (drop_refuses id) t ys es new c t' es' h;
-      table_is = leaves fault (drop_refuses id) t ys es new c t' es' h ys' e;
-    }
+  pub drops : {ys' : List Slot} {n : ℕ} → ys' ≡ applied ys (result_ok a) → n ≡ fault_of a
+      → Drops (lent t ys es) id n (lent t' ys' es')
+  drops {ys'} {n} e q =
+      let fault : Lent → ℕ = λ T. drop_refused document01 T id in
+      let new : Lent → Lent = λ T. drop_table document01 T id in
+      record {
+        answer_is = q ∙ answer_is fault (drop_refuses id) t ys es new (fault_of a) (result_ok a) (tie a) t' es' h;
+        table_is = leaves fault (drop_refuses id) t ys es new (fault_of a) (result_ok a) (tie a) t' es' h ys' e;
+      }
 
 -- ---- a close: the records stay, eight or not
 close_refuses : (room : ℕ) (T : Lent) → table_sound document01 T ≡ false → close_refused document01 T room ≡ 11
 unfolding close_refused
 close_refuses room = unsound_refused (λ T. close_refusal document01 (table_state document01 T) room)
 
-pub closes : (ys : List Slot) {t es out : List ℕ} {w a : ℕ} {t' out' : List ℕ} {w' : ℕ}
-    → closing.Closes (lent t (eight_of ys) es) out w a t' out' w' → Closes (lent t ys es) out w a (lent t' ys es) out' w'
-unfolding only_if if_done unless_refused close_table
-closes ys {t} {es} {out} {w} {a} {t'} {out'} {w'} h =
+pub closes : (ys : List Slot) {t es out : List ℕ} (w : ℕ) (a : Result ℕ Refusal) {t' out' : List ℕ} {n w' : ℕ}
+    → closing.Closes (lent t (eight_of ys) es) out a t' out' → n ≡ fault_of a → w' ≡ length_of a w
+    → Closes (lent t ys es) out w n (lent t' ys es) out' w'
+unfolding only_if unless_refused close_table
+closes ys {t} {es} {out} w a {t'} {out'} {n} {w'} h q l =
     let fault : Lent → ℕ = λ T. close_refused document01 T (length out) in
     let refuses = close_refuses (length out) in
     let size : Lent → ℕ = λ T. totals_length document01 (opened_in document01 T.bytes) in
@@ -175,11 +220,9 @@ closes ys {t} {es} {out} {w} {a} {t'} {out'} {w'} h =
     ∙ part (eqb (fault (lent t (eight_of ys) es)) 0) (eight_of ys)
     ∙ left_same fault refuses t ys es (λ T. splice t 1 (1 ∷ [])) t in (
       ap (λ (u : List ℕ). lent u ys es) bytes ∙ whole (eqb (fault (lent t ys es)) 0),
-      record {
-        answer_is = h.writes.answer_is ∙ fault_same fault refuses t ys es;
-        out_is = h.writes.out_is ∙ left_same fault refuses t ys es (λ T. splice out 0 (close_bytes document01 T)) out;
-        written_is = h.writes.written_is ∙ left_same fault refuses t ys es size w;
-      },
+      writes (fault (lent t ys es)) (close_bytes document01 (lent t ys es)) (size (lent t ys es)) out w a n out' w'
+          (h.answer_is ∙ ap (λ (f : ℕ). answered f (size (lent t ys es))) (fault_same fault refuses t ys es))
+          (h.out_is ∙ left_same fault refuses t ys es (λ T. splice out 0 (close_bytes document01 T)) out) q l,
     )
   where
     part : (b : Bool) (xs : List Slot) → (cond b (lent (splice t 1 (1 ∷ [])) xs es) (lent t xs es)).bytes ≡ cond b (splice t 1 (1 ∷ [])) t
@@ -195,41 +238,67 @@ state_refuses : (T : Lent) → table_sound document01 T ≡ false → state_refu
 unfolding state_refusal table_fault
 state_refuses T e = rw e refl
 
-pub tells : (ys : List Slot) {t es : List ℕ} {before : State} {a : ℕ} {after : State}
-    → state.Tells (lent t (eight_of ys) es) before a after → TellsState (lent t ys es) before a after
-tells ys {t} {es} {before} {a} {after} h =
-    let fault : Lent → ℕ = state_refusal document01 in
-    record {
-      answer_is = h.answer_is ∙ fault_same fault state_refuses t ys es;
-      numbers_are = h.numbers_are ∙ left_same fault state_refuses t ys es (state_of document01) before;
-    }
+module _ (ys : List Slot) {t es : List ℕ} (before : State) where
+  -- x is what is told
+  pub tells : (x : told.State) → state.Tells (lent t (eight_of ys) es) (Ok x) → TellsState (lent t ys es) before 0 (state.eight_of x)
+  tells x h =
+      let fault : Lent → ℕ = state_refusal document01 in
+      let numbers : state.eight_of x
+      ≡ cond (eqb (fault (lent t (eight_of ys) es)) 0) (state_of document01 (lent t (eight_of ys) es)) before
+      = rw (← h.answer_is) h.numbers_are in
+      record {
+        answer_is = h.answer_is ∙ fault_same fault state_refuses t ys es;
+        numbers_are = numbers ∙ left_same fault state_refuses t ys es (state_of document01) before;
+      }
+
+  pub tells_none : (e : Refusal) → state.Tells (lent t (eight_of ys) es) (Err e) → TellsState (lent t ys es) before (number_of e) before
+  tells_none e h =
+      let same : number_of e ≡ state_refusal document01 (lent t ys es)
+      = h.answer_is ∙ fault_same (state_refusal document01) state_refuses t ys es in
+      record { answer_is = same; numbers_are = rw (← same, ne_eqb (number_of e) 0 (number_nonzero e)) }
 
 -- ---- opening: the call clears bytes and numbers, and the records are cleared where it is not refused
-module _ {servers own : ℕ} {sheet : List ℕ} {returns least : ℕ} {t : List ℕ} {es : List ℕ} {w a : ℕ} {t' es' : List ℕ} {w' : ℕ} where
-  pub opens_eight : (ys : List Slot) → Opens servers own sheet returns least t (length ys) es w a t' es' w' → a ≡ 0 → length ys ≡ 8
+opened_ok : (length f n : ℕ) → ok length ≡ answered f n → (f ≡ 0) × (length ≡ n)
+unfolding answered
+opened_ok length zero n e = (refl, cc)
+opened_ok length (suc f) n e = let q = rw (ne_eqb (suc f) 0 (λ z. omega arith)) at e in cc
+
+opened_err : (m f n : ℕ) → refused m ≡ answered f n → f ≡ m
+unfolding answered
+opened_err m zero n e = cc
+opened_err m (suc f) n e = let q = rw (ne_eqb (suc f) 0 (λ z. omega arith)) at e in cc
+
+module _ {servers own : ℕ} {sheet : List ℕ} {returns least : ℕ} {t : List ℕ} {es : List ℕ} {t' es' : List ℕ} (ys : List Slot) where
+  pub opens_eight : (n : ℕ) → Opens servers own sheet returns least t (length ys) es (Ok n) t' es' → length ys ≡ 8
   unfolding open_room
-  opens_eight ys h z =
-      let known = opening document01 servers own sheet returns least (length t) (length ys) (length es) (sym h.answer_is ∙ z) in
+  opens_eight n h =
+      let z = (opened_ok n _ _ h.answer_is).0 in
+      let known = opening document01 servers own sheet returns least (length t) (length ys) (length es) z in
       let long : Bool = leb (open_length document01 sheet returns) (length t) in
       let eight : Bool = eqb (length ys) 8 in
       let run : Bool = leb (run_size (columns_of sheet)) (length es) in
       eqb-true (length ys) 8 (and_left eight run (and_right long (eight && run) known.enough))
 
-  pub opens : (ys : List Slot) {ys' : List Slot} → Opens servers own sheet returns least t (length ys) es w a t' es' w' → ys' ≡ cleared ys a
-      → promise.Opens servers own sheet returns least (lent t ys es) w a (lent t' ys' es') w'
-  unfolding only_if if_done unless_refused cleared
-  opens ys {ys'} h e =
-      let f : ℕ = refusal_of servers own sheet returns least t (length ys) es in
+  pub opens : (w n : ℕ) {ys' : List Slot} → Opens servers own sheet returns least t (length ys) es (Ok n) t' es'
+      → ys' ≡ replicate 8 free_slot
+      → promise.Opens servers own sheet returns least (lent t ys es) w 0 (lent t' ys' es') n
+  unfolding only_if if_done unless_refused
+  opens w n h e =
+      let z = opened_ok n _ _ h.answer_is in
       record {
-        answer_is = h.answer_is;
-        table_is =
-            (λ i. lent (h.table_is i) ((e ∙ ap (cleared ys) h.answer_is) i) (h.numbers_are i)) ∙ whole (eqb f 0);
-        written_is = h.written_is;
+        answer_is = sym z.0;
+        table_is = rw (h.table_is, h.numbers_are, e, z.0) refl;
+        written_is = rw (z.0, z.1);
       }
-    where
-      whole : (b : Bool)
-          → lent (cond b (splice t 0 (open_bytes document01 servers own sheet returns least)) t) (cond b (replicate 8 free_slot) ys)
-          (cond b (splice es 0 (replicate (run_size (columns_of sheet)) 0)) es)
-          ≡ cond b (opened_table document01 servers own sheet returns least (lent t ys es)) (lent t ys es)
-      whole true = refl
-      whole false = refl
+
+  pub opens_none : (w : ℕ) (r : Refusal) → Opens servers own sheet returns least t (length ys) es (Err r) t' es'
+      → promise.Opens servers own sheet returns least (lent t ys es) w (number_of r) (lent t' ys es') w
+  unfolding only_if if_done unless_refused
+  opens_none w r h =
+      let z = opened_err (number_of r) _ _ h.answer_is in
+      let f = ne_eqb (number_of r) 0 (number_nonzero r) in
+      record {
+        answer_is = sym z;
+        table_is = rw (h.table_is, h.numbers_are, z, f) refl;
+        written_is = rw (z, f);
+      }

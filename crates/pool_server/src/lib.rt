@@ -9,6 +9,8 @@ ghost use Rattle.waiting.specs.Changes.{lent};
 ghost use Rattle.state.specs.Calls.{eight};
 ghost use Rattle.pool_server.specs.Calls.{Opens, TakesShare, TakesOne, Decides, Enters, Drops, Closes, TellsState};
 
+use records::{hand_back, number_of};
+use round_message::{LENGTH_ONE, LENGTH_TWO};
 use slots::Slot;
 
 pub fn pool_open(
@@ -27,11 +29,16 @@ pub fn pool_open(
         result (lent table.new slots.new elements.new) written.new }
 {
     let records = slots.len();
-    let refusal = opening::open(
-        servers, own, sheet, returns, least, table, records, elements, written,
-    );
-    slots::clear(slots, refusal);
-    refusal
+    match opening::open(
+        servers, own, sheet, returns, least, table, records, elements,
+    ) {
+        Ok(length) => {
+            slots::clear(slots);
+            *written = length;
+            0
+        }
+        Err(refusal) => refusal.number(),
+    }
 }
 
 pub fn pool_share(
@@ -49,9 +56,9 @@ pub fn pool_share(
         result (lent table.now slots.new elements.new) out.new written.new }
 {
     let list = slots::copied(slots);
-    let change = shares::share(table, list, elements, message, r, s, out, written);
-    slots::apply(slots, change);
-    change.refusal
+    let answer = shares::share(table, list, elements, message, r, s, out);
+    slots::apply(slots, answer.ok());
+    hand_back(answer.and(Ok(LENGTH_ONE)), written)
 }
 
 pub fn pool_round_one(
@@ -68,9 +75,9 @@ pub fn pool_round_one(
         result (lent table.now slots.new elements.now) out.new written.new }
 {
     let list = slots::copied(slots);
-    let change = round_one::round_one(table, list, elements, id, joined, out, written);
-    slots::apply(slots, change);
-    change.refusal
+    let answer = round_one::round_one(table, list, elements, id, joined, out);
+    slots::apply(slots, answer.ok());
+    hand_back(answer.and(Ok(LENGTH_TWO)), written)
 }
 
 pub fn pool_round_two(
@@ -86,9 +93,14 @@ pub fn pool_round_two(
         result (lent table.new slots.new elements.new) accepted.new }
 {
     let list = slots::copied(slots);
-    let change = round_two::round_two(table, list, elements, id, joined, accepted);
-    slots::apply(slots, change);
-    change.refusal
+    match round_two::round_two(table, list, elements, id, joined) {
+        Ok(decision) => {
+            slots::apply(slots, Some(decision.change));
+            *accepted = u32::from(decision.accepted);
+            0
+        }
+        Err(refusal) => refusal.number(),
+    }
 }
 
 pub fn pool_enter(table: &mut [u8], slots: &mut [Slot], elements: &mut [u32], id: u32) -> u32
@@ -96,9 +108,9 @@ pub fn pool_enter(table: &mut [u8], slots: &mut [Slot], elements: &mut [u32], id
         result (lent table.new slots.new elements.new) }
 {
     let list = slots::copied(slots);
-    let change = entering::enter(table, list, elements, id);
-    slots::apply(slots, change);
-    change.refusal
+    let answer = entering::enter(table, list, elements, id);
+    slots::apply(slots, answer.ok());
+    number_of(answer)
 }
 
 pub fn pool_drop(table: &mut [u8], slots: &mut [Slot], elements: &mut [u32], id: u32) -> u32
@@ -106,9 +118,9 @@ pub fn pool_drop(table: &mut [u8], slots: &mut [Slot], elements: &mut [u32], id:
         result (lent table.new slots.new elements.new) }
 {
     let list = slots::copied(slots);
-    let change = closing::drop(table, list, elements, id);
-    slots::apply(slots, change);
-    change.refusal
+    let answer = closing::drop(table, list, elements, id);
+    slots::apply(slots, answer.ok());
+    number_of(answer)
 }
 
 pub fn pool_close(
@@ -123,7 +135,7 @@ pub fn pool_close(
         result (lent table.new slots.now elements.now) out.new written.new }
 {
     let list = slots::copied(slots);
-    closing::close(table, list, elements, out, written)
+    hand_back(closing::close(table, list, elements, out), written)
 }
 
 pub fn pool_state(
@@ -146,7 +158,18 @@ pub fn pool_state(
         closed.new decided.new entered.new waiting.new) }
 {
     let list = slots::copied(slots);
-    state::tell(
-        table, list, elements, servers, own, returns, least, closed, decided, entered, waiting,
-    )
+    match state::tell(table, list, elements) {
+        Ok(state) => {
+            *servers = state.servers;
+            *own = state.own;
+            *returns = state.returns;
+            *least = state.least;
+            *closed = state.closed;
+            *decided = state.decided;
+            *entered = state.entered;
+            *waiting = state.waiting;
+            0
+        }
+        Err(refusal) => refusal.number(),
+    }
 }

@@ -6,9 +6,6 @@
 
 ghost use Rattle.pool_sheets.specs.Calls.{nine, TellsSizes, WritesCircuit, ReadsCircuit, WritesEveryReturn};
 
-use every_return::Listed;
-use sizes::Told;
-
 pub fn pool_sizes(
     sheet: &[u8],
     columns: &mut u32,
@@ -29,21 +26,19 @@ pub fn pool_sizes(
         multiplications.new tests.new circuit.new share.new
         greatest.new) }
 {
-    match sizes::measure(sheet) {
-        Told::Refused(refusal) => refusal,
-        Told::Sizes(told) => {
-            *columns = told.columns;
-            *entries = told.entries;
-            *published = told.published;
-            *wires = told.wires;
-            *multiplications = told.multiplications;
-            *tests = told.tests;
-            *circuit = told.circuit;
-            *share = told.share;
-            *greatest = told.greatest;
-            0
-        }
+    let answer = sizes::measure(sheet);
+    if let Ok(told) = answer {
+        *columns = told.columns;
+        *entries = told.entries;
+        *published = told.published;
+        *wires = told.wires;
+        *multiplications = told.multiplications;
+        *tests = told.tests;
+        *circuit = told.circuit;
+        *share = told.share;
+        *greatest = told.greatest;
     }
+    records::number_of(answer)
 }
 
 pub fn pool_circuit(sheet: &[u8], out: &mut [u8], written: &mut usize) -> u32
@@ -64,27 +59,23 @@ pub fn pool_read_circuit(
         wires.old multiplications.old tests.old
         result wires.new multiplications.new tests.new }
 {
-    match circuit::read(entries, circuit) {
-        circuit::Reading::Refused(refusal) => refusal,
-        circuit::Reading::Counts(counts) => {
-            *wires = counts.wires;
-            *multiplications = counts.multiplications;
-            *tests = counts.tests;
-            0
-        }
+    let answer = circuit::read(entries, circuit);
+    if let Ok(counts) = answer {
+        *wires = counts.wires;
+        *multiplications = counts.multiplications;
+        *tests = counts.tests;
     }
+    records::number_of(answer)
 }
 
 pub fn pool_every_return(sheet: &[u8], out: &mut [u8], lists: &mut u32, written: &mut usize) -> u32
     ensures { WritesEveryReturn sheet.now out.old lists.old written.old
         result out.new lists.new written.new }
 {
-    match every_return::write(sheet, out) {
-        Listed::Refused(refusal) => refusal,
-        Listed::Done(found) => {
-            *lists = found.lists;
-            *written = found.written;
-            0
-        }
+    let answer = every_return::write(sheet, out);
+    if let Ok(found) = answer {
+        *lists = found.lists;
+        *written = found.written;
     }
+    records::number_of(answer)
 }

@@ -1,58 +1,46 @@
 -- What pool_line leaves, from the answer of the call: a refusal leaves the three numbers, else they are the line's. Assumes nothing.
 use mathlib.Core.Path.{◌≡◌, refl, sym, ap, ◌∙◌}
-use mathlib.Core.Bool.{Bool, true, false, cond}
 use mathlib.Core.List.{List}
 use Prim.Native.Nat.{ℕ}
-use native.Mathlib.Omega.{arith}
-use borrow.Author.Tests.{ne_eqb, eqb-true, eqb-false}
-use lib.Dec.{eqb}
+use borrow.Author.Tests.{ne_eqb}
 use lib.IntN.{ℤ}
+use Rattle.records.specs.Outcome.{ok, refused}
+use Rattle.records.specs.Refusals.{number_of}
+use Rattle.records.specs.declared.Refusal.{Refusal}
+use Rattle.records.proofs.Refusals.{number_nonzero}
 use Rattle.rules.specs.Settings.{document01}
-use Rattle.rules.specs.Line.{line_refusal, line_sums}
+use Rattle.rules.specs.Line.{line_refusal}
+use Rattle.joining.proofs.Faults.{refused_told, done_told}
 use Rattle.line.specs.declared.Line.{Line}
-use Rattle.line.specs.declared.Fitting.TheVariants as answer
-use Rattle.line.specs.Numbers.{line_of}
 use Rattle.line.specs.Calls.{fit_of}
 use Rattle.pool_totals.specs.Calls.{signed_if, TellsLine}
-
--- ---- the answer taken apart
-refused_by_lem : (b : Bool) (f n : ℕ) (l : Line) → cond b (answer.Done l) (answer.Refused f) ≡ answer.Refused n → (b ≡ false) × (f ≡ n)
-refused_by_lem true f n l e = let z : ◌≡◌ {A = ℕ} 0 1 = cc in absurd (omega arith)
-refused_by_lem false f n l e = (refl, cc)
-
-done_by : (b : Bool) (f : ℕ) (l m : Line) → cond b (answer.Done l) (answer.Refused f) ≡ answer.Done m → (b ≡ true) × (m ≡ l)
-done_by true f l m e = (refl, cc)
-done_by false f l m e = let z : ◌≡◌ {A = ℕ} 0 1 = cc in absurd (omega arith)
 
 module _ (servers : ℕ) (sheet : List ℕ) (returns : ℕ) (joined : List ℕ) (column : ℕ) (determinant slope intercept : ℤ) where
   abbrev refusal : ℕ
   refusal = line_refusal document01 servers sheet returns joined column
 
-  abbrev line : Line
-  line = line_of (line_sums document01 servers sheet joined column)
-
-  pub line_refused : (n : ℕ) → fit_of servers sheet returns joined column ≡ answer.Refused n
-      → TellsLine servers sheet returns joined column determinant slope intercept n determinant slope intercept
+  pub line_refused : (r : Refusal) → refused (number_of r) ≡ fit_of servers sheet returns joined column
+      → TellsLine servers sheet returns joined column determinant slope intercept (number_of r) determinant slope intercept
   unfolding fit_of signed_if
-  line_refused n e =
-      let r = refused_by_lem (eqb refusal 0) refusal n line e in
-      let some = ne_eqb n 0 (λ z. eqb-false refusal 0 r.0 (r.1 ∙ z)) in
+  line_refused r e =
+      let g : number_of r ≡ refusal = refused_told _ _ _ e in
+      let some = ne_eqb (number_of r) 0 (number_nonzero r) in
       record {
-        answer_is = sym r.1;
-        determinant_is = rw (r.1, some) refl;
-        slope_is = rw (r.1, some) refl;
-        intercept_is = rw (r.1, some) refl;
+        answer_is = g;
+        determinant_is = rw (sym g, some) refl;
+        slope_is = rw (sym g, some) refl;
+        intercept_is = rw (sym g, some) refl;
       }
 
-  pub line_done : (l : Line) → fit_of servers sheet returns joined column ≡ answer.Done l
-      → TellsLine servers sheet returns joined column determinant slope intercept 0 l.determinant l.slope l.intercept
+  pub line_done : (l : Line) → ok l ≡ fit_of servers sheet returns joined column
+      → (d s i : ℤ) → d ≡ l.determinant → s ≡ l.slope → i ≡ l.intercept
+      → TellsLine servers sheet returns joined column determinant slope intercept 0 d s i
   unfolding fit_of signed_if
-  line_done l e =
-      let r = done_by (eqb refusal 0) refusal line l e in
-      let none : refusal ≡ 0 = eqb-true refusal 0 r.0 in
+  line_done l e d s i d_is s_is i_is =
+      let r = done_told refusal _ l e in
       record {
-        answer_is = sym none;
-        determinant_is = rw none (ap (λ (x : Line). x.determinant) r.1);
-        slope_is = rw none (ap (λ (x : Line). x.slope) r.1);
-        intercept_is = rw none (ap (λ (x : Line). x.intercept) r.1);
+        answer_is = sym r.0;
+        determinant_is = rw r.0 (d_is ∙ ap (λ (x : Line). x.determinant) r.1);
+        slope_is = rw r.0 (s_is ∙ ap (λ (x : Line). x.slope) r.1);
+        intercept_is = rw r.0 (i_is ∙ ap (λ (x : Line). x.intercept) r.1);
       }

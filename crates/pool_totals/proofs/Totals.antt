@@ -1,70 +1,42 @@
 -- What pool_join leaves, from the answer of joining. Assumes nothing.
-use mathlib.Core.Path.{◌≡◌, refl, sym, ap, ◌∙◌}
-use mathlib.Core.Bool.{Bool, true, false, cond}
+use mathlib.Core.Path.{◌≡◌, refl, sym, ap}
 use mathlib.Core.List.{List}
-use Prim.Native.Nat.{ℕ, ◌*◌}
-use native.Mathlib.Omega.{arith}
-use borrow.Author.Tests.{ne_eqb, eqb-true, eqb-false}
-use lib.Dec.{eqb}
+use Prim.Native.Nat.{ℕ}
+use borrow.Author.Tests.{ne_eqb}
 use lib.ListN.{length}
+use Rattle.std.specs.Prelude.{Ok, Err}
+use Rattle.records.specs.Refusals.{number_of}
+use Rattle.records.specs.Answers.{if_done}
+use Rattle.records.specs.declared.Refusal.{Refusal}
+use Rattle.records.proofs.Refusals.{number_nonzero}
 use Rattle.rules.specs.Settings.{document01}
-use Rattle.rules.specs.Columns.{columns_of, published_in}
-use Rattle.rules.specs.Joining.{join_refusal, join_count}
+use Rattle.rules.specs.Joining.{join_refusal}
 use Rattle.joining.specs.declared.Joining.{Joining}
-use Rattle.joining.specs.declared.Joined.{Joined}
-use Rattle.joining.specs.declared.Joined.TheVariants as answer
 use Rattle.joining.specs.Calls.{joined_of}
 use Rattle.joining.specs.Calls as call
-use Rattle.records.specs.Answers.{if_done}
+use Rattle.joining.proofs.Faults.{refused_told, done_told}
 use Rattle.pool_totals.specs.Calls.{Joins}
 
-module _ (f count written : ℕ) where
-  refused_by_lem : (b : Bool) (n : ℕ)
-      → cond b (answer.Done (record { accepted = count; written = written })) (answer.Refused f) ≡ answer.Refused n
-      → (b ≡ false) × (f ≡ n)
-  refused_by_lem true n e = let z : ◌≡◌ {A = ℕ} 0 1 = cc in absurd (omega arith)
-  refused_by_lem false n e = (refl, cc)
-
-  done_by : (b : Bool) (d : Joining)
-      → cond b (answer.Done (record { accepted = count; written = written })) (answer.Refused f) ≡ answer.Done d
-      → (b ≡ true) × (d ≡ record { accepted = count; written = written })
-  done_by true d e = (refl, cc)
-  done_by false d e = let z : ◌≡◌ {A = ℕ} 0 1 = cc in absurd (omega arith)
-
-  joined_refused : (n : ℕ) → joined_of f count written ≡ answer.Refused n → (f ≡ n) × (n ≡ 0 → ⊥)
-  unfolding joined_of
-  joined_refused n e =
-      let r = refused_by_lem (eqb f 0) n e in
-      (r.1, λ z. eqb-false f 0 r.0 (r.1 ∙ z))
-
-  joined_done : (d : Joining) → joined_of f count written ≡ answer.Done d
-      → (f ≡ 0) × (d ≡ record { accepted = count; written = written })
-  unfolding joined_of
-  joined_done d e =
-      let r = done_by (eqb f 0) d e in
-      (eqb-true f 0 r.0, r.1)
-
-module _ (servers : ℕ) (sheet : List ℕ) (returns : ℕ) (joined out : List ℕ) (accepted written : ℕ) (a : Joined) (out' : List ℕ)
-    (j : call.Joins servers sheet returns joined out a out') where
+module _ (servers : ℕ) (sheet : List ℕ) (returns : ℕ) (joined out : List ℕ) (accepted written : ℕ) (out' : List ℕ) where
   abbrev refusal : ℕ
   refusal = join_refusal document01 servers sheet returns joined (length out)
 
-  pub join_refused : (n : ℕ) → a ≡ answer.Refused n
-      → Joins servers sheet returns joined out accepted written n out' accepted written
-  unfolding if_done
-  join_refused n e =
-      let r = joined_refused refusal (join_count joined) (4 * published_in (columns_of sheet)) n (sym j.answer_is ∙ e) in
-      let none = ne_eqb n 0 r.1 in
+  pub join_refused : (r : Refusal) → call.Joins servers sheet returns joined out (Err r) out'
+      → Joins servers sheet returns joined out accepted written (number_of r) out' accepted written
+  unfolding if_done joined_of
+  join_refused r j =
+      let f : number_of r ≡ refusal = refused_told _ _ _ j.answer_is in
+      let none = ne_eqb (number_of r) 0 (number_nonzero r) in
       record {
-        totals = record { answer_is = sym r.0; out_is = j.out_is; written_is = rw (r.0, none) refl };
-        accepted_is = rw (r.0, none) refl;
+        totals = record { answer_is = f; out_is = j.out_is; written_is = rw (sym f, none) refl };
+        accepted_is = rw (sym f, none) refl;
       }
 
-  pub join_done : (d : Joining) → a ≡ answer.Done d
+  pub join_done : (d : Joining) → call.Joins servers sheet returns joined out (Ok d) out'
       → Joins servers sheet returns joined out accepted written 0 out' d.accepted d.written
-  unfolding if_done
-  join_done d e =
-      let r = joined_done refusal (join_count joined) (4 * published_in (columns_of sheet)) d (sym j.answer_is ∙ e) in
+  unfolding if_done joined_of
+  join_done d j =
+      let r = done_told refusal _ d j.answer_is in
       record {
         totals = record { answer_is = sym r.0; out_is = j.out_is; written_is = rw r.0 (ap (λ (x : Joining). x.written) r.1) };
         accepted_is = rw r.0 (ap (λ (x : Joining). x.accepted) r.1);

@@ -6,9 +6,6 @@
 
 ghost use Rattle.pool_totals.specs.Calls.{Joins, TellsLine};
 
-use joining::Joined;
-use line::Fitting;
-
 pub fn pool_join(
     servers: u32,
     sheet: &[u8],
@@ -22,14 +19,12 @@ pub fn pool_join(
         accepted.old written.old
         result out.new accepted.new written.new }
 {
-    match joining::join(servers, sheet, returns, joined, out) {
-        Joined::Refused(refusal) => refusal,
-        Joined::Done(done) => {
-            *accepted = done.accepted;
-            *written = done.written;
-            0
-        }
+    let totals = joining::join(servers, sheet, returns, joined, out);
+    if let Ok(done) = totals {
+        *accepted = done.accepted;
+        *written = done.written;
     }
+    records::number_of(totals)
 }
 
 pub fn pool_line(
@@ -46,16 +41,11 @@ pub fn pool_line(
         determinant.old slope.old intercept.old
         result determinant.new slope.new intercept.new }
 {
-    match line::fit(servers, sheet, returns, joined, column) {
-        Fitting::Refused(refusal) => refusal,
-        Fitting::Done(told) => {
-            let d = told.determinant;
-            let s = told.slope;
-            let i = told.intercept;
-            *determinant = d;
-            *slope = s;
-            *intercept = i;
-            0
-        }
+    let line = line::fit(servers, sheet, returns, joined, column);
+    if let Ok(told) = line {
+        *determinant = told.determinant;
+        *slope = told.slope;
+        *intercept = told.intercept;
     }
+    records::number_of(line)
 }

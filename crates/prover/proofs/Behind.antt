@@ -3,7 +3,7 @@ use mathlib.Core.Path.{◌≡◌, ap, ap₂, ◌∙◌}
 use mathlib.Core.List.{List, ◌∷◌, ◌++◌, append-nil}
 use Prim.Native.Nat.{ℕ, suc, ◌-◌, ◌≤◌}
 use native.Mathlib.Omega.{arith}
-use borrow.Rule.Slice.PartMut.{mid_of, put_mid, mid_len, Post-is, same_len_mid}
+use borrow.Rule.Slice.PartMut.{mid_of, put_mid, Post-is}
 use lib.ListN.{length, length-set, set}
 use lib.Seq.{take-suc-set, drop-length}
 
@@ -11,15 +11,7 @@ module _ (d : List ℕ) (v : ℕ) {m : ℕ} (long : length d ≡ suc m) where
   abbrev stored : List ℕ
   stored = set d 0 v
 
-  pub length_behind : length (mid_of 1 (length stored - 1) stored) ≡ m
-  length_behind =
-      let e : length stored ≡ length d = length-set d 0 v in
-      mid_len 1 (length stored) stored (omega arith) ∙ omega arith
-
   module _ (p : List ℕ) (kept : length p ≡ length (mid_of 1 (length stored - 1) stored)) where
-    pub first_kept : length (put_mid 1 (length stored - 1) stored p) ≡ length d
-    first_kept = same_len_mid 1 (length stored - 1) stored p kept ∙ length-set d 0 v
-
     pub behind_first : {rest : List ℕ} → p ≡ rest → put_mid 1 (length stored - 1) stored p ≡ v ∷ rest
     behind_first {rest} q =
         let some : 1 ≤ length stored = let e : length stored ≡ length d = length-set d 0 v in omega arith in

@@ -21,15 +21,6 @@ room {s} {xs} {k} e q =
     let f : k / 2 ≤ 256 = omega (arith, m.entries_most, m.gates_most) in
     record { half = h; few = f; some_more = omega arith; twice = omega arith }
 
--- lengths of the tables
-pub most : {a n : ℕ} → a ≡ n → n ≤ 256 → a ≤ 256
-most e h = omega arith
-
-pub one_more_lem : {a b n : ℕ} → a ≡ n + 1 → b ≡ n → a ≡ suc b
-one_more_lem e h = omega arith
-
-pub doubled : {a b n : ℕ} → a ≡ n + n → b ≡ n → a ≡ b + b
-doubled e h = omega arith
-
+-- the places by the length of a table
 pub odd : {k a n : ℕ} → k ≡ suc (n + n) → a ≡ n → k ≡ suc (a + a)
 odd e h = omega arith

@@ -1,11 +1,10 @@
 -- The members of a table of the weights of the points 0, .., n. Assumes nothing.
-use mathlib.Core.Path.{◌≡◌, ap, ap₂, subst, sym, ◌∙◌}
+use mathlib.Core.Path.{◌≡◌, ap, subst, sym, ◌∙◌}
 use mathlib.Core.List.{List}
 use Prim.Native.Nat.{ℕ, suc, ◌-◌, ◌<◌, ◌≤◌}
 use native.Mathlib.Omega.{arith}
 use lib.ListN.{length}
 use Rattle.algebra.specs.Interpolation.{weight}
-use Rattle.algebra.specs.Lists.{tabulate}
 use Rattle.algebra.proofs.Tables.{length_tabulate, get_d_tabulate}
 use Rattle.field.specs.Residues.{prime, residues, Elements}
 use Rattle.quotients.proofs.Numbers.{weight_below}
@@ -27,7 +26,3 @@ module _ {n : ℕ} {ws : List ℕ} (w : Weights n ws) where
 -- the last of a points, which are 0, .., n
 pub last_point : {a n : ℕ} → a ≡ suc n → n ≡ a - 1
 last_point e = omega arith
-
--- the weights of as many points as there are places
-pub weights_from : {ws : List ℕ} (k n : ℕ) → k ≡ suc n → ws ≡ tabulate (weight residues (k - 1)) k → Weights n ws
-weights_from k n e q = record { are = q ∙ ap₂ (λ a b. tabulate (weight residues a) b) (sym (last_point e)) e }

@@ -7,7 +7,10 @@ ghost use Rattle.rules.specs.Columns.{columns_of};
 ghost use Rattle.rules.specs.Circuit.{gates_in, products_in};
 ghost use Rattle.rules.specs.Products.{walk_extras};
 ghost use Rattle.walk.specs.Walks.{members, Entries};
-ghost use Rattle.prover.specs.Curves.{value_at, scaled_shift, corrected_of, corrected_at, Weights, Ready, Curve};
+ghost use Rattle.prover.specs.Curves.{value_at, corrected_of, corrected_at, Weights, Curve};
+ghost use Rattle.prover.specs.Tables.{degree};
+
+use crate::tables::Tables;
 
 // The values of the extras' polynomial at 0, .., M: 0, then the extras.
 fn fill_e(sheet: &[u8], x: &[u32], out: &mut [u32])
@@ -32,44 +35,33 @@ fn curve_e(sheet: &[u8], x: &[u32], weights: &[u32], e: &mut [u32], es: &mut [u6
 }
 
 // out[j] = the value at j of the extras' polynomial.
-fn extra_values(
-    sheet: &[u8],
-    x: &[u32],
-    weights: &[u32],
-    falls: &[u32],
-    back: &[u64],
-    out: &mut [u32],
-)
-    requires entries { Entries sheet.now x.now × (length falls.now ≡ gates_in (columns_of sheet.now))
-        × Weights (length falls.now) weights.now }
-    requires ready { Ready (length falls.now) falls.now back.now
-        × (length out.old ≤ suc (length falls.now + length falls.now)) }
-    ensures { out.new ≡ tabulate (value_at (length falls.now)
+fn extra_values(sheet: &[u8], x: &[u32], tables: Tables, out: &mut [u32])
+    requires { Entries sheet.now x.now × (degree tables ≡ gates_in (columns_of sheet.now))
+        × (length out.old ≤ suc (degree tables + degree tables)) }
+    ensures { out.new ≡ tabulate (value_at (degree tables.entry)
         (0 ∷ walk_extras residues (prime - 1) (members x.now) 0 (columns_of sheet.now)))
         (length out.old) }
 {
-    let mut e = [0u32; 257];
-    let mut es = [0u64; 257];
-    let n = falls.len() + 1;
-    curve_e(sheet, x, weights, &mut e[..n], &mut es[..n]);
-    crate::fill_values(&e[..n], &es[..n], falls, back, out);
+    let n = tables.falls.len() + 1;
+    let e = &mut [0u32; 257][..n];
+    let es = &mut [0u64; 257][..n];
+    curve_e(sheet, x, tables.weights, e, es);
+    crate::fill_values(e, es, tables, out);
 }
 
-// out[j] = f(j) g(j), where out[j] was f(j) and g - f is the polynomial of `shift` and the one whose values are e; k is what
-// `scaled_shift` gives.
-fn fill_corrected(e: &[u32], d: u32, k: u32, falls: &[u32], back: &[u64], out: &mut [u32])
-    requires d_lt_prime { (d < prime) × (k ≡ scaled_shift (length falls.now) d) × Ready (length falls.now) falls.now back.now }
+// out[j] = f(j) g(j), where out[j] was f(j) and g - f is the polynomial of `shift` and the one whose values are e.
+fn fill_corrected(e: &[u32], d: u32, tables: Tables, out: &mut [u32])
+    requires d_lt_prime { d < prime }
     requires elements { Elements out.old × Elements e.now × (length e.now ≡ length out.old)
-        × (length out.old ≤ suc (length falls.now + length falls.now)) }
-    ensures { out.new ≡ tabulate (λ j. corrected_of (length falls.now) (members out.old j)
+        × (length out.old ≤ suc (degree tables + degree tables)) }
+    ensures { out.new ≡ tabulate (λ j. corrected_of (degree tables.entry) (members out.old j)
         (members e.now j) d j) (length out.old) }
 {
-    let mut j = 0;
-    while j < out.len() {
-        let y = out[j];
-        let shifted = field::add(y, crate::shift(d, k, falls, back, j));
-        out[j] = field::mul(y, field::add(shifted, e[j]));
-        j += 1;
+    let k = tables.scaled_shift(d);
+    for (j, place) in out.iter_mut().enumerate() {
+        let y = *place;
+        let shifted = field::add(y, tables.shift(d, k, j));
+        *place = field::mul(y, field::add(shifted, e[j]));
     }
 }
 
@@ -81,28 +73,23 @@ pub fn fill_from(
     f: &[u32],
     fs: &[u64],
     d: u32,
-    weights: &[u32],
-    falls: &[u32],
-    back: &[u64],
+    tables: Tables,
     out: &mut [u32],
 )
     requires entries { Entries sheet.now x.now × (products ≡ products_in (columns_of sheet.now)) × (d < prime)
-        × (length falls.now ≡ gates_in (columns_of sheet.now)) }
-    requires curve { Curve (length falls.now) f.now fs.now × Weights (length falls.now) weights.now
-        × Ready (length falls.now) falls.now back.now
-        × (length out.old ≤ suc (length falls.now + length falls.now)) }
-    ensures { out.new ≡ tabulate (corrected_at (length falls.now) f.now
+        × (degree tables ≡ gates_in (columns_of sheet.now)) }
+    requires curve { Curve (degree tables) f.now fs.now
+        × (length out.old ≤ suc (degree tables + degree tables)) }
+    ensures { out.new ≡ tabulate (corrected_at (degree tables.entry) f.now
         (0 ∷ walk_extras residues (prime - 1) (members x.now) 0 (columns_of sheet.now)) d)
         (length out.old) }
 {
-    let k = crate::scaled_shift(weights, d);
-    crate::fill_values(f, fs, falls, back, out);
+    crate::fill_values(f, fs, tables, out);
     if products == 0 {
-        crate::fill_products(d, k, falls, back, out);
+        crate::fill_products(d, tables, out);
         return;
     }
-    let mut values = [0u32; 513];
-    let n = out.len();
-    extra_values(sheet, x, weights, falls, back, &mut values[..n]);
-    fill_corrected(&values[..n], d, k, falls, back, out);
+    let values = &mut [0u32; 513][..out.len()];
+    extra_values(sheet, x, tables, values);
+    fill_corrected(values, d, tables, out);
 }

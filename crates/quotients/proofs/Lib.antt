@@ -4,5 +4,6 @@ pub mod Steps
 pub mod Numbers
 pub mod Signs
 pub mod Products
+pub mod Fours
 pub mod Rising
 pub mod Mirroring

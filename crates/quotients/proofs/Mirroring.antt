@@ -1,12 +1,11 @@
 -- A buffer whose last places hold the weights of the last points is filled at its front from these: while the first j are
 -- filled, the places behind the middle are as they were. Assumes nothing.
 use mathlib.Core.Path.{◌≡◌, sym, ap, ◌∙◌}
-use mathlib.Core.List.{List, ◌++◌, append-nil}
+use mathlib.Core.List.{List, ◌++◌}
 use Prim.Native.Nat.{ℕ, ◌+◌, ◌-◌, ◌≤◌, ◌<◌}
 use native.Mathlib.Omega.{arith}
-use borrow.Rule.Slice.PartMut.{mid_of, post_of, put_mid, mid_len, Post-is, same_len_mid}
-use lib.ListN.{length, get_or, take, drop}
-use lib.Seq.{length-take-le, drop_at, drop-length, get_or-drop}
+use lib.ListN.{length, get_or, drop}
+use lib.Seq.{drop_at, get_or-drop}
 use Rattle.algebra.specs.Interpolation.{weight, sign}
 use Rattle.algebra.specs.Lists.{tabulate}
 use Rattle.algebra.proofs.Tables.{length_tabulate, get_d_tabulate, tabulate_append}
@@ -52,22 +51,3 @@ module _ (s : ℕ) (d : List ℕ) where
         ∙ ap (tabulate weigh s ++◌) last
         ∙ sym (tabulate_append weigh s (length d - s))
         ∙ ap (tabulate weigh) t
-
--- the part from s on is lent, and p is what comes back
-module _ (s : ℕ) (d p : List ℕ) (h : s ≤ length d) (kept : length p ≡ length (mid_of s (length d - s) d)) where
-  abbrev put : List ℕ
-  put = put_mid s (length d - s) d p
-
-  pub put_long : length put ≡ length d
-  put_long = same_len_mid s (length d - s) d p kept
-
-  pub put_last : p ≡ tabulate (λ i. weight residues (length d - 1) (s + i)) (length (mid_of s (length d - s) d))
-      → drop s put ≡ tabulate (λ i. weight residues (length put - 1) (s + i)) (length put - s)
-  put_last e =
-      let all : length d ≤ length d = omega arith in
-      drop_at (take s d) (p ++ post_of s (length d - s) d) s (length-take-le s d h)
-      ∙ ap (p ++◌) (Post-is s (length d) d h ∙ drop-length d)
-      ∙ append-nil p
-      ∙ e
-      ∙ ap (tabulate (λ i. weight residues (length d - 1) (s + i))) (mid_len s (length d) d all)
-      ∙ ap (λ (k : ℕ). tabulate (λ i. weight residues (k - 1) (s + i)) (k - s)) (sym put_long)

@@ -11,7 +11,7 @@ use Rattle.algebra.proofs.Remainders.{mul_mod_mod, mod_mul_mod}
 use Rattle.algebra.proofs.Tables.{get_d_tabulate}
 use Rattle.field.specs.Residues.{prime, residues}
 use Rattle.field.proofs.Below.{product_below, inverse_below}
-use Rattle.quotients.specs.Factorials.{Inverses, inverse_factorial, inverse_of_four}
+use Rattle.quotients.specs.Factorials.{Inverses, inverse_factorial}
 
 abbrev pub times : ℕ → ℕ → ℕ
 times = residues.◌⊗◌
@@ -43,6 +43,13 @@ over_next j k e = ap (λ (t : ℕ). times (inverse_factorial j) (residues.inv t)
 pub over_low : {x : ℕ} (j : ℕ) → x ≡ inverse_factorial j → x < prime
 over_low j e = rw e (product_below j (λ i. residues.inv (suc i)))
 
+-- 1 over (i + 1) (i + 2) (i + 3) (i + 4)
+abbrev inverse_of_four : ℕ → ℕ
+inverse_of_four i =
+    residues.◌⊗◌
+    (residues.◌⊗◌ (residues.inv (i + 1)) (residues.inv (i + 2)))
+    (residues.◌⊗◌ (residues.inv (i + 3)) (residues.inv (i + 4)))
+
 pub over_four : (i : ℕ) → times (inverse_factorial i) (inverse_of_four i) ≡ inverse_factorial (i + 4)
 over_four i =
     let o = inverse_factorial i in
@@ -58,10 +65,7 @@ over_four i =
     ∙ ap (λ (t : ℕ). times t d) (over_next (i + 2) (i + 3) (omega arith))
     ∙ over_next (i + 3) (i + 4) (omega arith)
 
--- the two halves of n
-pub even_halves : (n : ℕ) → n % 2 ≡ 0 → n / 2 ≡ n - n / 2
-even_halves n h = omega arith
-
+-- the two halves of an odd n
 pub odd_halves : (n : ℕ) → (n % 2 ≡ 0 → ⊥) → suc (n / 2) ≡ n - n / 2
 odd_halves n h = omega arith
 

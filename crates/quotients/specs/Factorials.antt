@@ -1,6 +1,6 @@
 -- A list of inverses modulo the prime, and what weights are made of: products of inverses.
 -- Assumes nothing.
-use Rattle.std.specs.Prelude.{◌≡◌, List, ℕ, suc, ◌+◌, ◌-◌, length}
+use Rattle.std.specs.Prelude.{◌≡◌, List, ℕ, suc, ◌-◌, length}
 use Rattle.algebra.specs.Lists.{tabulate}
 use Rattle.algebra.specs.Sums.{product}
 use Rattle.field.specs.Residues.{residues}
@@ -12,13 +12,6 @@ Inverses s = s ≡ tabulate (λ i. residues.inv (suc i)) (length s)
 -- 1 over j factorial: the product of the inverses of 1, .., j
 abbrev pub inverse_factorial : ℕ → ℕ
 inverse_factorial j = product residues j (λ i. residues.inv (suc i))
-
--- 1 over (i + 1) (i + 2) (i + 3) (i + 4)
-abbrev pub inverse_of_four : ℕ → ℕ
-inverse_of_four i =
-    residues.◌⊗◌
-    (residues.◌⊗◌ (residues.inv (i + 1)) (residues.inv (i + 2)))
-    (residues.◌⊗◌ (residues.inv (i + 3)) (residues.inv (i + 4)))
 
 -- the weight of point j + 1 among 0, .., n over that of point j: (j - n) / (j + 1)
 abbrev pub next_over : ℕ → ℕ → ℕ

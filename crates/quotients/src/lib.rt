@@ -7,28 +7,17 @@ ghost use Rattle.std.specs.Prelude.{◌≡◌, suc, ◌+◌, ◌-◌, ◌/◌, �
 ghost use Rattle.algebra.specs.Lists.{tabulate};
 ghost use Rattle.algebra.specs.Interpolation.{weight, sign};
 ghost use Rattle.field.specs.Residues.{prime, residues};
-ghost use Rattle.quotients.specs.Factorials.{Inverses, inverse_factorial, inverse_of_four, next_over};
+ghost use Rattle.quotients.specs.Factorials.{Inverses, inverse_factorial, next_over};
 
 mod tables;
-
-// out[i] = table[i]
-fn copy(table: &[u32], out: &mut [u32])
-    requires { length out.old ≤ length table.now }
-    ensures { out.new ≡ take (length out.old) table.now }
-{
-    let mut i = 0;
-    while i < out.len() {
-        out[i] = table[i];
-        i += 1;
-    }
-}
 
 // out[i] = 1 / (i + 1)
 pub fn fill_inverses(out: &mut [u32])
     requires { length out.old ≤ 512 }
     ensures { out.new ≡ tabulate (λ i. residues.inv (suc i)) (length out.old) }
 {
-    copy(&tables::INVERSES, out);
+    let n = out.len();
+    out.copy_from_slice(&tables::INVERSES[..n]);
 }
 
 // (- 1) to the power k, times x
@@ -39,41 +28,18 @@ fn signed(k: usize, x: u32) -> u32
     if k % 2 == 0 { x } else { field::neg(x) }
 }
 
-// 1 / n!, by one inverse after another.
-fn chain(inverses: &[u32], n: usize) -> u32
-    requires { Inverses inverses.now × (n ≤ length inverses.now) }
-    ensures { result ≡ inverse_factorial n }
-{
-    let mut acc: u32 = 1;
-    let mut i = 0;
-    while i < n {
-        acc = field::mul(acc, inverses[i]);
-        i += 1;
-    }
-    acc
-}
-
-// The product of four inverses.
-fn four(inverses: &[u32], i: usize) -> u32
-    requires { Inverses inverses.now × (i + 4 ≤ length inverses.now) }
-    ensures { result ≡ inverse_of_four i }
-{
-    field::mul(
-        field::mul(inverses[i], inverses[i + 1]),
-        field::mul(inverses[i + 2], inverses[i + 3]),
-    )
-}
-
 // 1 / n!, by four inverses at a time, so that three products of four do not wait for the one before.
 fn inverse_factorial(inverses: &[u32], n: usize) -> u32
     requires { Inverses inverses.now × (n ≤ length inverses.now) }
     ensures { result ≡ inverse_factorial n }
 {
-    let mut i = n % 4;
-    let mut acc = chain(inverses, i);
-    while i < n {
-        acc = field::mul(acc, four(inverses, i));
-        i += 4;
+    let (fours, rest) = inverses[..n].as_chunks::<4>();
+    let mut acc: u32 = 1;
+    for [a, b, c, d] in fours {
+        acc = field::mul(acc, field::mul(field::mul(*a, *b), field::mul(*c, *d)));
+    }
+    for inverse in rest {
+        acc = field::mul(acc, *inverse);
     }
     acc
 }
@@ -105,11 +71,11 @@ fn next_over(inverses: &[u32], n: usize, j: usize) -> u32
     requires { Inverses inverses.now × (j < n) × (n ≤ length inverses.now) × (length inverses.now ≤ 512) }
     ensures { result ≡ next_over n j }
 {
-    field::mul(field::P - ((n - j) as u32), inverses[j])
+    field::mul(field::P - (n - j) as u32, inverses[j])
 }
 
 // The weights of the points s, .., n, of which `first` is that of s. A turn makes two of them, so that half of the products
-// do not wait for the one before.
+// do not wait for the one before: with two places to a turn and one or two that are left, the loop counts by hand.
 fn rise(inverses: &[u32], n: usize, s: usize, first: u32, out: &mut [u32])
     requires inverses { Inverses inverses.now × (n ≤ length inverses.now) × (length inverses.now ≤ 512) }
     requires first_value { (first ≡ weight residues n s) × (s ≤ n) × (s + length out.old ≡ suc n) }
@@ -141,10 +107,8 @@ fn mirror(s: usize, out: &mut [u32])
         ≡ tabulate (weight residues (length out.old - 1)) (length out.old) }
 {
     let n = out.len() - 1;
-    let mut j = 0;
-    while j < s {
+    for j in 0..s {
         out[j] = signed(n, out[n - j]);
-        j += 1;
     }
 }
 
@@ -172,21 +136,7 @@ pub fn fill_weights(out: &mut [u32])
     weigh(&tables::INVERSES, out);
 }
 
-// The same as `fill_two`, with the inverses lent.
-fn weigh_two(inverses: &[u32], first: &mut [u32], second: &mut [u32])
-    requires inverses { Inverses inverses.now × (length inverses.now ≤ 512) }
-    requires first_nonzero { (0 < length first.old) × (length first.old ≤ suc (length inverses.now)) }
-    requires second_nonzero { (0 < length second.old) × (length second.old ≤ suc (length inverses.now)) }
-    ensures first_after { first.new
-        ≡ tabulate (weight residues (length first.old - 1)) (length first.old) }
-    ensures second_after { second.new
-        ≡ tabulate (weight residues (length second.old - 1)) (length second.old) }
-{
-    weigh(inverses, first);
-    weigh(inverses, second);
-}
-
-// Both as `fill_weights` fills one, with the table named once.
+// Both as `fill_weights` fills one.
 pub fn fill_two(first: &mut [u32], second: &mut [u32])
     requires first_nonzero { (0 < length first.old) × (length first.old ≤ 513) }
     requires second_nonzero { (0 < length second.old) × (length second.old ≤ 513) }
@@ -195,5 +145,6 @@ pub fn fill_two(first: &mut [u32], second: &mut [u32])
     ensures second_after { second.new
         ≡ tabulate (weight residues (length second.old - 1)) (length second.old) }
 {
-    weigh_two(&tables::INVERSES, first, second);
+    fill_weights(first);
+    fill_weights(second);
 }

@@ -1,4 +1,5 @@
 pub mod Outcome
+pub mod Refusals
 pub mod Answers
 pub mod Records
 pub mod Runs

@@ -1,14 +1,14 @@
 -- The answer of a call that writes, and what it leaves, by the number of the refusal, 0 for none. A call that is done writes
 -- its bytes from the start of the buffer and its numbers behind the pointers; one that is refused leaves all as it was.
 -- Assumes nothing.
-use Rattle.std.specs.Prelude.{◌≡◌, cond, List, ℕ, eqb}
+use Rattle.std.specs.Prelude.{◌≡◌, cond, List, ℕ, Result, Ok, Err, eqb}
 use Rattle.words.specs.Bytes.{splice}
-use Rattle.records.specs.declared.Written.{Written}
-use Rattle.records.specs.declared.Written.TheVariants as answer
+use Rattle.records.specs.Outcome.{Outcome, ok, refused}
+use Rattle.records.specs.declared.Refusal.{Refusal}
 
 -- the number of bytes written, or the refusal
-unfoldable pub answered : ℕ → ℕ → Written
-answered refusal written = cond (eqb refusal 0) (answer.Done written) (answer.Refused refusal)
+unfoldable pub answered : ℕ → ℕ → Outcome ℕ
+answered refusal written = cond (eqb refusal 0) (ok written) (refused refusal)
 
 -- the new bytes, or where the call is refused those that were there
 unfoldable pub only_if : ℕ → List ℕ → List ℕ → List ℕ
@@ -24,11 +24,7 @@ pub record Writes (refusal : ℕ) (bytes : List ℕ) (n : ℕ) (out : List ℕ) 
   pub out_is : out' ≡ only_if refusal (splice out 0 bytes) out
   pub written_is : written' ≡ if_done refusal n written
 
--- the number that an answer comes to, and what it leaves behind `written`
-unfoldable pub number_of : Written → ℕ
-number_of (answer.Done n) = 0
-number_of (answer.Refused r) = r
-
-unfoldable pub length_of : Written → ℕ → ℕ
-length_of (answer.Done n) written = n
-length_of (answer.Refused r) written = written
+-- what an answer leaves behind `written`
+abbrev pub length_of : Result ℕ Refusal → ℕ → ℕ
+length_of (Ok n) written = n
+length_of (Err r) written = written

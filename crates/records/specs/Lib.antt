@@ -1,4 +1,5 @@
--- The reading of a run of records, with the first refusal; what a call that writes leaves. Read Outcome, Records, Answers.
+-- The reading of a run of records, with the first refusal; refusals by number; what a call that writes leaves. Read Outcome, Records, Refusals, Answers.
 pub mod Outcome
 pub mod Records
+pub mod Refusals
 pub mod Answers

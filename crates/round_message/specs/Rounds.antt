@@ -1,9 +1,16 @@
--- Joined round messages: what the functions over them ask for.
+-- A round by its kind byte, and joined round messages: what the functions over them ask for.
 -- Assumes nothing.
 use Rattle.std.specs.Prelude.{◌≡◌, Bool, List, ℕ, ◌+◌, ◌*◌, ◌≤◌, ◌<◌, length}
 use Rattle.algebra.specs.Lists.{every, count_from}
 use Rattle.rules.specs.Settings.{document01}
 use Rattle.rules.specs.Messages.{round_elements, round_length, element_in, place_in, place_sound}
+use Rattle.round_message.specs.declared.Round.{Round}
+use Rattle.round_message.specs.declared.Round.TheVariants as which
+
+-- the kind byte of a round's messages
+abbrev pub code_of : Round → ℕ
+code_of which.One = 34
+code_of which.Two = 35
 
 -- S is at most 8, and the server is one of them
 pub record Placed (servers own : ℕ) : Type 0 where

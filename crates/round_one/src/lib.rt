@@ -5,6 +5,7 @@
 
 ghost use Rattle.std.specs.Prelude.{◌≡◌, ◌<◌, length};
 ghost use Rattle.words.specs.Bytes.{splice};
+ghost use Rattle.records.specs.Refusals.{fault_of};
 ghost use Rattle.field.specs.Residues.{prime};
 ghost use Rattle.layout.specs.Numbers.{Limited};
 ghost use Rattle.waiting.specs.Changes.{lent};
@@ -12,17 +13,18 @@ ghost use Rattle.round_one.specs.One.{one_fault_at, summed_slot, message_at, One
 ghost use Rattle.round_one.specs.Calls.{RoundOne};
 
 use layout::Table;
-use round_message::{LENGTH_ONE, LENGTH_TWO};
-use rounds::named::{Named, find, numbers_at};
+use records::Refusal;
+use round_message::{LENGTH_ONE, LENGTH_TWO, Round};
+use rounds::named::{find, numbers_at};
 use rounds::own::sigma_of;
 use slots::{Change, Slot};
-use waiting::writing::{records, refused};
-use waiting::{AWAITS_ONE, AWAITS_TWO, Waiting};
+use waiting::writing::records;
+use waiting::{Stage, Waiting};
 
-// The refusal by the joined messages, their challenges and the room for the message that is written: 12, 16, 14, or 0 for none.
-fn one_refusal(joined: &[u8], k: Table, w: Waiting, room: usize) -> u32
+// Checks the joined messages, then their challenges, then the room for the message that is written.
+fn check_one(joined: &[u8], k: Table, w: Waiting, room: usize) -> Result<(), Refusal>
     requires { Limited k × (w.r < prime) × (w.s < prime) }
-    ensures { result ≡ one_fault_at k w joined.now room }
+    ensures { fault_of result ≡ one_fault_at k w joined.now room }
 {
     let mut mine = [0u8; LENGTH_ONE];
     round_message::write_one(
@@ -34,18 +36,12 @@ fn one_refusal(joined: &[u8], k: Table, w: Waiting, room: usize) -> u32
         w.r as u32,
         w.s as u32,
     );
-    let fault = round_message::round_refusal(joined, k.servers, 34, w.id, k.own, &mine);
-    if fault != 0 {
-        return fault;
-    }
-    let differ = round_message::challenge_refusal(joined, k.servers);
-    if differ != 0 {
-        return differ;
-    }
+    round_message::check_round(joined, k.servers, Round::One, w.id, k.own, &mine)?;
+    round_message::check_challenges(joined, k.servers)?;
     if room < LENGTH_TWO {
-        return 14;
+        return Err(Refusal::Room);
     }
-    0
+    Ok(())
 }
 
 // The record of a return with the sums of the joined messages; and the own message of round two is written.
@@ -54,17 +50,17 @@ fn take_one(joined: &[u8], k: Table, w: Waiting, ns: &[u32], out: &mut [u8]) -> 
     ensures { (result ≡ summed_slot k w joined.now)
         × (out.new ≡ splice out.old 0 (message_at k w ns.now joined.now)) }
 {
-    let d = round_message::element_sum(joined, k.servers, 34, 0);
-    let e = round_message::element_sum(joined, k.servers, 34, 1);
+    let d = round_message::element_sum(joined, k.servers, Round::One, 0);
+    let e = round_message::element_sum(joined, k.servers, Round::One, 1);
     let sigma = sigma_of(k, ns, w.rh, d, e);
     round_message::write_two(out, w.id, k.own as u8, sigma, w.tau);
     Slot {
         id: w.id,
-        stage: AWAITS_TWO,
+        stage: Stage::AwaitsTwo as u32,
         r: w.r,
         s: w.s,
-        d: d as u64,
-        e: e as u64,
+        d: u64::from(d),
+        e: u64::from(e),
     }
 }
 
@@ -76,22 +72,14 @@ pub fn round_one(
     id: u32,
     joined: &[u8],
     out: &mut [u8],
-    written: &mut usize,
-) -> Change
+) -> Result<Change, Refusal>
     ensures { RoundOne (lent table.now list numbers.now) id joined.now out.old
-        written.old result out.new written.new }
+        result out.new }
 {
-    match find(table, list, numbers, id, AWAITS_ONE) {
-        Named::Refused(fault) => refused(fault),
-        Named::At(k, at, w) => {
-            let refusal = one_refusal(joined, k, w, out.len());
-            if refusal != 0 {
-                return refused(refusal);
-            }
-            let ns = numbers_at(numbers, k, at);
-            let slot = take_one(joined, k, w, ns, out);
-            *written = LENGTH_TWO;
-            records(at, slot)
-        }
-    }
+    let named = find(table, list, numbers, id, Stage::AwaitsOne)?;
+    let k = named.table;
+    check_one(joined, k, named.waiting, out.len())?;
+    let ns = numbers_at(numbers, k, named.at);
+    let slot = take_one(joined, k, named.waiting, ns, out);
+    Ok(records(named.at, slot))
 }

@@ -7,7 +7,13 @@ use Prim.Native.Nat.{ℕ}
 use native.Mathlib.Omega.{arith}
 use borrow.Author.Tests.{ne_eqb}
 use lib.Dec.{lit≤, eqb}
-use Rattle.records.specs.Answers.{if_done}
+use Rattle.std.specs.Prelude.{Result, Ok, Err, Some}
+use Rattle.std.specs.Result.{IsErrAnd}
+use Rattle.std.proofs.lemmas.Result.{err_from_is_err_and}
+use Rattle.records.specs.Outcome.{refused}
+use Rattle.records.specs.Refusals.{number_of}
+use Rattle.records.specs.declared.Refusal.{Refusal}
+use Rattle.records.proofs.Refusals.{number_nonzero}
 use Rattle.slots.specs.declared.Slot.{Slot}
 use Rattle.slots.specs.declared.Change.{Change}
 use Rattle.slots.specs.Slots.{free_slot, applied}
@@ -25,32 +31,18 @@ use Rattle.layout.specs.Numbers.{table_of}
 use Rattle.layout.specs.declared.Table.{Table}
 use Rattle.waiting.specs.declared.Waiting.{Waiting}
 use Rattle.waiting.specs.Held.{held_at}
-use Rattle.waiting.specs.Changes.{refused_by, records_at, lent}
+use Rattle.waiting.specs.Changes.{records_at, lent}
 use Rattle.waiting.proofs.Changes.{refused_changes, done_changes}
 use Rattle.table.specs.Deciding.{Placed, Decided}
 use Rattle.table.proofs.Decided.{placed, decided_is}
 use Rattle.rounds.specs.Waits.{numbers_in, held_in}
 use Rattle.rounds.specs.Named.{waits_as, named_in}
-use Rattle.rounds.specs.declared.named.Named.TheVariants as answer
+use Rattle.rounds.specs.declared.named.Named.{Named}
 use Rattle.rounds.proofs.Holding.{sigma_is}
 use Rattle.rounds.proofs.Naming.{two_refusal_lem, not_found, Names}
 use Rattle.round_two.specs.Two.{two_fault_at, accepted_slot}
 use Rattle.round_two.specs.Calls.{RoundTwo}
-
--- ---- the verdict
-module _ (servers : ℕ) (joined : List ℕ) (x : ℕ) (e : x ≡ first_sum document01 35 servers joined) where
-  pub first_not : (x ≡ 0 → ⊥) → ◌≡◌ {A = ℕ} 0 (cond (both_zero document01 servers joined) 1 0)
-  unfolding both_zero
-  first_not n = rw (← e, ne_eqb x 0 n)
-
-  module _ (z : x ≡ 0) (y : ℕ) (g : y ≡ second_sum document01 35 servers joined) where
-    pub second_not : (y ≡ 0 → ⊥) → ◌≡◌ {A = ℕ} 0 (cond (both_zero document01 servers joined) 1 0)
-    unfolding both_zero
-    second_not n = rw (← e, ← g, z, ne_eqb y 0 n)
-
-    pub both_zero_lem : y ≡ 0 → ◌≡◌ {A = ℕ} 1 (cond (both_zero document01 servers joined) 1 0)
-    unfolding both_zero
-    both_zero_lem w = rw (← e, ← g, z, w)
+use Rattle.round_two.specs.declared.Decision.{Decision}
 
 module _ (T : Lent) (id : ℕ) (joined : List ℕ) where
   -- ---- the refusal: what rules checks of the return
@@ -79,90 +71,73 @@ module _ (T : Lent) (id : ℕ) (joined : List ℕ) where
   unfolding two_verdict table_of
   verdict_at = refl
 
-  module _ (k : Table) (j : ℕ) (w : Waiting) (n : Names T id 2 k j w) (a : ℕ)
-      (v : a ≡ cond (both_zero document01 k.servers joined) 1 0) where
-    verdict_is : a ≡ cond (two_verdict document01 T joined) 1 0
-    verdict_is = v ∙ rw (n.waits.sound.says, verdict_at)
-
-    is_rejected_lem : a ≡ 0 → two_verdict document01 T joined ≡ false
-    is_rejected_lem z = go (two_verdict document01 T joined) verdict_is
-      where
-        go : (b : Bool) → a ≡ cond b 1 0 → b ≡ false
-        go true e = absurd (omega arith)
-        go false e = refl
-
-    is_accepted_lem : (a ≡ 0 → ⊥) → two_verdict document01 T joined ≡ true
-    is_accepted_lem h = go (two_verdict document01 T joined) verdict_is
-      where
-        go : (b : Bool) → a ≡ cond b 1 0 → b ≡ true
-        go true e = refl
-        go false e = absurd (h e)
-
   accepted_at_lem : (j : ℕ) → j ≡ place_of id T.slots
-      → lent T.bytes (applied T.slots (records_at j (accepted_slot (held_in T j)))) T.elements ≡ accepted_table document01 T id
-  unfolding applied accepted_table waiting_at held_at
+      → lent T.bytes (applied T.slots (Some (records_at j (accepted_slot (held_in T j))))) T.elements ≡ accepted_table document01 T id
+  unfolding accepted_table waiting_at held_at
   accepted_at_lem j e = rw e
 
-  pub second_placed : (k : Table) (j : ℕ) (w : Waiting) → Names T id 2 k j w → Placed T.bytes k T.elements j 0
-  second_placed k j w n = placed T k n.waits.sound j n.waits.within n.waits.not_free T.bytes refl 0 (lit≤ tt)
+  -- ---- the call: a refusal e, which the answer a passes on
+  refused_as : (a : Result Decision Refusal) (e : Refusal) → IsErrAnd a (λ y. y ≡ e) → two_refused document01 T id joined ≡ number_of e
+      → RoundTwo T id joined a T.bytes T.elements
+  refused_as a e h q =
+      let p = err_from_is_err_and a h in
+      rw (p.1, p.2)
+      (record {
+        changes =
+            refused_changes (two_refused document01 T id joined) (two_table document01 T id joined) T (number_of e) q
+            (number_nonzero e);
+        accepted_is = tt;
+      })
 
-  -- ---- the call
-  module _ (accepted : ℕ) where
-    refused_by_lem : (f : ℕ) → two_refused document01 T id joined ≡ f → (f ≡ 0 → ⊥)
-        → RoundTwo T id joined accepted (refused_by f) T.bytes T.elements accepted
-    unfolding if_done
-    refused_by_lem f e n =
-        let r : eqb f 0 ≡ false = ne_eqb f 0 n in
-        record {
-          changes = refused_changes (two_refused document01 T id joined) (two_table document01 T id joined) T f e n;
-          accepted_is = rw (e, r);
-        }
+  pub second_unnamed : (a : Result Decision Refusal) (e : Refusal) → IsErrAnd a (λ y. y ≡ e) → refused (number_of e) ≡ named_in T id 2
+      → RoundTwo T id joined a T.bytes T.elements
+  second_unnamed a e h q =
+      let b = not_found T id 2 (number_of e) q in
+      refused_as a e h (refused_is ∙ rw (b.0, b.1))
 
-    pub second_unnamed : (m : ℕ) → named_in T id 2 ≡ answer.Refused m
-        → RoundTwo T id joined accepted (refused_by m) T.bytes T.elements accepted
-    second_unnamed m e =
-        let b = not_found T id 2 m e in
-        refused_by_lem m (refused_is ∙ rw (b.0, b.1)) (λ z. omega (arith, b.1))
+  module _ (v : Named) (n : Names T id 2 v.table v.at v.waiting) where
+    pub second_placed : Placed T.bytes v.table T.elements v.at 0
+    second_placed = placed T v.table n.waits.sound v.at n.waits.within n.waits.not_free T.bytes refl 0 (lit≤ tt)
 
-    module _ (k : Table) (j : ℕ) (w : Waiting) (n : Names T id 2 k j w) (ns : List ℕ) (m : ns ≡ numbers_in T j) (f : ℕ)
-        (e : f ≡ two_fault_at k w ns joined) where
-      fault_is : two_refused document01 T id joined ≡ f
-      fault_is =
+    module _ (ns : List ℕ) (m : ns ≡ numbers_in T v.at) where
+      fault_is : (f : ℕ) → f ≡ two_fault_at v.table v.waiting ns joined → two_refused document01 T id joined ≡ f
+      fault_is f e =
           let s = n.waits.sound.says in
-          refused_is ∙ rw n.stands (fault_at j n.place_is ∙ sym (rw (s, n.says, m) at e))
+          refused_is ∙ rw n.stands (fault_at v.at n.place_is ∙ sym (rw (s, n.says, m) at e))
 
-      pub second_refused : (f ≡ 0 → ⊥) → RoundTwo T id joined accepted (refused_by f) T.bytes T.elements accepted
-      second_refused = refused_by_lem f fault_is
+      pub second_refused : (a : Result Decision Refusal) (e : Refusal) → IsErrAnd a (λ y. y ≡ e)
+          → number_of e ≡ two_fault_at v.table v.waiting ns joined → RoundTwo T id joined a T.bytes T.elements
+      second_refused a e h q = refused_as a e h (fault_is (number_of e) q)
 
-      module _ (z : f ≡ 0) where
-        pub second_summable : Summable k.servers 35 joined
+      module _ (z : 0 ≡ two_fault_at v.table v.waiting ns joined) where
+        pub second_summable : Summable v.table.servers 35 joined
         unfolding two_fault_at
-        second_summable = rounds_summable k.servers 35 w.id k.own _ joined (sym e ∙ z)
+        second_summable = rounds_summable v.table.servers 35 v.waiting.id v.table.own _ joined (sym z)
 
-        module _ (a : ℕ) (v : a ≡ cond (both_zero document01 k.servers joined) 1 0) where
+        module _ (b : Bool) (q : b ≡ both_zero document01 v.table.servers joined) where
+          verdict_is : b ≡ two_verdict document01 T joined
+          verdict_is = q ∙ rw (n.waits.sound.says, verdict_at)
+
           -- the record y at its place, the bytes t and the numbers es are those of rules' table
-          done_by : (y : Slot) (t es : List ℕ) → lent t (applied T.slots (records_at j y)) es ≡ two_table document01 T id joined
-              → RoundTwo T id joined accepted (records_at j y) t es a
-          unfolding if_done
-          done_by y t es l =
-              let refusal = two_refused document01 T id joined in
-              let none : refusal ≡ 0 = fault_is ∙ z in
-              record {
-                changes =
-                    done_changes refusal (two_table document01 T id joined) T j y t es none
-                    (omega (arith, n.waits.within, n.waits.sound.eight)) l;
-                accepted_is = verdict_is k j w n a v ∙ rw none;
-              }
+          done_by : (y : Slot) (t es : List ℕ)
+              → lent t (applied T.slots (Some (records_at v.at y))) es ≡ two_table document01 T id joined
+              → RoundTwo T id joined (Ok (record { change = records_at v.at y; accepted = b })) t es
+          done_by y t es l = record {
+            changes =
+                done_changes (two_refused document01 T id joined) (two_table document01 T id joined) T v.at y t es
+                (fault_is 0 z) (omega (arith, n.waits.within, n.waits.sound.eight)) l;
+            accepted_is = verdict_is;
+          }
 
-          pub second_rejected : a ≡ 0 → (c : Change) (t es : List ℕ) → Decided k j 0 id T.bytes T.elements c t es
-              → RoundTwo T id joined accepted c t es a
+          pub second_rejected : b ≡ false → (c : Change) (t es : List ℕ) → Decided v.table v.at 0 id T.bytes T.elements c t es
+              → RoundTwo T id joined (Ok (record { change = c; accepted = b })) t es
           unfolding two_table
-          second_rejected q c t es d =
-              let l = decided_is T k n.waits.sound 0 id T.bytes j n.place_is c t es d in
-              rw d.frees (done_by free_slot t es (rw d.frees at l ∙ rw (is_rejected_lem k j w n a v q)))
+          second_rejected e c t es d =
+              let l = decided_is T v.table n.waits.sound 0 id T.bytes v.at n.place_is c t es d in
+              rw d.frees (done_by free_slot t es (rw d.frees at l ∙ rw (sym verdict_is ∙ e)))
 
-          pub second_accepted : (a ≡ 0 → ⊥) → (y : Slot) → y ≡ accepted_slot w
-              → RoundTwo T id joined accepted (records_at j y) T.bytes T.elements a
+          pub second_accepted : b ≡ true → (y : Slot) → y ≡ accepted_slot v.waiting
+              → RoundTwo T id joined (Ok (record { change = records_at v.at y; accepted = b })) T.bytes T.elements
           unfolding two_table
           second_accepted h y e =
-              done_by y T.bytes T.elements (rw (e, n.says, is_accepted_lem k j w n a v h) (accepted_at_lem j n.place_is))
+              done_by y T.bytes T.elements (rw (e, n.says, sym verdict_is ∙ h) (accepted_at_lem v.at n.place_is))

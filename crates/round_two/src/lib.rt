@@ -3,7 +3,8 @@
 // specs/. A refusal leaves the table as it was.
 #![tactic(auto)]
 
-ghost use Rattle.std.specs.Prelude.{◌≡◌, cond};
+ghost use Rattle.std.specs.Prelude.{◌≡◌};
+ghost use Rattle.records.specs.Refusals.{fault_of};
 ghost use Rattle.rules.specs.Settings.{document01};
 ghost use Rattle.rules.specs.Messages.{both_zero};
 ghost use Rattle.round_message.specs.Rounds.{Summable};
@@ -13,37 +14,40 @@ ghost use Rattle.round_two.specs.Two.{two_fault_at, accepted_slot};
 ghost use Rattle.round_two.specs.Calls.{RoundTwo};
 
 use layout::Table;
-use round_message::LENGTH_TWO;
-use rounds::named::{Named, find, numbers_at};
+use records::Refusal;
+use round_message::{LENGTH_TWO, Round};
+use rounds::named::{find, numbers_at};
 use rounds::own::sigma_of;
 use slots::{Change, Slot};
 use table::deciding::decide;
-use waiting::writing::{records, refused};
-use waiting::{AWAITS_ENTRY, AWAITS_TWO, Waiting};
+use waiting::writing::records;
+use waiting::{Stage, Waiting};
 
-// The refusal by the joined messages: 12, or 0 for none.
-fn two_refusal(joined: &[u8], k: Table, w: Waiting, ns: &[u32]) -> u32
+// What round two comes to: the record that changes, and the verdict.
+#[derive(Clone, Copy)]
+pub struct Decision {
+    pub change: Change,
+    pub accepted: bool,
+}
+
+// Checks the joined messages.
+fn check_two(joined: &[u8], k: Table, w: Waiting, ns: &[u32]) -> Result<(), Refusal>
     requires { Sharing k ns.now w.rh w.d w.e }
-    ensures { result ≡ two_fault_at k w ns.now joined.now }
+    ensures { fault_of result ≡ two_fault_at k w ns.now joined.now }
 {
     let sigma = sigma_of(k, ns, w.rh, w.d, w.e);
     let mut mine = [0u8; LENGTH_TWO];
     round_message::write_two(&mut mine, w.id, k.own as u8, sigma, w.tau);
-    round_message::round_refusal(joined, k.servers, 35, w.id, k.own, &mine)
+    round_message::check_round(joined, k.servers, Round::Two, w.id, k.own, &mine)
 }
 
-// The verdict on a return: 1 where both sums are 0, else 0.
-fn verdict(joined: &[u8], servers: u32) -> u32
+// The verdict on a return: whether both sums are 0.
+fn verdict(joined: &[u8], servers: u32) -> bool
     requires { Summable servers 35 joined.now }
-    ensures { result ≡ cond (both_zero document01 servers joined.now) 1 0 }
+    ensures { result ≡ both_zero document01 servers joined.now }
 {
-    if round_message::element_sum(joined, servers, 35, 0) != 0 {
-        return 0;
-    }
-    if round_message::element_sum(joined, servers, 35, 1) != 0 {
-        return 0;
-    }
-    1
+    round_message::element_sum(joined, servers, Round::Two, 0) == 0
+        && round_message::element_sum(joined, servers, Round::Two, 1) == 0
 }
 
 // The record of a return that is accepted: as it was, but in the stage that awaits its entry.
@@ -52,11 +56,11 @@ fn accepted_slot(w: Waiting) -> Slot
 {
     Slot {
         id: w.id,
-        stage: AWAITS_ENTRY,
+        stage: Stage::AwaitsEntry as u32,
         r: w.r,
         s: w.s,
-        d: w.d as u64,
-        e: w.e as u64,
+        d: u64::from(w.d),
+        e: u64::from(w.e),
     }
 }
 
@@ -67,24 +71,18 @@ pub fn round_two(
     numbers: &mut [u32],
     id: u32,
     joined: &[u8],
-    accepted: &mut u32,
-) -> Change
+) -> Result<Decision, Refusal>
     ensures { RoundTwo (lent table.old list numbers.old) id joined.now
-        accepted.old result table.new numbers.new accepted.new }
+        result table.new numbers.new }
 {
-    match find(table, list, numbers, id, AWAITS_TWO) {
-        Named::Refused(fault) => refused(fault),
-        Named::At(k, at, w) => {
-            let refusal = two_refusal(joined, k, w, numbers_at(numbers, k, at));
-            if refusal != 0 {
-                return refused(refusal);
-            }
-            let both = verdict(joined, k.servers);
-            *accepted = both;
-            if both == 0 {
-                return decide(table, k, numbers, at, 0, id);
-            }
-            records(at, accepted_slot(w))
-        }
-    }
+    let named = find(table, list, numbers, id, Stage::AwaitsTwo)?;
+    let k = named.table;
+    check_two(joined, k, named.waiting, numbers_at(numbers, k, named.at))?;
+    let accepted = verdict(joined, k.servers);
+    let change = if accepted {
+        records(named.at, accepted_slot(named.waiting))
+    } else {
+        decide(table, k, numbers, named.at, 0, id)
+    };
+    Ok(Decision { change, accepted })
 }

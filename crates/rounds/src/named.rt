@@ -1,23 +1,23 @@
 // The return that a call names: what the table says, the place of the record that waits under the id in the stage that the call
 // takes, and what that record says.
 ghost use Rattle.std.specs.Prelude.{◌≡◌};
+ghost use Rattle.records.specs.Refusals.{outcome_of};
 ghost use Rattle.waiting.specs.Changes.{lent};
+ghost use Rattle.waiting.specs.Stages.{stage_number};
 ghost use Rattle.rounds.specs.Waits.{InRun, place_in, share_in};
 ghost use Rattle.rounds.specs.Named.{named_in};
 
-use layout::{OPEN, Table};
+use layout::Table;
+use records::Refusal;
 use slots::Slot;
-use table::Found;
-use waiting::Waiting;
+use waiting::{Stage, Waiting};
 
-// The refusal of a call that the stage does not allow.
-const NOT_NOW: u32 = 11;
-
-// What is found, or the number of the refusal.
+// What is found.
 #[derive(Clone, Copy)]
-pub enum Named {
-    At(Table, usize, Waiting),
-    Refused(u32),
+pub struct Named {
+    pub table: Table,
+    pub at: usize,
+    pub waiting: Waiting,
 }
 
 // The numbers of a place.
@@ -41,27 +41,28 @@ pub fn share_at<'a>(numbers: &'a [u32], k: Table, at: usize) -> &'a [u32]
     &numbers[start..end]
 }
 
-// The return of an id, where it waits in a stage. An id that does not is refused 11 as an unsound table is, so the records are
+// The return of an id, where it waits in a stage. An id that does not is refused as an unsound table is, so the records are
 // looked at first: the list is then not needed again behind the reading, and is copied once less.
-pub fn find(table: &[u8], list: [Slot; 8], numbers: &[u32], id: u32, stage: u32) -> Named
-    ensures { result ≡ named_in (lent table.now list numbers.now) id stage }
+pub fn find(
+    table: &[u8],
+    list: [Slot; 8],
+    numbers: &[u32],
+    id: u32,
+    stage: Stage,
+) -> Result<Named, Refusal>
+    ensures { outcome_of result ≡ named_in (lent table.now list numbers.now) id (stage_number stage) }
 {
-    let at = waiting::place_of(list, id);
-    if 8 <= at {
-        return Named::Refused(NOT_NOW);
-    }
+    let Some(at) = waiting::place_of(list, id) else {
+        return Err(Refusal::Stage);
+    };
     let x = list[at];
-    if x.stage != stage {
-        return Named::Refused(NOT_NOW);
+    if x.stage != stage as u32 {
+        return Err(Refusal::Stage);
     }
-    match table::read(table, list, numbers) {
-        Found::Refused(fault) => Named::Refused(fault),
-        Found::Table(k) => {
-            if k.stage != OPEN {
-                return Named::Refused(NOT_NOW);
-            }
-            let w = waiting::held(x, numbers_at(numbers, k, at), k.share_size());
-            Named::At(k, at, w)
-        }
+    let table = table::read(table, list, numbers)?;
+    if table.closed {
+        return Err(Refusal::Stage);
     }
+    let waiting = waiting::held(x, numbers_at(numbers, table, at), table.share_size());
+    Ok(Named { table, at, waiting })
 }

@@ -1,6 +1,6 @@
 -- What writing a return is given: the size of a share, a whole list of elements, the seeds, and what each piece asks for.
 -- Assumes nothing.
-use mathlib.Core.Path.{◌≡◌, ◌∙◌}
+use mathlib.Core.Path.{◌≡◌}
 use mathlib.Core.List.{List}
 use Prim.Native.Nat.{ℕ, ◌+◌, ◌-◌, ◌*◌, ◌≤◌}
 use native.Mathlib.Omega.{arith}
@@ -11,15 +11,11 @@ use Rattle.rules.specs.Columns.{columns_of}
 use Rattle.rules.specs.Judging.{share_size}
 use Rattle.columns.specs.declared.Counts.{Counts}
 use Rattle.whole.specs.Pieces.{whole_of, Fillable}
-use Rattle.whole.proofs.Room.{room}
 use Rattle.whole.proofs.WholeList.{elements_made}
 use Rattle.seeded.specs.Pieces.{Seeds, MakeableSeeded}
 
 module _ {sheet : List ℕ} {k : Counts} {servers : ℕ} {values random seeds out : List ℕ}
     (m : MakeableSeeded sheet k servers values random seeds out) where
-  pub sized : (n : ℕ) → n ≡ k.entries + (k.gates + k.gates) + 6 → n ≡ share_size (columns_of sheet)
-  sized n e = e ∙ (room m.counted).size_is
-
   pub fillable : (w : List ℕ) → length w ≡ share_size (columns_of sheet) → Fillable sheet k values random w
   fillable w e = record {
     counted = m.counted;

@@ -1,22 +1,11 @@
-// The messages of the servers: server 0's with its elements, then those of the others with their seeds.
+// The messages of the other servers, each with its seed.
 ghost use Rattle.std.specs.Prelude.{◌≡◌, suc, ◌+◌, ◌*◌, ◌≤◌, length};
 ghost use Rattle.words.specs.Bytes.{splice};
-ghost use Rattle.rules.specs.Settings.{document01};
-ghost use Rattle.rules.specs.Making.{share_message};
 ghost use Rattle.rules.specs.Seeds.{seed_message, seed_at};
 ghost use Rattle.seeded.specs.Pieces.{Seeds, SeedPlace, seed_messages};
 
 use seeds::SEED_SIZE;
-use share_message::SEED_LENGTH;
-
-// Server 0's message with these elements, from the front of `out`.
-pub fn write_first(share: &[u32], id: u32, out: &mut [u8])
-    requires { 6 + 4 * length share.now ≤ length out.old }
-    ensures { out.new ≡ splice out.old 0 (share_message document01 id 0 share.now) }
-{
-    share_message::write_share_header(out, 0, id, 0);
-    elements::write(out, 6, share);
-}
+use share_message::{SEED_KIND, SEED_LENGTH, write_header};
 
 // The message of server j + 1, where the seed messages begin at `first`.
 fn write_seed(seeds: &[u8], id: u32, first: usize, j: usize, out: &mut [u8])
@@ -27,7 +16,7 @@ fn write_seed(seeds: &[u8], id: u32, first: usize, j: usize, out: &mut [u8])
     let at = first + SEED_LENGTH * j;
     let start = SEED_SIZE * j;
     let end = start + SEED_SIZE;
-    share_message::write_seed_header(out, at, id, (j + 1) as u8);
+    write_header(out, at, SEED_KIND, id, (j + 1) as u8);
     words::copy(out, at + 6, &seeds[start..end]);
 }
 
@@ -36,9 +25,7 @@ pub fn write_seeds(seeds: &[u8], others: usize, id: u32, first: usize, out: &mut
     requires { Seeds seeds.now others × (first ≤ 3102) × (first + 38 * others ≤ length out.old) }
     ensures { out.new ≡ splice out.old first (seed_messages seeds.now id others) }
 {
-    let mut j: usize = 0;
-    while j < others {
+    for j in 0..others {
         write_seed(seeds, id, first, j, out);
-        j += 1;
     }
 }

@@ -2,10 +2,10 @@
 -- puts the elements of one block behind those that are there. Assumes that what is put lies within the buffer.
 use mathlib.Core.Path.{◌≡◌, sym, ap, ap₂, ◌∙◌}
 use mathlib.Core.List.{List, ◌++◌, append_assoc}
-use Prim.Native.Nat.{ℕ, ◌+◌, ◌-◌, ◌*◌, ◌/◌, ◌%◌, ◌≤◌, ◌<◌}
-use native.Mathlib.Nat.{sub-le}
+use Prim.Native.Nat.{ℕ, ◌+◌, ◌-◌, ◌*◌, ◌/◌, ◌%◌, ◌≤◌, ◌<◌, min}
 use native.Mathlib.Omega.{arith}
 use borrow.Rule.Slice.PartMut.{mid_of, put_mid, mid_len, Post-is}
+use Rattle.std.specs.Int.{div_ceil}
 use lib.ListN.{length, get_or, set, take, drop}
 use lib.Seq.{take_at, drop-append-add, drop-drop}
 use Rattle.algebra.specs.Lists.{tabulate}
@@ -44,46 +44,27 @@ block_elements s d k m h e =
     let r : (16 * k + j) % 16 ≡ j = omega arith in
     rw (q, r, e))
 
--- all but w of the r that are left
-up_to : (n a r w z : ℕ) → a + r ≡ n → w ≤ r → z ≡ r - w → a + z ≡ n - w
-up_to n a r w z e h p = omega arith
-
--- what is left behind one block more
-left : (n k a : ℕ) → a ≡ 16 * k → n - a - 16 ≡ n - 16 * (k + 1)
-left n k a e = omega arith
-
--- a turn of the loop: k blocks are done, up to place a of n, and z elements more are put
-module _ (n k a z : ℕ) (done : a ≡ n - (n - 16 * k)) (more : a < n) (part : z ≡ n - a - (n - a - 16)) where
-  from : a ≡ 16 * k
-  from = omega arith
-
-  pub some : 0 < z
-  some = omega arith
-
-  most : z ≤ 16
-  most = omega arith
-
-  pub within : a + z ≤ n
-  within = omega arith
-
-  pub done_next : a + z ≡ n - (n - 16 * (k + 1))
-  done_next =
-      up_to n a (n - a) (n - a - 16) z rest (sub-le (n - a) 16) part ∙ ap (λ (t : ℕ). n - t) (left n k a from)
-    where
-      rest : a + (n - a) ≡ n
-      rest = omega arith
-
-  pub turn : (s t d l ys : List ℕ) → length d ≡ n → length l ≡ n → ((v : ℕ) → set t 12 v ≡ set s 12 v)
-      → l ≡ tabulate (streamed s) a ++ drop a d
-      → ys ≡ tabulate (λ j. element_of document01 (get_or (mixed (set t 12 k)) j 0)) (length (mid_of a (a + z - a) l))
-      → put_mid a (a + z - a) l ys ≡ tabulate (streamed s) (a + z) ++ drop (a + z) d
-  turn s t d l ys room same count was put =
-      let h : a + z ≤ n = within in
-      let e : a + z ≤ length l = omega arith in
-      let m : z ≤ 16 = most in
-      let o : a + z - a ≤ 16 = omega arith in
-      put_next (streamed s) d l ys a (a + z) (omega arith) was
+-- a turn of the loop: k blocks are done, and the elements of the next are put, up to place e
+module _ (n k e : ℕ) (more : 16 * k < n) (end : e ≡ min n (16 * k + 16)) where
+  pub turn : (s t d l ys : List ℕ) → length l ≡ n → ((v : ℕ) → set t 12 v ≡ set s 12 v)
+      → l ≡ tabulate (streamed s) (min n (16 * k)) ++ drop (min n (16 * k)) d
+      → ys ≡ tabulate (λ j. element_of document01 (get_or (mixed (set t 12 k)) j 0)) (length (mid_of (16 * k) (e - 16 * k) l))
+      → put_mid (16 * k) (e - 16 * k) l ys
+      ≡ tabulate (streamed s) (min n (16 * (k + 1))) ++ drop (min n (16 * (k + 1))) d
+  turn s t d l ys long count was put =
+      let a : min n (16 * k) ≡ 16 * k = omega arith in
+      let b : min n (16 * (k + 1)) ≡ e = omega arith in
+      let h : e ≤ length l = omega arith in
+      let o : e - 16 * k ≤ 16 = omega arith in
+      rw b
+      (put_next (streamed s) d l ys (16 * k) e (omega arith) (rw a at was)
       (put
-      ∙ ap (tabulate (λ j. element_of document01 (get_or (mixed (set t 12 k)) j 0))) (mid_len a (a + z) l e)
-      ∙ block_elements t s k (a + z - a) o (count k)
-      ∙ ap (λ (x : ℕ). tabulate (λ j. streamed s (x + j)) (a + z - a)) (sym from))
+      ∙ ap (tabulate (λ j. element_of document01 (get_or (mixed (set t 12 k)) j 0))) (mid_len (16 * k) e l h)
+      ∙ block_elements t s k (e - 16 * k) o (count k)))
+
+-- blocks are left while there are fewer than it takes
+pub blocks_left : (n k c : ℕ) → c ≡ div_ceil n 16 → k < c → 16 * k < n
+blocks_left n k c e h = omega (arith, e)
+
+pub blocks_done : (n k c : ℕ) → c ≡ div_ceil n 16 → c ≤ k → min n (16 * k) ≡ n
+blocks_done n k c e h = omega (arith, e)

@@ -13,7 +13,7 @@ ghost use Rattle.seeds.specs.Filling.{streamed};
 pub const SEED_SIZE: usize = 32;
 
 // 2 to the power 31.
-const TOP: u32 = 2147483648;
+const TOP: u32 = 1 << 31;
 
 // The element of a stream word. Below 2 to the power 31 only p itself is not its own remainder: one more makes it that power.
 fn element(w: u32) -> u32
@@ -29,10 +29,8 @@ fn reduce(x: &[u32], out: &mut [u32])
     ensures { out.new
         ≡ tabulate (λ j. element_of document01 (get_or x.now j 0)) (length out.old) }
 {
-    let mut j: usize = 0;
-    while j < out.len() {
-        out[j] = element(x[j]);
-        j += 1;
+    for (j, y) in out.iter_mut().enumerate() {
+        *y = element(x[j]);
     }
 }
 
@@ -47,27 +45,17 @@ fn fill_block(s: &[u32], out: &mut [u32])
     reduce(&x, out);
 }
 
-// The least of left and 16.
-fn block_part(left: usize) -> usize
-    ensures { result ≡ left - (left - 16) }
-{
-    if left < 16 { left } else { 16 }
-}
-
 // The elements of the stream that the state s gives, from the count 0 on. A count has 32 bits.
 fn fill(s: &mut [u32], out: &mut [u32])
     requires { (length s.old ≡ 16) × (length out.old ≤ 2 ^ 36) }
     ensures { out.new ≡ tabulate (streamed s.old) (length out.old) }
 {
     let n = out.len();
-    let mut count: usize = 0;
-    let mut at: usize = 0;
-    while at < n {
+    for count in 0..n.div_ceil(16) {
+        let at = 16 * count;
+        let end = n.min(at + 16);
         s[12] = count as u32;
-        let end = at + block_part(n - at);
         fill_block(s, &mut out[at..end]);
-        at = end;
-        count += 1;
     }
 }
 

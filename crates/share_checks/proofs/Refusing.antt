@@ -2,7 +2,7 @@
 -- decided and the returns that wait are as many as the counts say, an id is among them where it is decided or has a record
 -- (`taken_is`), and the rest is rules' order. Assumes nothing.
 use mathlib.Core.Path.{◌≡◌, refl, sym, ap, ◌∙◌}
-use mathlib.Core.Bool.{Bool, true, false, cond, ◌||◌}
+use mathlib.Core.Bool.{Bool, true, false, not, cond, ◌||◌}
 use mathlib.Core.List.{List, [], ◌∷◌, ◌++◌, map}
 use Prim.Native.Nat.{ℕ, ◌+◌, ◌*◌, ◌/◌, ◌≤◌}
 use native.Mathlib.Nat.{mul-div_right}
@@ -37,7 +37,7 @@ unfolding while_open
 open_first true ws f = refl
 open_first false ws f = refl
 
-two_first : (b : Bool) (x y z : ℕ) → cond b (or_else x (or_else y z)) 11 ≡ or_else (cond b (or_else x y) 11) z
+two_first : (b : Bool) (x y z : ℕ) → cond b (or_else x (or_else y z)) 11 ≡ or_else (cond (not b) 11 (or_else x y)) z
 unfolding or_else
 two_first true x y z = sym (or_assoc x y z)
 two_first false x y z = refl
@@ -101,22 +101,14 @@ module _ (t : List ℕ) (list : List Slot) (m : List ℕ) (r s room : ℕ) where
     pub refusal_in_order_lem : (k : Table) → Standing t k list → by_rules ≡ in_order k
     refusal_in_order_lem k h = rw h.says (refusal_at_lem (rw h.says at h))
 
-  -- the table and the message, then the rest
-  module _ (k : Table) (h : Standing t k list) (w x z y n : ℕ) (ew : w ≡ waiting_count list) (ex : x ≡ start_fault k w)
-      (ez : z ≡ size_of k.entries k.gates) (ey : y ≡ message_fault z k.own m) (en : n ≡ or_else x y) where
-    in_two_lem : (es : List ℕ) → by_rules es ≡ or_else n (last_fault t k list m r s room)
-    in_two_lem es = refusal_in_order_lem es k h ∙ rw (en, or_assoc, ex, ew, ey, ez)
+  -- in the numbers of the code: w returns wait, a share has z elements
+  module _ (k : Table) (h : Standing t k list) (w z : ℕ) (ew : w ≡ waiting_count list) (ez : z ≡ size_of k.entries k.gates) where
+    pub in_turn_lem : (es : List ℕ)
+        → or_else (start_fault k w) (or_else (message_fault z k.own m) (last_fault t k list m r s room)) ≡ by_rules es
+    in_turn_lem es = sym (refusal_in_order_lem es k h ∙ rw (ew, ez))
 
-    pub refused_first : (n ≡ 0 → ⊥) → (es : List ℕ) → n ≡ by_rules es
-    refused_first f es = rw (in_two_lem es) (sym (or_first n _ f))
-
-    module _ (none : n ≡ 0) where
-      pub refused_last : (q : ℕ) → q ≡ last_fault t k list m r s room → (es : List ℕ) → q ≡ by_rules es
-      refused_last q e es = rw (e, in_two_lem es, none, or_none)
-
-      pub fitting : Fitting t k list m
-      unfolding message_fault
-      fitting =
-          let b = or_zero x y (sym en ∙ none) in
-          let f = or_zero (header_fault_at z k.own m) _ (sym ey ∙ b.1) in
-          record { table = h; header = omega (arith, header_long z k.own m f.0) }
+    pub fitting : 0 ≡ message_fault z k.own m → Fitting t k list m
+    unfolding message_fault
+    fitting e =
+        let f = or_zero (header_fault_at z k.own m) _ (sym e) in
+        record { table = h; header = omega (arith, header_long z k.own m f.0) }

@@ -1,6 +1,6 @@
 -- The parts of the refusal of a share, in the numbers of code.
 -- Assumes nothing.
-use Rattle.std.specs.Prelude.{◌≡◌, Bool, not, cond, ◌||◌, List, ℕ, ◌+◌, ◌*◌, ◌≤◌, eqb, ltb, leb, length}
+use Rattle.std.specs.Prelude.{◌≡◌, Bool, not, cond, ◌||◌, List, ℕ, ◌+◌, ◌*◌, ◌≤◌, ltb, leb, length}
 use Rattle.words.specs.Bytes.{part, elements_of, all_below}
 use Rattle.records.specs.Outcome.{or_else}
 use Rattle.slots.specs.declared.Slot.{Slot}
@@ -19,7 +19,7 @@ use Rattle.table.specs.Reading.{length_of}
 -- "11, 13": the table is open and fewer than eight returns wait; with those that wait fewer than N are decided
 unfoldable pub start_fault : Table → ℕ → ℕ
 start_fault k waiting =
-    cond (eqb k.stage 0) (or_else (check (ltb waiting 8) 11) (check (ltb (k.decided + waiting) k.returns) 13)) 11
+    cond k.closed 11 (or_else (check (ltb waiting 8) 11) (check (ltb (k.decided + waiting) k.returns) 13))
 
 -- "7, 8": a share of `size` elements
 unfoldable pub message_fault : ℕ → ℕ → List ℕ → ℕ

@@ -5,39 +5,31 @@
 
 ghost use Rattle.std.specs.Prelude.{◌≡◌, ◌+◌, ◌≤◌, length};
 ghost use Rattle.words.specs.Bytes.{splice};
-ghost use Rattle.rules.specs.Seeds.{seed_kind};
+ghost use Rattle.records.specs.Refusals.{fault_of};
 ghost use Rattle.rules.specs.Messages.{id_in, brings_seed};
 ghost use Rattle.share_message.specs.Shares.{seed_sound, long_sound, kind_sound_at, header_fault_at, share_part, header_bytes};
 
-// The kind byte and the bytes of a share message with a seed.
+use records::Refusal;
+
+// The kind bytes of a share message with elements and of one with a seed, and the bytes of the latter.
+pub const SHARE_KIND: u8 = 33;
+
 pub const SEED_KIND: u8 = 38;
 
 pub const SEED_LENGTH: usize = 38;
-
-fn wide(x: u8) -> u32
-    ensures { result ≡ x }
-{
-    x as u32
-}
 
 // Whether a message brings a seed, by its kind byte.
 pub fn brings_seed(m: &[u8]) -> bool
     ensures { result ≡ brings_seed m.now }
 {
-    if m.len() == 0 {
-        return false;
-    }
-    m[0] == SEED_KIND
+    m.first() == Some(&SEED_KIND)
 }
 
 // Whether a message with a seed has its length and can be for server `own`: server 0 gets elements.
 fn seed_sound(m: &[u8], own: u32) -> bool
     ensures { result ≡ seed_sound own m.now }
 {
-    if m.len() != SEED_LENGTH {
-        return false;
-    }
-    own != 0
+    m.len() == SEED_LENGTH && own != 0
 }
 
 // Whether a message has the length and the kind byte of a share of `size` elements.
@@ -45,10 +37,7 @@ fn long_sound(m: &[u8], size: usize) -> bool
     requires { size ≤ 774 }
     ensures { result ≡ long_sound size m.now }
 {
-    if m.len() != 6 + 4 * size {
-        return false;
-    }
-    m[0] == 33
+    m.len() == 6 + 4 * size && m[0] == SHARE_KIND
 }
 
 // Whether a message has the kind byte and the length of a share for server `own`, with a seed or with `size` elements.
@@ -57,23 +46,22 @@ fn kind_sound(m: &[u8], size: usize, own: u32) -> bool
     ensures { result ≡ kind_sound_at size own m.now }
 {
     if brings_seed(m) {
-        return seed_sound(m, own);
+        seed_sound(m, own)
+    } else {
+        long_sound(m, size)
     }
-    long_sound(m, size)
 }
 
-// The refusal of a share of `size` elements by its kind byte, length and server: 7, or 0 for none.
-pub fn header_refusal(m: &[u8], size: usize, own: u32) -> u32
+// Checks the kind byte, the length and the server of a share of `size` elements.
+pub fn check_header(m: &[u8], size: usize, own: u32) -> Result<(), Refusal>
     requires { size ≤ 774 }
-    ensures { result ≡ header_fault_at size own m.now }
+    ensures { fault_of result ≡ header_fault_at size own m.now }
 {
-    if !kind_sound(m, size, own) {
-        return 7;
+    if kind_sound(m, size, own) && u32::from(m[5]) == own {
+        Ok(())
+    } else {
+        Err(Refusal::Share)
     }
-    if wide(m[5]) != own {
-        return 7;
-    }
-    0
 }
 
 // The element bytes or the seed of a share, as that part of the message; an empty part where the header is refused.
@@ -81,10 +69,10 @@ pub fn share_part<'a>(m: &'a [u8], size: usize, own: u32) -> &'a [u8]
     requires { size ≤ 774 }
     ensures { result.now ≡ share_part size own m.now }
 {
-    if header_refusal(m, size, own) != 0 {
-        return &m[..0];
+    match check_header(m, size, own) {
+        Ok(()) => &m[6..],
+        Err(_) => &m[..0],
     }
-    &m[6..]
 }
 
 // The id in a share or a round message.
@@ -103,20 +91,4 @@ pub fn write_header(out: &mut [u8], at: usize, kind: u8, id: u32, server: u8)
     out[at] = kind;
     words::write_u32(out, at + 1, id);
     out[at + 5] = server;
-}
-
-// Writes what stands before the elements of a share message.
-pub fn write_share_header(out: &mut [u8], at: usize, id: u32, server: u8)
-    requires { at + 6 ≤ length out.old }
-    ensures { out.new ≡ splice out.old at (header_bytes 33 id server) }
-{
-    write_header(out, at, 33, id, server);
-}
-
-// Writes what stands before the seed of a share message.
-pub fn write_seed_header(out: &mut [u8], at: usize, id: u32, server: u8)
-    requires { at + 6 ≤ length out.old }
-    ensures { out.new ≡ splice out.old at (header_bytes seed_kind id server) }
-{
-    write_header(out, at, SEED_KIND, id, server);
 }

@@ -9,8 +9,15 @@ use native.Mathlib.Omega.{arith}
 use borrow.Author.Tests.{ne_eqb, leb-true}
 use lib.Dec.{leb}
 use lib.ListN.{length}
+use Rattle.std.specs.Prelude.{Result, Ok, Err, Some}
+use Rattle.std.specs.Result.{IsErrAnd}
+use Rattle.std.proofs.lemmas.Result.{err_from_is_err_and}
 use Rattle.words.specs.Bytes.{all_below}
-use Rattle.records.specs.Answers.{only_if, if_done}
+use Rattle.records.specs.Outcome.{refused}
+use Rattle.records.specs.Refusals.{number_of}
+use Rattle.records.specs.Answers.{only_if}
+use Rattle.records.specs.declared.Refusal.{Refusal}
+use Rattle.records.proofs.Refusals.{number_nonzero}
 use Rattle.records.proofs.Outcome.{or_none, or_first, or_zero}
 use Rattle.slots.specs.Slots.{applied}
 use Rattle.slots.specs.declared.Change.{Change}
@@ -27,10 +34,9 @@ use Rattle.steps.proofs.Parts.{check_holds}
 use Rattle.limits.specs.Sheets.{size_of, pair_sound}
 use Rattle.limits.proofs.Sheets.{pair_below}
 use Rattle.layout.specs.declared.Table.{Table}
-use Rattle.waiting.specs.Changes.{lent, refused_by, records_at}
+use Rattle.waiting.specs.Changes.{lent, records_at}
 use Rattle.waiting.proofs.Changes.{refused_changes, done_changes}
 use Rattle.table.specs.Reading.{found_in, Sound}
-use Rattle.table.specs.declared.Found.TheVariants as found
 use Rattle.table.proofs.Answers.{unsound, not_refused}
 use Rattle.share_checks.specs.Checks.{start_fault, message_fault, is_taken, last_fault, Standing}
 use Rattle.share_checks.proofs.Faults.{start_few}
@@ -48,29 +54,30 @@ standing T k h = record {
   decided_few = h.decided_few;
 }
 
-module _ (T : Lent) (m : List ℕ) (r s : ℕ) (out : List ℕ) (written : ℕ) where
-  -- ---- a refusal
-  refused_as : (x : ℕ) → share_refused document01 T m r s (length out) ≡ x → (x ≡ 0 → ⊥) → (c : Change) → c ≡ refused_by x
-      → Shares T m r s out written c T.elements out written
-  unfolding only_if if_done
-  refused_as x e n c ec = record {
-    changes = rw ec (refused_changes (share_refused document01 T m r s (length out)) (share_table document01 T m r s) T x e n);
-    out_is = rw (e, ne_eqb x 0 n);
-    written_is = rw (e, ne_eqb x 0 n);
+module _ (T : Lent) (m : List ℕ) (r s : ℕ) (out : List ℕ) where
+  -- ---- a refusal e, which the answer a passes on
+  refused_by_lem : (e : Refusal) → share_refused document01 T m r s (length out) ≡ number_of e → Shares T m r s out (Err e) T.elements out
+  unfolding only_if
+  refused_by_lem e q = record {
+    changes =
+        refused_changes (share_refused document01 T m r s (length out)) (share_table document01 T m r s) T (number_of e) q
+        (number_nonzero e);
+    out_is = rw (q, ne_eqb (number_of e) 0 (number_nonzero e));
   }
 
-  pub share_unsound : (n : ℕ) → found_in T ≡ found.Refused n → (c : Change) → c ≡ refused_by n
-      → Shares T m r s out written c T.elements out written
+  refused_as : (a : Result Change Refusal) (e : Refusal) → IsErrAnd a (λ y. y ≡ e)
+      → share_refused document01 T m r s (length out) ≡ number_of e → Shares T m r s out a T.elements out
+  refused_as a e h q = let p = err_from_is_err_and a h in rw (p.1, p.2) (refused_by_lem e q)
+
+  pub share_unsound : (a : Result Change Refusal) (e : Refusal) → IsErrAnd a (λ y. y ≡ e) → refused (number_of e) ≡ found_in T
+      → Shares T m r s out a T.elements out
   unfolding share_refused
-  share_unsound n e = let u = unsound T n e in refused_as n (rw u.0 (or_first n _ u.1)) u.1
+  share_unsound a e h q = let u = unsound T (number_of e) (sym q) in refused_as a e h (rw u.0 (or_first (number_of e) _ u.1))
 
   module _ (k : Table) (h : Sound T k) (x : ℕ) (e : x ≡ share_refusal document01 (table_state document01 T) m r s (length out)) where
     refusal_is : share_refused document01 T m r s (length out) ≡ x
     unfolding share_refused
     refusal_is = rw (not_refused T k h, or_none, e)
-
-    pub share_refused_lem : (x ≡ 0 → ⊥) → (c : Change) → c ≡ refused_by x → Shares T m r s out written c T.elements out written
-    share_refused_lem n = refused_as x refusal_is n
 
     -- ---- no refusal
     module _ (none : x ≡ 0) where
@@ -133,13 +140,12 @@ module _ (T : Lent) (m : List ℕ) (r s : ℕ) (out : List ℕ) (written : ℕ) 
       -- the record and the numbers
       table_is : (es : List ℕ)
           → es ≡ put_numbers cs T.elements (free_place T.slots) (numbers_of (share_taken document01 T m r s))
-          → lent T.bytes (applied T.slots taken) es ≡ share_table document01 T m r s
-      unfolding applied share_table
+          → lent T.bytes (applied T.slots (Some taken)) es ≡ share_table document01 T m r s
+      unfolding share_table
       table_is es e = rw e
 
-      pub share_done : (c : Change) (es out' : List ℕ) → Takes T m r s out c es out'
-          → Shares T m r s out written c es out' (round_length document01 34)
-      unfolding only_if if_done
+      pub share_done : (c : Change) (es out' : List ℕ) → Takes T m r s out c es out' → Shares T m r s out (Ok c) es out'
+      unfolding only_if
       share_done c es out' t =
           let z : share_refused document01 T m r s (length out) ≡ 0 = refusal_is ∙ none in
           let l : free_place T.slots < length T.slots = omega (arith, free, h.eight) in
@@ -149,5 +155,9 @@ module _ (T : Lent) (m : List ℕ) (r s : ℕ) (out : List ℕ) (written : ℕ) 
                 (done_changes (share_refused document01 T m r s (length out)) (share_table document01 T m r s) T taken.at taken.slot
                 T.bytes es z l (table_is es t.numbers_is));
             out_is = rw z t.out_is;
-            written_is = rw z;
           }
+
+  -- what no check lets pass
+  pub share_refused_lem : (k : Table) → Sound T k → (a : Result Change Refusal) (e : Refusal) → IsErrAnd a (λ y. y ≡ e)
+      → number_of e ≡ share_refusal document01 (table_state document01 T) m r s (length out) → Shares T m r s out a T.elements out
+  share_refused_lem k h a e p q = refused_as a e p (refusal_is k h (number_of e) q)

@@ -68,7 +68,7 @@ module _ (T : Lent) (m : List ℕ) (r s : ℕ) where
   message_at_lem = refl
 
 -- what the code writes: es are the numbers once the elements are read, es' at the end
-module _ (T : Lent) (k : Table) (m x : List ℕ) (r s : ℕ) (h : Takable T k m x r s) {i z n : ℕ} (q : Place T k m x r s h i z n)
+module _ (T : Lent) (k : Table) (m x : List ℕ) (r s : ℕ) (h : Takable T k m x r s) {i z n : ℕ} (q : Place T k i z n)
     (id : ℕ) (ei : id ≡ id_in m) (es : List ℕ) (e : es ≡ splice T.elements (z * i) (share_at n m)) (j : Judged)
     (ej : j ≡ judged_of (columns_at document01 T) k.own (take (z * i + n - z * i) (drop (z * i) es)) r s) where
   brought_is : share_at (size_of k.entries k.gates) m ≡ brought T m r s

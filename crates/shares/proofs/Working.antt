@@ -2,11 +2,13 @@
 -- share it is what judging asks for (`the_share`). The place of a free record lies within the run of numbers (`within`), so the
 -- elements that were read into it are those of the message (`judgeable`). Assumes nothing.
 use mathlib.Core.Path.{◌≡◌, refl, ap, ◌∙◌}
+use mathlib.Core.Bool.{true}
 use mathlib.Core.List.{List}
 use Prim.Native.Nat.{ℕ, ◌+◌, ◌-◌, ◌*◌, ◌≤◌}
 use native.Mathlib.Nat.{mul-le-mul}
 use native.Mathlib.Omega.{arith}
 use lib.ListN.{length, take, drop}
+use Rattle.std.specs.Prelude.{Option, None, Some, is_some}
 use Rattle.words.specs.Bytes.{part, splice}
 use Rattle.words.proofs.Below.{all_of_below}
 use Rattle.words.proofs.Splice.{part_splice}
@@ -25,6 +27,7 @@ use Rattle.limits.specs.Sheets.{size_of}
 use Rattle.layout.specs.Places.{place_size_of}
 use Rattle.layout.specs.Numbers.{table_of}
 use Rattle.layout.specs.declared.Table.{Table}
+use Rattle.waiting.specs.Stages.{place_in}
 use Rattle.waiting.proofs.Places.{place_within}
 use Rattle.table.specs.Reading.{Headed}
 use Rattle.table.proofs.Answers.{headed_of}
@@ -71,17 +74,27 @@ module _ (t : List ℕ) (k : Table) (xs : List ℕ) (r s : ℕ) (h : Judgeable t
   worked_out = ap (λ (l : List ℕ). judged_of (columns_of l) k.own xs r s) (sheet_cut_lem t k h.table)
 
 -- ---- the place of a free record, in the numbers of code: record i, z numbers to a place, n of them the elements of the share
+pub record Place (T : Lent) (k : Table) (i z n : ℕ) : Type 0 where
+  pub record_is : i ≡ free_place T.slots
+  pub place_is : z ≡ place_size_of k.entries k.gates
+  pub size_is : n ≡ size_of k.entries k.gates
+
+-- as the code finds it: o is the record, where there is one
+pub place_found : (T : Lent) (k : Table) (o : Option ℕ) (i z n : ℕ) → o ≡ Some i → place_in o ≡ free_place T.slots
+    → z ≡ place_size_of k.entries k.gates → n ≡ size_of k.entries k.gates → Place T k i z n
+place_found T k o i z n e p q g = record { record_is = rw e at p; place_is = q; size_is = g }
+
 module _ (T : Lent) (k : Table) (m x : List ℕ) (r s : ℕ) (h : Takable T k m x r s) where
-  pub record Place (i z n : ℕ) : Type 0 where
-    pub record_is : i ≡ free_place T.slots
-    pub place_is : z ≡ place_size_of k.entries k.gates
-    pub size_is : n ≡ size_of k.entries k.gates
+  -- there is one
+  pub is_found : (o : Option ℕ) → place_in o ≡ free_place T.slots → is_some o ≡ true
+  is_found None e = absurd (omega (arith, h.free))
+  is_found (Some i) e = refl
 
   -- the elements that the message brings
   elements_long : length (share_at (size_of k.entries k.gates) m) ≡ size_of k.entries k.gates
   elements_long = share_long (size_of k.entries k.gates) m h.brought.long
 
-  module _ {i z n : ℕ} (q : Place i z n) where
+  module _ {i z n : ℕ} (q : Place T k i z n) where
     pub within : z * i + n + 2 ≤ length T.elements
     within =
         let l : z * i + z ≤ z * 8 = place_within z i (omega (arith, q.record_is, h.free)) in

@@ -15,13 +15,12 @@ ghost use Rattle.shares.specs.Taking.{Judgeable, Brought, Takable, Takes};
 
 use layout::Table;
 use layout::places::sheet_part;
-use round_message::LENGTH_ONE;
-use share_checks::share_refusal;
+use records::Refusal;
+use share_checks::check_share;
 use slots::{Change, Slot};
 use snip::judging::{Judged, Shape, judge};
-use table::{Found, read};
-use waiting::AWAITS_ONE;
-use waiting::writing::{read_share, records, refused, write_last};
+use waiting::Stage;
+use waiting::writing::{read_share, records, write_last};
 
 // What the server works out from the elements xs of a share with the pair r, s.
 fn judged(t: &[u8], k: Table, xs: &[u32], r: u32, s: u32) -> Judged
@@ -68,7 +67,7 @@ fn take(
     ensures { Takes (lent table.now list numbers.old) m.now r s out.old
         result numbers.new out.new }
 {
-    let at = waiting::free_place(list);
+    let at = waiting::free_place(list).unwrap();
     let size = k.share_size();
     let start = k.place_size() * at;
     let end = start + size;
@@ -79,11 +78,11 @@ fn take(
     round_message::write_one(out, id, k.own as u8, j.d, j.e, r as u32, s as u32);
     let slot = Slot {
         id,
-        stage: AWAITS_ONE,
+        stage: Stage::AwaitsOne as u32,
         r,
         s,
-        d: j.d as u64,
-        e: j.e as u64,
+        d: u64::from(j.d),
+        e: u64::from(j.e),
     };
     records(at, slot)
 }
@@ -97,21 +96,12 @@ pub fn share(
     r: u64,
     s: u64,
     out: &mut [u8],
-    written: &mut usize,
-) -> Change
+) -> Result<Change, Refusal>
     ensures { Shares (lent table.now list numbers.old) m.now r s out.old
-        written.old result numbers.new out.new written.new }
+        result numbers.new out.new }
 {
-    match read(table, list, numbers) {
-        Found::Refused(fault) => refused(fault),
-        Found::Table(k) => {
-            let x = share_message::share_part(m, k.share_size(), k.own);
-            let refusal = share_refusal(table, k, list, m, x, r, s, out.len());
-            if refusal != 0 {
-                return refused(refusal);
-            }
-            *written = LENGTH_ONE;
-            take(table, list, numbers, k, m, x, r, s, out)
-        }
-    }
+    let k = table::read(table, list, numbers)?;
+    let x = share_message::share_part(m, k.share_size(), k.own);
+    check_share(table, k, list, m, x, r, s, out.len())?;
+    Ok(take(table, list, numbers, k, m, x, r, s, out))
 }

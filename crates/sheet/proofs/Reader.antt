@@ -19,7 +19,6 @@ use Rattle.rules.specs.Circuit.{constants_of, gates_of, products_at, products_of
 use Rattle.columns.specs.declared.Counts.{Counts}
 use Rattle.columns.specs.Counting.{counts_of, Small}
 use Rattle.columns.proofs.Sums.{entries, published, gates, products, tests, total_append, largest_append}
-use Rattle.sheet.specs.declared.Reading.TheVariants as answer
 use Rattle.sheet.specs.Cursor.{bytes_in}
 use Rattle.sheet.specs.Reading.{reading, reading_of, plus, more, with_constants, Countable, limited}
 use Rattle.sheet.proofs.SheetBytes.{records_long}
@@ -78,7 +77,7 @@ tracks_next c done a t = go (leb c.entries 256) refl t
         inr (h, omega (arith, all))
     go false e (inr o) = inr (o.0, omega (arith, all))
 
-limited_over : (c : Counts) (n : ℕ) → 256 < c.entries → limited c n ≡ answer.Refused 2
+limited_over : (c : Counts) (n : ℕ) → 256 < c.entries → limited c n ≡ refused 2
 unfolding limited
 limited_over c n h = let low : 1 ≤ c.entries = omega arith in simp (le-leb 1 c.entries, lt-leb c.entries 256)
 
@@ -133,12 +132,12 @@ limits_reading : (cs : List Column) → reading (sheet_limits cs) ≡ limited (s
 unfolding reading sheet_limits limited
 limits_reading cs = rw (counts_whole cs) (go (within 1 256 (entries_in cs)))
   where
-    go : (b : Bool) → reading (cond b (ok cs) (refused 2)) ≡ cond b (answer.Counts (counts_of cs)) (answer.Refused 2)
+    go : (b : Bool) → reading (cond b (ok cs) (refused 2)) ≡ cond b (ok (counts_of cs)) (refused 2)
     go true = refl
     go false = refl
 
 module _ (s : List ℕ) where
-  pub answer_refused : (n : ℕ) → read column_format s ≡ refused n → reading_of s ≡ answer.Refused n
+  pub answer_refused : (n : ℕ) → read column_format s ≡ refused n → reading_of s ≡ refused n
   unfolding reading_of reading read_sheet limited_sheet
   answer_refused n e = rw e
 

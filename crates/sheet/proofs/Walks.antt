@@ -1,6 +1,6 @@
 -- Laws for a loop over the columns of a sheet that is read. Its invariant is `Walks s c`; it goes on while the cursor's index
 -- is below the number of columns, or its place below the number of bytes. Assumes that the sheet is read, where it is said.
-use mathlib.Core.Path.{◌≡◌, refl, ap, ◌∙◌}
+use mathlib.Core.Path.{◌≡◌, refl, sym, ap, ◌∙◌}
 use mathlib.Core.Logic.{⊎_elim}
 use mathlib.Core.Bool.{Bool, true, ◌&&◌}
 use mathlib.Core.List.{List}
@@ -19,13 +19,10 @@ use Rattle.columns.specs.Kinds.{from_code}
 use Rattle.columns.proofs.ColumnBytes.{from_to_code}
 use Rattle.sheet.specs.declared.cursor.Cursor.{Cursor}
 use Rattle.sheet.specs.declared.cursor.Step.{Step}
-use Rattle.sheet.specs.Cursor.{cursor_at, begin, Stands, step_at}
+use Rattle.sheet.specs.Cursor.{begin, Stands, Walks, step_at}
+use Rattle.sheet.specs.Walk.{Passes}
+use Rattle.sheet.specs.declared.cursor.Place.{Place}
 use Rattle.sheet.proofs.Cursors.{place, cursor_end}
-
--- the cursor stands before a column, or behind the last
-pub record Walks (s : List ℕ) (c : Cursor) : Type 0 where
-  pub here : c ≡ cursor_at s c.index
-  pub most : c.index ≤ length (columns_of s)
 
 pub walk_start : (s : List ℕ) (c : Cursor) → c ≡ begin → Walks s c
 walk_start s c e = rw e (record { here = refl; most = omega arith })
@@ -84,3 +81,10 @@ module _ {A : Type 0} (t : A → Bool) (d : A) (l : List A) (k : ℕ) where
   pub every_end : length l ≤ k → every t (drop k l) ≡ true
   unfolding every
   every_end h = rw (drop_of_length-le l {i = k} h)
+
+-- what a walk over the sheet s passes, where its own sheet is s
+pub passed : {s t : List ℕ} {c c' : Cursor} {p : Place} → t ≡ s → Passes t c p c' → Passes s c p c'
+passed e h = rw (sym e) h
+
+pub ended : {s t : List ℕ} {k : ℕ} → t ≡ s → k ≡ length (columns_of t) → k ≡ length (columns_of s)
+ended e h = rw (sym e) h

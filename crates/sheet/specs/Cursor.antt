@@ -1,6 +1,6 @@
 -- A cursor over the columns of a sheet: where column k stands in the sheet's bytes, and what the columns before it come to.
 -- Assumes nothing.
-use Rattle.std.specs.Prelude.{◌≡◌, List, [], ◌∷◌, ℕ, ◌+◌, ◌<◌, length, get_or, take}
+use Rattle.std.specs.Prelude.{◌≡◌, List, [], ◌∷◌, ℕ, ◌+◌, ◌<◌, ◌≤◌, length, get_or, take}
 use Rattle.records.specs.Outcome.{ok}
 use Rattle.rules.specs.Columns.{Column, yes_no, entries_in, published_in, read_sheet, columns_of}
 use Rattle.rules.specs.Circuit.{gates_in}
@@ -40,3 +40,8 @@ pub record Stands (s : List ℕ) (c : Cursor) : Type 0 where
 -- column k and the cursor behind it
 abbrev pub step_at : List ℕ → ℕ → Step
 step_at s k = record { column = to_code (get_or (columns_of s) k yes_no); next = cursor_at s (k + 1) }
+
+-- the cursor stands before a column, or behind the last
+pub record Walks (s : List ℕ) (c : Cursor) : Type 0 where
+  pub here : c ≡ cursor_at s c.index
+  pub most : c.index ≤ length (columns_of s)

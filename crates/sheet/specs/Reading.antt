@@ -5,14 +5,12 @@ use Rattle.records.specs.Outcome.{Outcome, ok, refused}
 use Rattle.rules.specs.Columns.{Column, within, read_sheet}
 use Rattle.columns.specs.declared.Counts.{Counts}
 use Rattle.columns.specs.Counting.{counts_of}
-use Rattle.sheet.specs.declared.Reading.{Reading}
-use Rattle.sheet.specs.declared.Reading.TheVariants as answer
 
-unfoldable pub reading : Outcome (List Column) → Reading
-reading (ok cs) = answer.Counts (counts_of cs)
-reading (refused n) = answer.Refused n
+unfoldable pub reading : Outcome (List Column) → Outcome Counts
+reading (ok cs) = ok (counts_of cs)
+reading (refused n) = refused n
 
-unfoldable pub reading_of : List ℕ → Reading
+unfoldable pub reading_of : List ℕ → Outcome Counts
 reading_of s = reading (read_sheet s)
 
 -- ---- the parts of the reader
@@ -55,5 +53,5 @@ pub record Countable (c : Counts) (bytes : ℕ) : Type 0 where
   pub bodies : c.entries ≤ 256 → c.columns + (c.tests - c.gates - c.products / 2) ≤ bytes
 
 -- the total limit, last
-unfoldable pub limited : Counts → ℕ → Reading
-limited c bytes = cond (within 1 256 c.entries) (answer.Counts (with_constants c bytes)) (answer.Refused 2)
+unfoldable pub limited : Counts → ℕ → Outcome Counts
+limited c bytes = cond (within 1 256 c.entries) (ok (with_constants c bytes)) (refused 2)

@@ -2,30 +2,19 @@
 // those of the crate rules and of specs/.
 #![tactic(auto)]
 
-ghost use Rattle.std.specs.Prelude.{◌≡◌, max};
+ghost use Rattle.std.specs.Prelude.{◌≡◌};
+ghost use Rattle.records.specs.Refusals.{outcome_of};
 ghost use Rattle.columns.specs.Counting.{Small};
 ghost use Rattle.sheet.specs.Reading.{more, Countable, limited, reading_of};
 
 pub mod cursor;
 pub mod returns;
 
-use columns::{Column, Counts, Judged, bytes_of, column_of, counts_of, none};
-
-// What a sheet comes to, or the number of its refusal.
-#[derive(Clone, Copy)]
-pub enum Reading {
-    Counts(Counts),
-    Refused(u32),
-}
-
-// The larger of two values.
-fn larger(a: u32, b: u32) -> u32
-    ensures { result ≡ max a b }
-{
-    if a < b { b } else { a }
-}
+use columns::{Column, Counts, Kind, bytes_of, column_of, counts_of, none};
+use records::Refusal;
 
 // One column more, but for its constants. Past the limit of entries nothing is counted any more.
+#[tactic(auto, unfolding(crate::specs::Reading::more))]
 fn with(c: Counts, d: Counts) -> Counts
     requires { Small 320 c × Small 64 d }
     ensures { (result ≡ more c d) × Small 320 result }
@@ -41,68 +30,49 @@ fn with(c: Counts, d: Counts) -> Counts
         gates: c.gates + d.gates,
         products: c.products + d.products,
         tests: c.tests + d.tests,
-        largest: larger(c.largest, d.largest),
+        largest: c.largest.max(d.largest),
     }
 }
 
 // The total limit, last; then the constants, which need no count of their own: behind its kind byte a column has a byte for each
 // of its sums, one for the two sums of a point, and two more for a constant.
-fn limit(c: Counts, bytes: usize) -> Reading
+#[tactic(auto, unfolding(crate::specs::Reading::limited))]
+fn limit(c: Counts, bytes: usize) -> Result<Counts, Refusal>
     requires { Countable c bytes }
-    ensures { result ≡ limited c bytes }
+    ensures { outcome_of result ≡ limited c bytes }
 {
-    if c.entries < 1 {
-        return Reading::Refused(2);
+    if !(1..=256).contains(&c.entries) {
+        return Err(Refusal::Limit);
     }
-    if 256 < c.entries {
-        return Reading::Refused(2);
-    }
-    Reading::Counts(Counts {
-        columns: c.columns,
-        entries: c.entries,
-        published: c.published,
+    Ok(Counts {
         constants: (bytes - c.columns - (c.tests - c.gates - c.products / 2)) / 2,
-        gates: c.gates,
-        products: c.products,
-        tests: c.tests,
-        largest: c.largest,
+        ..c
     })
 }
 
-// What a sheet comes to, or the number of its first fault. A yes/no has its own branch: else the place of each column waits
-// until the size of the one before is looked up.
-pub fn read(s: &[u8]) -> Reading
-    ensures { result ≡ reading_of s.now }
+// What a sheet comes to, or its first fault. The loop steps by whole records, of several bytes: so it goes by the place. A yes/no
+// has its own branch: else the place of each column waits until the size of the one before is looked up.
+pub fn read(s: &[u8]) -> Result<Counts, Refusal>
+    ensures { outcome_of result ≡ reading_of s.now }
 {
     let mut counts = none();
     let mut at: usize = 0;
-    let fault: u32 = 'columns: loop {
-        if at == s.len() {
-            break 'columns 0;
-        }
-        let kind = s[at];
-        if kind == 17 {
+    while at < s.len() {
+        if s[at] == Kind::YesNo as u8 {
             counts = with(counts, counts_of(Column::YesNo));
             at += 1;
-            continue 'columns;
+            continue;
         }
+        let kind = Kind::of(s[at]).ok_or(Refusal::Kind)?;
         let size = bytes_of(kind);
-        if size == 0 {
-            break 'columns 1;
-        }
         if s.len() - at < size {
-            break 'columns 1;
+            return Err(Refusal::Kind);
         }
         let start = at + 1;
         let end = at + size;
-        match column_of(kind, &s[start..end]) {
-            Judged::Taken(column) => counts = with(counts, counts_of(column)),
-            Judged::Refused(n) => break 'columns n,
-        }
+        let column = column_of(kind, &s[start..end])?;
+        counts = with(counts, counts_of(column));
         at = end;
-    };
-    if fault != 0 {
-        return Reading::Refused(fault);
     }
     limit(counts, s.len())
 }

@@ -1,5 +1,5 @@
--- The turns of the three loops: the next byte of a message, the next message, the next tile. A byte that is written has a
--- place of its own, so what was there stays. Assumes nothing.
+-- The turns of the loops: the next byte of a message, the next tile. A byte that is written has a place of its own, so what
+-- was there stays. Assumes nothing.
 use mathlib.Core.Path.{◌≡◌, refl, sym, ◌∙◌}
 use mathlib.Core.Bool.{Bool, true, false}
 use mathlib.Core.List.{List}
@@ -17,23 +17,7 @@ pub movable_on : (g : Grid) (run out out' : List ℕ) → length out' ≡ length
 movable_on g run out out' e m =
     record { reads = m.reads; writes = m.writes; apart = m.apart; room = omega (arith, m.room, e) }
 
--- a byte that is moved is read within the run and written within the buffer
-pub within : {g : Grid} {run out : List ℕ} (out' : List ℕ) → Movable g run out → length out' ≡ length out
-    → (i j : ℕ) {to : ℕ} → i < g.messages → j < to → to ≤ g.width
-    → (at g.read i j < length run) × (at g.write i j < length out')
-within out' m e i j hi hj ht =
-    (m.reads i j hi (omega arith), let w = m.writes i j hi (omega arith) in omega (arith, w, m.room, e))
-
 module _ (g : Grid) (run : List ℕ) where
-  -- no byte yet
-  pub no_byte : (first last from : ℕ) (out : List ℕ) → Moved g first last from from run out out
-  no_byte first last from out =
-      record { long = refl; past = λ k h. refl; stay = λ i j h k t. t; moved = λ i j a b c d. absurd (omega arith) }
-
-  pub no_message : (first from to : ℕ) (out : List ℕ) → Moved g first first from to run out out
-  no_message first from to out =
-      record { long = refl; past = λ k h. refl; stay = λ i j h k t. t; moved = λ i j a b c d. absurd (omega arith) }
-
   -- ---- one byte, and then another
   module _ (out : List ℕ) (m : Movable g run out) (i j : ℕ) (hi : i < g.messages) (hj : j < g.width) where
     abbrev put : List ℕ
@@ -77,32 +61,16 @@ module _ (g : Grid) (run : List ℕ) where
             let h : l < j = leb-false j l e in
             put_stays k l (omega arith) (omega arith) (v.moved k l a b c h)
 
-  -- ---- one run of bytes, and then another
+  -- ---- the bytes before `from`, and then those up to `to`
   module _ (out₀ out out' : List ℕ) where
-    joined : {a b c d a' b' c' d' : ℕ} → Moved g a b c d run out₀ out → Moved g a' b' c' d' run out out'
-        → (first last from to : ℕ)
-        → ((i j : ℕ) → first ≤ i → i < last → from ≤ j → j < to → There g run out' i j)
-        → Moved g first last from to run out₀ out'
-    joined v u first last from to t = record {
-      long = u.long ∙ v.long;
-      past = λ k h. u.past k h ∙ v.past k h;
-      stay = λ k l hk hl x. u.stay k l hk hl (v.stay k l hk hl x);
-      moved = t;
-    }
-
-    pub next_message : (i from to : ℕ) → i < g.messages → to ≤ g.width
-        → Moved g 0 i from to run out₀ out → Moved g i (suc i) from to run out out' → Moved g 0 (i + 1) from to run out₀ out'
-    next_message i from to hi ht v u = joined v u 0 (i + 1) from to (λ k l a b c d. there k l b c d (leb i k) refl)
-      where
-        there : (k l : ℕ) → k < i + 1 → from ≤ l → l < to → (b : Bool) → leb i k ≡ b → There g run out' k l
-        there k l b c d true e = u.moved k l (leb-true i k e) (omega arith) c d
-        there k l b c d false e =
-            let h : k < i = leb-false i k e in
-            u.stay k l (omega arith) (omega arith) (v.moved k l (omega arith) h c d)
-
     pub next_tile : (last from to : ℕ) → last ≤ g.messages → from ≤ g.width
         → Moved g 0 last 0 from run out₀ out → Moved g 0 last from to run out out' → Moved g 0 last 0 to run out₀ out'
-    next_tile last from to hl hf v u = joined v u 0 last 0 to (λ k l a b c d. there k l b d (leb from l) refl)
+    next_tile last from to hl hf v u = record {
+      long = u.long ∙ v.long;
+      past = λ k h. u.past k h ∙ v.past k h;
+      stay = λ k l a b x. u.stay k l a b (v.stay k l a b x);
+      moved = λ k l a b c d. there k l b d (leb from l) refl;
+    }
       where
         there : (k l : ℕ) → k < last → l < to → (b : Bool) → leb from l ≡ b → There g run out' k l
         there k l b d true e = u.moved k l (omega arith) b (leb-true from l e) d

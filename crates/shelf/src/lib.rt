@@ -3,13 +3,14 @@
 // at document 01's setting; a refusal leaves the buffer as it was.
 #![tactic(auto)]
 
-ghost use Rattle.std.specs.Prelude.{◌≡◌, suc, ◌≤◌, ◌<◌};
+ghost use Rattle.std.specs.Prelude.{◌≡◌, suc, ◌^◌, ◌≤◌, ◌<◌};
+ghost use Rattle.records.specs.Refusals.{fault_of};
 ghost use Rattle.rules.specs.Settings.{document01};
 ghost use Rattle.rules.specs.Shelf.{shelved, unshelved, shelf_refusal};
 ghost use Rattle.shelf.specs.Calls.{Stores};
-ghost use Rattle.shelf.specs.Grid.{by_message, by_place, Movable, Moved};
+ghost use Rattle.shelf.specs.Grid.{at, by_message, by_place, Movable, Moved};
 
-use records::Written;
+use records::Refusal;
 
 // R, and W: the bytes of 1,024 elements.
 const MAX_MESSAGES: u32 = 64;
@@ -35,137 +36,117 @@ struct Grid {
     write: Steps,
 }
 
-// One message after another.
-fn by_message(width: usize) -> Steps
-    ensures { result ≡ by_message width }
-{
-    Steps {
-        message: width,
-        byte: 1,
+impl Steps {
+    // One message after another.
+    fn by_message(width: usize) -> Steps
+        ensures { result ≡ by_message width }
+    {
+        Steps {
+            message: width,
+            byte: 1,
+        }
+    }
+
+    // The first byte of each message, then the second of each.
+    fn by_place(messages: usize) -> Steps
+        ensures { result ≡ by_place messages }
+    {
+        Steps {
+            message: 1,
+            byte: messages,
+        }
+    }
+
+    // Where byte j of message i stands.
+    fn at(self, i: usize, j: usize) -> usize
+        requires { at self i j < 2 ^ 64 }
+        ensures { result ≡ at self i j }
+    {
+        self.message * i + self.byte * j
     }
 }
 
-// The first byte of each message, then the second of each.
-fn by_place(messages: usize) -> Steps
-    ensures { result ≡ by_place messages }
-{
-    Steps {
-        message: 1,
-        byte: messages,
+impl Grid {
+    // Moves the bytes from..to of message i.
+    fn move_some(self, i: usize, from: usize, to: usize, run: &[u8], out: &mut [u8])
+        requires { Movable self run.now out.old × (i < self.messages) × (from ≤ to) × (to ≤ self.width) }
+        ensures { Moved self i (suc i) from to run.now out.old out.new }
+    {
+        for j in from..to {
+            out[self.write.at(i, j)] = run[self.read.at(i, j)];
+        }
+    }
+
+    // Moves the bytes from..to of each message.
+    fn move_tile(self, from: usize, to: usize, run: &[u8], out: &mut [u8])
+        requires { Movable self run.now out.old × (from ≤ to) × (to ≤ self.width) }
+        ensures { Moved self 0 self.messages from to run.now out.old out.new }
+    {
+        for i in 0..self.messages {
+            self.move_some(i, from, to, run, out);
+        }
+    }
+
+    // Moves all bytes.
+    fn move_all(self, run: &[u8], out: &mut [u8])
+        requires { Movable self run.now out.old }
+        ensures { Moved self 0 self.messages 0 self.width run.now out.old out.new }
+    {
+        for from in (0..self.width).step_by(TILE) {
+            let to = from + TILE.min(self.width - from);
+            self.move_tile(from, to, run, out);
+        }
     }
 }
 
-// Moves the bytes from..to of message i.
-fn move_some(g: Grid, i: usize, from: usize, to: usize, run: &[u8], out: &mut [u8])
-    requires { Movable g run.now out.old × (i < g.messages) × (from ≤ to) × (to ≤ g.width) }
-    ensures { Moved g i (suc i) from to run.now out.old out.new }
+// Whether R and W are in range, the run is R times W bytes, and the buffer has room for them.
+#[tactic(auto, unfolding(rules::specs::Shelf::shelf_refusal, records::specs::Outcome::or_else))]
+fn check_shelf(r: u32, w: u32, bytes: usize, room: usize) -> Result<(), Refusal>
+    ensures { fault_of result ≡ shelf_refusal document01 r w bytes room }
 {
-    let mut j: usize = from;
-    while j < to {
-        out[g.write.message * i + g.write.byte * j] = run[g.read.message * i + g.read.byte * j];
-        j += 1;
-    }
-}
-
-// Moves the bytes from..to of each message.
-fn move_tile(g: Grid, from: usize, to: usize, run: &[u8], out: &mut [u8])
-    requires { Movable g run.now out.old × (from ≤ to) × (to ≤ g.width) }
-    ensures { Moved g 0 g.messages from to run.now out.old out.new }
-{
-    let mut i: usize = 0;
-    while i < g.messages {
-        move_some(g, i, from, to, run, out);
-        i += 1;
-    }
-}
-
-// The end of the tile that begins at `from`.
-fn tile_end(from: usize, width: usize) -> usize
-    requires { from < width }
-    ensures { (from < result) × (result ≤ width) }
-{
-    if width - from < TILE {
-        width
-    } else {
-        from + TILE
-    }
-}
-
-// Moves all bytes.
-fn move_all(g: Grid, run: &[u8], out: &mut [u8])
-    requires { Movable g run.now out.old }
-    ensures { Moved g 0 g.messages 0 g.width run.now out.old out.new }
-{
-    let mut from: usize = 0;
-    while from < g.width {
-        let to = tile_end(from, g.width);
-        move_tile(g, from, to, run, out);
-        from = to;
-    }
-}
-
-// 2 where R or W is out of range, 19 where the run is not R times W bytes, 14 where the buffer is too short; else 0.
-fn shelf_refusal(r: u32, w: u32, bytes: usize, room: usize) -> u32
-    ensures { result ≡ shelf_refusal document01 r w bytes room }
-{
-    if r < 1 {
-        return 2;
-    }
-    if MAX_MESSAGES < r {
-        return 2;
-    }
-    if w < 1 {
-        return 2;
-    }
-    if MAX_WIDTH < w {
-        return 2;
+    if !(1..=MAX_MESSAGES).contains(&r) || !(1..=MAX_WIDTH).contains(&w) {
+        return Err(Refusal::Limit);
     }
     let size = (r * w) as usize;
     if bytes != size {
-        return 19;
+        return Err(Refusal::Run);
     }
     if room < size {
-        return 14;
+        return Err(Refusal::Room);
     }
-    0
+    Ok(())
 }
 
 // Stores R messages of W bytes by place, from the front of `out`.
-pub fn shelve(r: u32, w: u32, run: &[u8], out: &mut [u8]) -> Written
+pub fn shelve(r: u32, w: u32, run: &[u8], out: &mut [u8]) -> Result<usize, Refusal>
     ensures { Stores (shelved r w run.now) r w run.now out.old result out.new }
 {
-    let refusal = shelf_refusal(r, w, run.len(), out.len());
-    if refusal != 0 {
-        return Written::Refused(refusal);
-    }
+    check_shelf(r, w, run.len(), out.len())?;
     let messages = r as usize;
     let width = w as usize;
     let g = Grid {
-        messages: messages,
-        width: width,
-        read: by_message(width),
-        write: by_place(messages),
+        messages,
+        width,
+        read: Steps::by_message(width),
+        write: Steps::by_place(messages),
     };
-    move_all(g, run, out);
-    Written::Done(run.len())
+    g.move_all(run, out);
+    Ok(run.len())
 }
 
 // Brings R messages of W bytes back that were stored by place, to the front of `out`.
-pub fn unshelve(r: u32, w: u32, shelf: &[u8], out: &mut [u8]) -> Written
+pub fn unshelve(r: u32, w: u32, shelf: &[u8], out: &mut [u8]) -> Result<usize, Refusal>
     ensures { Stores (unshelved r w shelf.now) r w shelf.now out.old result out.new }
 {
-    let refusal = shelf_refusal(r, w, shelf.len(), out.len());
-    if refusal != 0 {
-        return Written::Refused(refusal);
-    }
+    check_shelf(r, w, shelf.len(), out.len())?;
     let messages = r as usize;
     let width = w as usize;
     let g = Grid {
-        messages: messages,
-        width: width,
-        read: by_place(messages),
-        write: by_message(width),
+        messages,
+        width,
+        read: Steps::by_place(messages),
+        write: Steps::by_message(width),
     };
-    move_all(g, shelf, out);
-    Written::Done(shelf.len())
+    g.move_all(shelf, out);
+    Ok(shelf.len())
 }

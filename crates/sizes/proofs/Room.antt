@@ -9,6 +9,7 @@ use native.Mathlib.Omega.{arith}
 use borrow.Author.Tests.{ne_eqb}
 use lib.ListN.{length, get_or}
 use Rattle.algebra.specs.Lists.{All, all[], all∷}
+use Rattle.records.specs.Outcome.{ok, refused}
 use Rattle.rules.specs.Settings.{document01}
 use Rattle.rules.specs.Circuit.{adds_in, scales_in, gates_in, products_in, tests_in}
 use Rattle.rules.specs.CircuitReader.{body_lengths}
@@ -27,10 +28,8 @@ use Rattle.columns.specs.declared.Counts.{Counts}
 use Rattle.columns.specs.Counting.{Small, counts_of}
 use Rattle.columns.proofs.Sums.{adds_are, scales_are}
 use Rattle.columns.proofs.Taken.{columns_small}
-use Rattle.sheet.specs.declared.Reading.TheVariants as sheet
 use Rattle.sheet.specs.Reading.{reading_of}
 use Rattle.sheet.proofs.Answers.{reading_refused, reading_counts}
-use Rattle.sizes.specs.declared.Told.TheVariants as answer
 use Rattle.sizes.specs.Room.{adds_made, scales_made, steps_size, wires_made, greatest_of, sizes_from, in_code, told_of}
 
 -- the body length of a kind, from 0
@@ -103,7 +102,7 @@ some_value (c ∷ cs) (all∷ h hs) l = omega (arith, column_value c h)
 
 -- ---- the answer
 module _ (s : List ℕ) where
-  pub read_small : (k : Counts) → reading_of s ≡ sheet.Counts k → Small 256 k × (0 < k.largest)
+  pub read_small : (k : Counts) → reading_of s ≡ ok k → Small 256 k × (0 < k.largest)
   read_small k e =
       let r = reading_counts s k e in
       let l = limits s (columns_of s) r.0 in
@@ -112,11 +111,11 @@ module _ (s : List ℕ) where
         some_value (columns_of s) l.in_limits l.some_entries,
       )
 
-  pub sheet_refused : (n : ℕ) → reading_of s ≡ sheet.Refused n → answer.Refused n ≡ told_of s
+  pub sheet_refused : (n : ℕ) → reading_of s ≡ refused n → refused n ≡ told_of s
   unfolding told_of
   sheet_refused n e = let r = reading_refused s n e in rw (r.0, ne_eqb n 0 r.1) refl
 
-  pub sheet_told : (k : Counts) → reading_of s ≡ sheet.Counts k → answer.Sizes (sizes_from k) ≡ told_of s
+  pub sheet_told : (k : Counts) → reading_of s ≡ ok k → ok (sizes_from k) ≡ told_of s
   unfolding told_of sizes_from in_code sizes_of wires_made steps_size circuit_size share_length share_size greatest_of
   sheet_told k e =
       let r = reading_counts s k e in

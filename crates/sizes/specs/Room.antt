@@ -1,6 +1,7 @@
 -- What a sheet comes to, in the numbers of code: by the counts of its reading, and as rules tell it (`told_of`).
 -- Assumes nothing.
 use Rattle.std.specs.Prelude.{cond, List, [], ◌∷◌, ℕ, suc, ◌+◌, ◌-◌, ◌*◌, ◌/◌, min, eqb}
+use Rattle.records.specs.Outcome.{Outcome, ok, refused}
 use Rattle.rules.specs.Settings.{document01}
 use Rattle.rules.specs.Columns.{sheet_fault, most_returns}
 use Rattle.rules.specs.CircuitReader.{body_lengths}
@@ -8,8 +9,6 @@ use Rattle.rules.specs.Sizes as rules
 use Rattle.columns.specs.declared.Counts.{Counts}
 use Rattle.limits.specs.Sheets.{size_of}
 use Rattle.sizes.specs.declared.Sizes.{Sizes}
-use Rattle.sizes.specs.declared.Told.{Told}
-use Rattle.sizes.specs.declared.Told.TheVariants as answer
 
 -- the additions and the products with a constant among the steps of columns with these counts
 unfoldable pub adds_made : Counts → ℕ
@@ -61,6 +60,5 @@ in_code z = record {
 }
 
 -- what a sheet comes to, or its refusal
-unfoldable pub told_of : List ℕ → Told
-told_of sheet =
-    cond (eqb (sheet_fault sheet) 0) (answer.Sizes (in_code (rules.sizes_of document01 sheet))) (answer.Refused (sheet_fault sheet))
+unfoldable pub told_of : List ℕ → Outcome Sizes
+told_of sheet = cond (eqb (sheet_fault sheet) 0) (ok (in_code (rules.sizes_of document01 sheet))) (refused (sheet_fault sheet))

@@ -2,19 +2,20 @@
 // cite are those of the crate rules, at document 01's setting, and of specs/.
 #![tactic(auto)]
 
-ghost use Rattle.std.specs.Prelude.{◌≡◌, suc, ◌*◌, ◌≤◌, ◌<◌, get_or};
+ghost use Rattle.std.specs.Prelude.{◌≡◌, suc, ◌-◌, ◌*◌, ◌≤◌, ◌<◌, get_or};
+ghost use Rattle.records.specs.Refusals.{outcome_of};
 ghost use Rattle.rules.specs.Settings.{document01};
 ghost use Rattle.rules.specs.CircuitReader.{body_lengths};
 ghost use Rattle.columns.specs.Counting.{Small};
-ghost use Rattle.circuit.specs.Reading.{BodyTable};
+ghost use Rattle.circuit.specs.Reading.{code_of, BodyTable};
 ghost use Rattle.sizes.specs.Room.{adds_made, scales_made, steps_size, wires_made, greatest_of, sizes_from, told_of};
 
-use circuit::BODY_LENGTHS;
+use circuit::{BODY_LENGTHS, StepKind};
 use columns::Counts;
-use sheet::Reading;
+use records::Refusal;
 
 // What a sheet comes to.
-#[derive(Clone, Copy)]
+#[derive(Clone, Copy, Debug, PartialEq, Eq)]
 pub struct Sizes {
     pub columns: u32,
     pub entries: u32,
@@ -29,19 +30,12 @@ pub struct Sizes {
     pub greatest: u32,
 }
 
-// What a sheet comes to, or the number of its refusal.
-#[derive(Clone, Copy)]
-pub enum Told {
-    Sizes(Sizes),
-    Refused(u32),
-}
-
-// The bytes of n steps of one kind, the kinds counted from 0: each has one more than its kind's body length.
-fn kind_size(lengths: &[usize; 6], kind: usize, n: usize) -> usize
-    requires { BodyTable lengths.now × (kind < 6) × (n ≤ 768) }
-    ensures { (result ≡ n * suc (get_or (body_lengths document01) kind 0)) × (result ≤ 7 * n) }
+// The bytes of n steps of one kind: each has one more than its kind's body length.
+fn kind_size(lengths: &[usize; 6], kind: StepKind, n: usize) -> usize
+    requires { BodyTable lengths.now × (n ≤ 768) }
+    ensures { (result ≡ n * suc (get_or (body_lengths document01) (code_of kind - 1) 0)) × (result ≤ 7 * n) }
 {
-    n * (1 + lengths[kind])
+    n * (1 + lengths[(kind.code() - 1) as usize])
 }
 
 // The additions among the steps of columns with these counts: one before each multiplication that checks a bit, and one for each
@@ -68,12 +62,12 @@ fn steps_size(lengths: &[usize; 6], c: Counts) -> usize
     requires { BodyTable lengths.now × Small 256 c }
     ensures { result ≡ steps_size c }
 {
-    kind_size(lengths, 0, c.constants + 1)
-        + kind_size(lengths, 1, c.entries)
-        + kind_size(lengths, 2, adds(c))
-        + kind_size(lengths, 3, scales(c))
-        + kind_size(lengths, 4, c.gates)
-        + kind_size(lengths, 5, c.tests)
+    kind_size(lengths, StepKind::Constant, c.constants + 1)
+        + kind_size(lengths, StepKind::Entry, c.entries)
+        + kind_size(lengths, StepKind::Add, adds(c))
+        + kind_size(lengths, StepKind::Scale, scales(c))
+        + kind_size(lengths, StepKind::Multiply, c.gates)
+        + kind_size(lengths, StepKind::Test, c.tests)
 }
 
 // The bytes of the circuit of a sheet with these counts, which starts with a constant.
@@ -97,12 +91,7 @@ fn greatest_returns(largest: u32) -> u32
     requires { 0 < largest }
     ensures { result ≡ greatest_of largest }
 {
-    let most = (field::P - 1) / largest;
-    if most < limits::MAX_RETURNS {
-        most
-    } else {
-        limits::MAX_RETURNS
-    }
+    ((field::P - 1) / largest).min(limits::MAX_RETURNS)
 }
 
 // What the counts of a sheet that is read come to.
@@ -125,11 +114,9 @@ fn sizes_from(c: Counts) -> Sizes
 }
 
 // What a sheet comes to, from its bytes alone.
-pub fn measure(sheet: &[u8]) -> Told
-    ensures { result ≡ told_of sheet.now }
+pub fn measure(sheet: &[u8]) -> Result<Sizes, Refusal>
+    ensures { outcome_of result ≡ told_of sheet.now }
 {
-    match sheet::read(sheet) {
-        Reading::Refused(refusal) => Told::Refused(refusal),
-        Reading::Counts(counts) => Told::Sizes(sizes_from(counts)),
-    }
+    let counts = sheet::read(sheet)?;
+    Ok(sizes_from(counts))
 }

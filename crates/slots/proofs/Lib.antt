@@ -1,3 +1,2 @@
--- Laws of the eight records, and of places in a list of records.
+-- Laws of the eight records.
 pub mod Eight
-pub mod Places

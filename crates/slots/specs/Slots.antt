@@ -1,6 +1,6 @@
 -- The waiting list as a list of records: what is read of a lent slice, and what a call leaves in it.
 -- Assumes nothing.
-use Rattle.std.specs.Prelude.{ℕ, cond, List, length, set, replicate, eqb}
+use Rattle.std.specs.Prelude.{ℕ, cond, List, length, set, replicate, eqb, Option, Some, None}
 use Rattle.slots.specs.declared.Slot.{Slot}
 use Rattle.slots.specs.declared.Change.{Change}
 
@@ -17,8 +17,9 @@ unfoldable pub eight_of : List Slot → List Slot
 eight_of ys = cond (eqb (length ys) 8) ys (replicate 8 broken_slot)
 
 -- the list after a call: one record anew, or as it was where the call is refused
-unfoldable pub applied : List Slot → Change → List Slot
-applied ys change = cond (eqb change.refusal 0) (set ys change.at change.slot) ys
+abbrev pub applied : List Slot → Option Change → List Slot
+applied ys None = ys
+applied ys (Some change) = set ys change.at change.slot
 
 -- the list after opening: eight free records, or as it was where opening is refused
 unfoldable pub cleared : List Slot → ℕ → List Slot

@@ -2,8 +2,8 @@
 // rules work on them by value, and one change is applied.
 #![tactic(auto)]
 
-ghost use Rattle.std.specs.Prelude.{◌≡◌, ◌<◌, length, replicate};
-ghost use Rattle.slots.specs.Slots.{broken_slot, eight_of, applied, cleared};
+ghost use Rattle.std.specs.Prelude.{◌≡◌, ◌<◌, length, replicate, IfSome};
+ghost use Rattle.slots.specs.Slots.{free_slot, eight_of, applied};
 
 // A return that waits: its stage is 0 where the record is free.
 #[repr(C)]
@@ -17,73 +17,58 @@ pub struct Slot {
     pub e: u64,
 }
 
-// What a call does to the list: nothing where it is refused, else one record anew.
+// A record in which nothing waits.
+pub const FREE_SLOT: Slot = Slot {
+    id: 0,
+    stage: 0,
+    r: 0,
+    s: 0,
+    d: 0,
+    e: 0,
+};
+
+// A record of a stage that no rule knows.
+pub const BROKEN_SLOT: Slot = Slot {
+    id: 0,
+    stage: 255,
+    r: 0,
+    s: 0,
+    d: 0,
+    e: 0,
+};
+
+// What a call that is not refused does to the list: one record anew.
 #[derive(Clone, Copy)]
 pub struct Change {
-    pub refusal: u32,
     pub at: usize,
     pub slot: Slot,
-}
-
-fn broken() -> [Slot; 8]
-    ensures { result ≡ replicate 8 broken_slot }
-{
-    let x = Slot {
-        id: 0,
-        stage: 255,
-        r: 0,
-        s: 0,
-        d: 0,
-        e: 0,
-    };
-    [x; 8]
 }
 
 // The eight records; broken ones where there are not eight, which no rule takes.
 pub fn copied(slots: &[Slot]) -> [Slot; 8]
     ensures { result ≡ eight_of slots.now }
 {
-    if slots.len() != 8 {
-        return broken();
+    let mut eight = [BROKEN_SLOT; 8];
+    if slots.len() == 8 {
+        eight.copy_from_slice(slots);
     }
-    [
-        slots[0], slots[1], slots[2], slots[3], slots[4], slots[5], slots[6], slots[7],
-    ]
+    eight
 }
 
-pub fn apply(slots: &mut [Slot], change: Change)
-    requires { change.refusal ≡ 0 → change.at < length slots.old }
+// None is the change of a call that is refused.
+pub fn apply(slots: &mut [Slot], change: Option<Change>)
+    requires { IfSome change (λ c. c.at < length slots.old) }
     ensures { slots.new ≡ applied slots.old change }
 {
-    if change.refusal != 0 {
-        return;
+    if let Some(Change { at, slot }) = change {
+        slots[at] = slot;
     }
-    let at = change.at;
-    slots[at] = change.slot;
 }
 
-// What opening does to the list: nothing where it is refused, else eight free records.
-pub fn clear(slots: &mut [Slot], refusal: u32)
-    requires { refusal ≡ 0 → length slots.old ≡ 8 }
-    ensures { slots.new ≡ cleared slots.old refusal }
+// What opening does to the list.
+pub fn clear(slots: &mut [Slot])
+    requires { length slots.old ≡ 8 }
+    ensures { slots.new ≡ replicate 8 free_slot }
 {
-    if refusal != 0 {
-        return;
-    }
-    let x = Slot {
-        id: 0,
-        stage: 0,
-        r: 0,
-        s: 0,
-        d: 0,
-        e: 0,
-    };
-    slots[0] = x;
-    slots[1] = x;
-    slots[2] = x;
-    slots[3] = x;
-    slots[4] = x;
-    slots[5] = x;
-    slots[6] = x;
-    slots[7] = x;
+    slots.fill(FREE_SLOT);
 }

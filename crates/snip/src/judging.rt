@@ -54,10 +54,10 @@ fn lefts_sum(sheet: &[u8], x: &[u32], weights: &[u32], r: u32) -> Lefts
         weights.now 1 r (gates_in (columns_of sheet.now))) × Element result.sum
         × (result.products ≡ products_in (columns_of sheet.now)) }
 {
-    let mut lefts = [0u32; 256];
-    let m = weights.len();
-    let products = walk::fill_lefts(sheet, x, &mut lefts[..m]);
-    let sum = interpolation::sum(&lefts[..m], weights, 1, r);
+    let mut buffer = [0u32; 256];
+    let lefts = &mut buffer[..weights.len()];
+    let products = walk::fill_lefts(sheet, x, lefts);
+    let sum = interpolation::sum(lefts, weights, 1, r);
     Lefts { sum, products }
 }
 
@@ -72,10 +72,10 @@ fn extra_at(sheet: &[u8], x: &[u32], weights: &[u32], products: usize, constant:
     if products == 0 {
         return 0;
     }
-    let mut extras = [0u32; 256];
-    let m = weights.len();
-    walk::fill_extras(sheet, x, constant, &mut extras[..m]);
-    field::mul(r, interpolation::sum(&extras[..m], weights, 1, r).over)
+    let mut buffer = [0u32; 256];
+    let extras = &mut buffer[..weights.len()];
+    walk::fill_extras(sheet, x, constant, extras);
+    field::mul(r, interpolation::sum(extras, weights, 1, r).over)
 }
 
 // f and g at r from their values f0 and g0 at 0, where `first` is the basis of the point 0 and `rest` the part of f of the
@@ -131,11 +131,13 @@ fn tau_of(sheet: &[u8], x: &[u32], l: usize, factor: u32, tests: usize, s: u32) 
     ensures { result ≡ folded residues
         (walk_tests document01 (shared factor l x.now) 0 0 (columns_of sheet.now)) s }
 {
-    let mut values = [0u32; 384];
-    let mut powers = [0u32; 384];
-    walk::fill_tests(sheet, x, l, factor, &mut values[..tests]);
-    loops::powers(s, &mut powers[..tests]);
-    dot::inner(&powers[..tests], &values[..tests])
+    let mut first = [0u32; 384];
+    let mut second = [0u32; 384];
+    let values = &mut first[..tests];
+    let powers = &mut second[..tests];
+    walk::fill_tests(sheet, x, l, factor, values);
+    loops::powers(s, powers);
+    dot::inner(powers, values)
 }
 
 // The same as `judge`, with the weights of the points 0, .., M and of 0, .., 2 M lent.
@@ -167,7 +169,7 @@ fn judge_with(
         d: field::sub(at.f, x[last]),
         e: field::sub(field::mul(r, at.g), x[last + 1]),
         rh: field::mul(r, h),
-        tau: tau,
+        tau,
     }
 }
 
@@ -176,19 +178,12 @@ pub fn judge(sheet: &[u8], shape: Shape, own: u32, x: &[u32], r: u32, s: u32) ->
     requires { Share sheet.now shape x.now r s }
     ensures { result ≡ judged_of (columns_of sheet.now) own x.now r s }
 {
-    let mut single = [0u32; 257];
-    let mut double = [0u32; 513];
+    let mut first = [0u32; 257];
+    let mut second = [0u32; 513];
     let points = shape.gates + 1;
     let twice = shape.gates + points;
-    quotients::fill_two(&mut single[..points], &mut double[..twice]);
-    judge_with(
-        sheet,
-        shape,
-        own,
-        x,
-        &single[..points],
-        &double[..twice],
-        r,
-        s,
-    )
+    let single = &mut first[..points];
+    let double = &mut second[..twice];
+    quotients::fill_two(single, double);
+    judge_with(sheet, shape, own, x, single, double, r, s)
 }

@@ -12,7 +12,7 @@ pub mod judging;
 fn first_only(own: u32) -> u32
     ensures { result ≡ first_only residues own }
 {
-    if own == 0 { 1 } else { 0 }
+    (own == 0) as u32
 }
 
 // d b + e a + c - rh, and d e at server 0

@@ -1,20 +1,23 @@
--- What telling where a pool stands comes to: the answer, and the eight numbers behind the pointers. A refusal leaves them as they were.
+-- What telling where a pool stands comes to: the answer, which is the eight numbers of a table that is not refused.
 -- Assumes nothing.
-use Rattle.std.specs.Prelude.{◌≡◌, cond, ℕ, eqb}
+use Rattle.std.specs.Prelude.{◌≡◌, ℕ, Result, IfOk}
+use Rattle.records.specs.Refusals.{fault_of}
+use Rattle.records.specs.declared.Refusal.{Refusal}
 use Rattle.rules.specs.Settings.{document01}
-use Rattle.rules.specs.Table.{Lent, stage_open}
-use Rattle.rules.specs.State.{State, state_refusal, state_of}
-
--- whether a table is closed, by its stage byte
-unfoldable pub closed_byte : ℕ → ℕ
-closed_byte stage = cond (eqb stage stage_open) 0 1
+use Rattle.rules.specs.Table.{Lent}
+use Rattle.rules.specs.State as rules
+use Rattle.rules.specs.State.{state_refusal, state_of}
+use Rattle.state.specs.declared.State.{State}
 
 -- the eight numbers, in the order of the pointers
-abbrev pub eight : ℕ → ℕ → ℕ → ℕ → ℕ → ℕ → ℕ → ℕ → State
+abbrev pub eight : ℕ → ℕ → ℕ → ℕ → ℕ → ℕ → ℕ → ℕ → rules.State
 eight s o n q c d e w =
     record { servers = s; own = o; returns = n; least = q; closed = c; decided = d; entered = e; waiting = w }
 
--- the numbers before and after
-pub record Tells (T : Lent) (before : State) (r : ℕ) (after : State) : Type 0 where
-  pub answer_is : r ≡ state_refusal document01 T
-  pub numbers_are : after ≡ cond (eqb (state_refusal document01 T) 0) (state_of document01 T) before
+-- those that are told
+abbrev pub eight_of : State → rules.State
+eight_of x = eight x.servers x.own x.returns x.least x.closed x.decided x.entered x.waiting
+
+pub record Tells (T : Lent) (r : Result State Refusal) : Type 0 where
+  pub answer_is : fault_of r ≡ state_refusal document01 T
+  pub numbers_are : IfOk r (λ x. eight_of x ≡ state_of document01 T)

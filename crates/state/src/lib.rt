@@ -1,56 +1,42 @@
 // Where a pool stands, told from a server's table: S, the own number, N, Q, whether the table is closed, and how many returns are
 // decided, entered and wait. The definitions that the contracts cite are those of the crate rules, at document 01's setting, and of
-// specs/. Nothing in the table changes, and a refusal leaves the eight numbers as they were.
+// specs/. Nothing in the table changes.
 #![tactic(auto)]
 
-ghost use Rattle.std.specs.Prelude.{◌≡◌};
 ghost use Rattle.waiting.specs.Changes.{lent};
-ghost use Rattle.state.specs.Calls.{closed_byte, eight, Tells};
+ghost use Rattle.state.specs.Calls.{Tells};
 
-use layout::OPEN;
+use records::Refusal;
 use slots::Slot;
-use table::{Found, read};
 use waiting::count;
 
-// Whether a table is closed, by its stage: 1 or 0.
-fn is_closed(stage: u8) -> u32
-    ensures { result ≡ closed_byte stage }
-{
-    if stage == OPEN { 0 } else { 1 }
+// The eight numbers, in the order of the pointers of pool_state.
+#[derive(Clone, Copy, Debug, PartialEq, Eq)]
+pub struct State {
+    pub servers: u32,
+    pub own: u32,
+    pub returns: u32,
+    pub least: u32,
+    // 1 or 0
+    pub closed: u32,
+    pub decided: u32,
+    pub entered: u32,
+    pub waiting: u32,
 }
 
 // Tells the eight numbers of a sound table.
-pub fn tell(
-    table: &[u8],
-    list: [Slot; 8],
-    elements: &[u32],
-    servers: &mut u32,
-    own: &mut u32,
-    returns: &mut u32,
-    least: &mut u32,
-    closed: &mut u32,
-    decided: &mut u32,
-    entered: &mut u32,
-    waiting: &mut u32,
-) -> u32
-    ensures { Tells (lent table.now list elements.now)
-        (eight servers.old own.old returns.old least.old
-        closed.old decided.old entered.old waiting.old) result
-        (eight servers.new own.new returns.new least.new
-        closed.new decided.new entered.new waiting.new) }
+pub fn tell(table: &[u8], list: [Slot; 8], numbers: &[u32]) -> Result<State, Refusal>
+    ensures { Tells (lent table.now list numbers.now) result }
 {
-    match read(table, list, elements) {
-        Found::Refused(fault) => fault,
-        Found::Table(k) => {
-            *servers = k.servers;
-            *own = k.own;
-            *returns = k.returns;
-            *least = k.least;
-            *closed = is_closed(k.stage);
-            *decided = k.decided;
-            *entered = k.entered;
-            *waiting = count(list);
-            0
-        }
-    }
+    let k = table::read(table, list, numbers)?;
+    Ok(State {
+        servers: k.servers,
+        own: k.own,
+        returns: k.returns,
+        least: k.least,
+        closed: u32::from(k.closed),
+        decided: k.decided,
+        entered: k.entered,
+        waiting: count(list),
+    })
 }

@@ -9,11 +9,9 @@ pub fn sum_words(s: &[u8], step: usize, at: usize, n: usize) -> u32
     requires { Words s.now step at n }
     ensures { result ≡ sum_of s.now step at n }
 {
-    let mut sum: u32 = 0;
-    let mut i: usize = 0;
-    while i < n {
+    let mut sum = 0;
+    for i in 0..n {
         sum = field::add(sum, words::read_u32(s, step * i + at));
-        i += 1;
     }
     sum
 }

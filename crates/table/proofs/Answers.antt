@@ -13,6 +13,7 @@ use lib.ListN.{length}
 use Rattle.algebra.proofs.Members.{and_left, and_right}
 use Rattle.words.specs.Bytes.{all_below}
 use Rattle.words.proofs.Splice.{length_part}
+use Rattle.records.specs.Outcome.{Outcome, ok, refused}
 use Rattle.rules.specs.Settings.{document01}
 use Rattle.rules.specs.Columns.{check, sheet_fault, totals_fit}
 use Rattle.rules.specs.Judging.{share_size}
@@ -26,19 +27,17 @@ use Rattle.layout.specs.declared.Table.{Table}
 use Rattle.waiting.specs.Soundness.{waiting_sound_at}
 use Rattle.waiting.proofs.Limits.{waiting_sound_lem}
 use Rattle.table.specs.Reading.{head_in, found_in, start_sound, length_of, counts_sound_at, totals_sound_at, Headed, Whole, Sound}
-use Rattle.table.specs.declared.Found.{Found}
-use Rattle.table.specs.declared.Found.TheVariants as answer
 use Rattle.table.proofs.Header.{start_facts, header_is}
 
 -- ---- a choice between a table and none
-abbrev pub found_by : Bool → Table → Found
-found_by b x = cond b (answer.Table x) (answer.Refused (check b 11))
+abbrev pub found_by : Bool → Table → Outcome Table
+found_by b x = cond b (ok x) (refused (check b 11))
 
-table_of_lem : (b : Bool) (x k : Table) → found_by b x ≡ answer.Table k → (b ≡ true) × (k ≡ x)
+table_of_lem : (b : Bool) (x k : Table) → found_by b x ≡ ok k → (b ≡ true) × (k ≡ x)
 table_of_lem true x k e = (refl, cc)
 table_of_lem false x k e = let z : ◌≡◌ {A = ℕ} 0 1 = cc in absurd (omega arith)
 
-none_of : (b : Bool) (x : Table) (n : ℕ) → found_by b x ≡ answer.Refused n → (b ≡ false) × (n ≡ 11)
+none_of : (b : Bool) (x : Table) (n : ℕ) → found_by b x ≡ refused n → (b ≡ false) × (n ≡ 11)
 none_of true x n e = let z : ◌≡◌ {A = ℕ} 0 1 = cc in absurd (omega arith)
 none_of false x n e = (refl, cc)
 
@@ -56,7 +55,6 @@ headed_at T e =
       says = refl;
       limited =
           record {
-            stage_most = f.stage_most;
             servers_some = f.servers_some;
             servers_few = f.servers_few;
             own_one = f.own_one;
@@ -72,7 +70,7 @@ headed_at T e =
       no_fault_lem = none;
     }
 
-pub headed : (T : List ℕ) (k : Table) → head_in T ≡ answer.Table k → Headed T k
+pub headed : (T : List ℕ) (k : Table) → head_in T ≡ ok k → Headed T k
 unfolding head_in
 headed T k e = let b = table_of_lem (header_sound document01 T) (table_of T) k e in rw b.1 (headed_at T b.0)
 
@@ -121,17 +119,17 @@ module _ (T : Lent) where
   abbrev waiting : ℕ
   waiting = waiting_count T.slots
 
-  pub found_headless : (n : ℕ) → head_in bytes ≡ answer.Refused n → answer.Refused n ≡ found_in T
+  pub found_headless : (n : ℕ) → head_in bytes ≡ refused n → refused n ≡ found_in T
   unfolding head_in found_in table_sound table_fault
   found_headless n e = let b = none_of (header_sound document01 bytes) (table_of bytes) n e in rw (b.0, b.1)
 
   module _ (h : header_sound document01 bytes ≡ true) where
-    counts_at : counts_sound_at (table_of bytes) waiting bytes ≡ false → answer.Refused 11 ≡ found_in T
+    counts_at : counts_sound_at (table_of bytes) waiting bytes ≡ false → refused 11 ≡ found_in T
     unfolding found_in table_sound table_fault
     counts_at c = rw (h, counts_is bytes waiting, c)
 
     module _ (c : counts_sound_at (table_of bytes) waiting bytes ≡ true) where
-      totals_at_lem : totals_sound_at (table_of bytes) bytes ≡ false → answer.Refused 11 ≡ found_in T
+      totals_at_lem : totals_sound_at (table_of bytes) bytes ≡ false → refused 11 ≡ found_in T
       unfolding found_in table_sound table_fault
       totals_at_lem t = rw (h, counts_is bytes waiting, c, totals_is bytes, t)
 
@@ -141,11 +139,11 @@ module _ (T : Lent) where
       records_at_lem t eight = rw (h, counts_is bytes waiting, c, totals_is bytes, t, records_are T eight) refl
 
 module _ (T : Lent) (k : Table) (h : Headed T.bytes k) where
-  pub found_counts : counts_sound_at k (waiting_count T.slots) T.bytes ≡ false → answer.Refused 11 ≡ found_in T
+  pub found_counts : counts_sound_at k (waiting_count T.slots) T.bytes ≡ false → refused 11 ≡ found_in T
   found_counts = rw h.says (counts_at T h.header)
 
   pub found_totals : counts_sound_at k (waiting_count T.slots) T.bytes ≡ true → totals_sound_at k T.bytes ≡ false
-      → answer.Refused 11 ≡ found_in T
+      → refused 11 ≡ found_in T
   found_totals = rw h.says (totals_at_lem T h.header)
 
   pub found_records : counts_sound_at k (waiting_count T.slots) T.bytes ≡ true → totals_sound_at k T.bytes ≡ true
@@ -209,11 +207,11 @@ sound_at_lem T e =
 pub headed_of : (T : Lent) (k : Table) → Sound T k → Headed T.bytes k
 headed_of T k s = rw s.says (headed_at T.bytes (tests T s.is_sound).0)
 
-pub sound : (T : Lent) (k : Table) → found_in T ≡ answer.Table k → Sound T k
+pub sound : (T : Lent) (k : Table) → found_in T ≡ ok k → Sound T k
 unfolding found_in table_fault
 sound T k e = let b = table_of_lem (table_sound document01 T) (table_of T.bytes) k e in rw b.1 (sound_at_lem T b.0)
 
-pub unsound : (T : Lent) (n : ℕ) → found_in T ≡ answer.Refused n → (table_fault document01 T ≡ n) × (n ≡ 0 → ⊥)
+pub unsound : (T : Lent) (n : ℕ) → found_in T ≡ refused n → (table_fault document01 T ≡ n) × (n ≡ 0 → ⊥)
 unfolding found_in table_fault
 unsound T n e =
     let b = none_of (table_sound document01 T) (table_of T.bytes) n e in (rw (b.0, b.1), λ z. omega (arith, b.1))

@@ -5,6 +5,7 @@ use mathlib.Core.Bool.{false}
 use mathlib.Core.List.{List}
 use Prim.Native.Nat.{ℕ, ◌≤◌, ◌<◌}
 use lib.ListN.{length, get_or}
+use Rattle.std.specs.Prelude.{Some}
 use Rattle.slots.specs.declared.Change.{Change}
 use Rattle.slots.specs.Slots.{free_slot, applied}
 use Rattle.rules.specs.Settings.{document01}
@@ -32,14 +33,14 @@ placed T k s j h taken t l entered one =
 
 -- ---- what it leaves, from the bytes u
 decided_at : (T : Lent) (entered id : ℕ) (u : List ℕ)
-    → lent (noted (table_of T.bytes) entered id u) (applied T.slots (records_at (place_of id T.slots) free_slot))
+    → lent (noted (table_of T.bytes) entered id u) (applied T.slots (Some (records_at (place_of id T.slots) free_slot)))
     (erased_at (table_of T.bytes) (place_of id T.slots) T.elements)
     ≡ decided_table document01 T id (decided_bytes document01 T entered id u)
-unfolding noted decided_table decided_bytes table_of ids_place share_size applied
+unfolding noted decided_table decided_bytes table_of ids_place share_size
 decided_at T entered id u = refl
 
 pub decided_is : (T : Lent) (k : Table) → Sound T k → (entered id : ℕ) (u : List ℕ) (j : ℕ) → j ≡ place_of id T.slots
     → (c : Change) (t es : List ℕ) → Decided k j entered id u T.elements c t es
-    → lent t (applied T.slots c) es ≡ decided_table document01 T id (decided_bytes document01 T entered id u)
+    → lent t (applied T.slots (Some c)) es ≡ decided_table document01 T id (decided_bytes document01 T entered id u)
 decided_is T k s entered id u j e c t es d =
     rw (d.frees, d.bytes_are, d.numbers_are, s.says, e) (decided_at T entered id u)

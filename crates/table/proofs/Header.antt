@@ -1,32 +1,31 @@
 -- The header of a table: its tests hold exactly where its facts do. Rules' header is the start and the sheet's reading,
 -- whose answer is taken apart. Assumes nothing.
 use mathlib.Core.Path.{◌≡◌, refl, sym}
-use mathlib.Core.Bool.{Bool, true, false, ◌&&◌}
+use mathlib.Core.Bool.{Bool, true, false, not, ◌&&◌}
 use mathlib.Core.List.{List}
-use Prim.Native.Nat.{ℕ, ◌+◌, ◌≤◌, ◌<◌}
-use borrow.Author.Tests.{leb-true, ltb-true, eqb-true, le-leb, lt-ltb, eq-eqb, ne_eqb}
+use Prim.Native.Nat.{ℕ, ◌+◌, ◌≤◌}
+use borrow.Author.Tests.{leb-true, ltb-true, eqb-true, le-leb, ne_eqb}
 use lib.Dec.{eqb, ltb, leb}
 use lib.ListN.{length, get_or}
 use Rattle.algebra.proofs.Members.{and_left, and_right}
 use Rattle.words.specs.Bytes.{value_of, part}
+use Rattle.records.specs.Outcome.{ok, refused}
 use Rattle.rules.specs.Settings.{document01}
 use Rattle.rules.specs.Columns.{within, least_fits, sheet_fault}
 use Rattle.rules.specs.Table.{header_length, sheet_in, columns_in, header_sound}
-use Rattle.rules.proofs.Circuits.Limits.{within_both, within_is}
+use Rattle.rules.proofs.Circuits.Limits.{within_both}
 use Rattle.rules.proofs.Circuits.Refusals.{sheet_fault_lem}
 use Rattle.columns.specs.declared.Counts.{Counts}
 use Rattle.sheet.specs.Reading.{reading_of}
-use Rattle.sheet.specs.declared.Reading.TheVariants as sheet
 use Rattle.sheet.proofs.Answers.{reading_refused, reading_counts}
 use Rattle.layout.specs.Numbers.{table_of}
 use Rattle.table.specs.Reading.{head_in, start_sound, Started}
-use Rattle.table.specs.declared.Found.TheVariants as answer
 
 pub is_false : (b : Bool) → (b ≡ true → ⊥) → b ≡ false
 is_false true h = absurd (h refl)
 is_false false h = refl
 
-and_assoc : (a b c : Bool) → (a && b) && c ≡ a && (b && c)
+pub and_assoc : (a b c : Bool) → (a && b) && c ≡ a && (b && c)
 and_assoc true b c = refl
 and_assoc false b c = refl
 
@@ -78,22 +77,15 @@ module _ (T : List ℕ) where
         sheet_long = leb-true (header_length + value_of (part 12 2 T)) (length T) e7;
       }
 
-  -- all but the last test hold
-  pub start_but : header_length ≤ length T → get_or T 0 0 ≡ document01.table_byte → get_or T 1 0 ≤ 1 → 2 ≤ get_or T 2 0 → get_or T 2 0 ≤ 8
-      → get_or T 3 0 < get_or T 2 0 → 1 ≤ value_of (part 4 2 T) → value_of (part 4 2 T) ≤ 1024
-      → least_fits (value_of (part 4 2 T)) (value_of (part 10 2 T)) ≡ true
-      → leb (header_length + value_of (part 12 2 T)) (length T) ≡ start_sound T
+  -- the tests of the code, one after another: v says of all but the last whether they hold
+  pub start_is : (v : Bool) → header_length ≤ length T
+      → v ≡ ((((eqb (get_or T 0 0) document01.table_byte && leb (get_or T 1 0) 1) && within 2 8 (get_or T 2 0))
+      && ltb (get_or T 3 0) (get_or T 2 0))
+      && within 1 1024 (value_of (part 4 2 T)))
+      && least_fits (value_of (part 4 2 T)) (value_of (part 10 2 T))
+      → v && leb (header_length + value_of (part 12 2 T)) (length T) ≡ start_sound T
   unfolding start_sound
-  start_but a b c d e f g h i =
-      rw (
-        le-leb header_length (length T) a,
-        eq-eqb (get_or T 0 0) document01.table_byte b,
-        le-leb (get_or T 1 0) 1 c,
-        within_is 2 8 (get_or T 2 0) d e,
-        lt-ltb (get_or T 3 0) (get_or T 2 0) f,
-        within_is 1 1024 (value_of (part 4 2 T)) g h,
-        i,
-      )
+  start_is v h e = rw (e, le-leb header_length (length T) h) (simp and_assoc)
 
   pub not_started : (Started T → ⊥) → false ≡ start_sound T
   not_started h = sym (is_false (start_sound T) (λ e. h (start_facts e)))
@@ -104,7 +96,7 @@ module _ (T : List ℕ) where
 
 -- ---- the sheet's answer
 module _ (T : List ℕ) where
-  pub head_not_started : start_sound T ≡ false → answer.Refused 11 ≡ head_in T
+  pub head_not_started : start_sound T ≡ false → refused 11 ≡ head_in T
   unfolding head_in
   head_not_started e = rw (header_is T, e)
 
@@ -113,16 +105,16 @@ module _ (T : List ℕ) where
     the_sheet : x ≡ sheet_in document01 T
     the_sheet = rw e at ex
 
-    pub head_refused : (n : ℕ) → reading_of x ≡ sheet.Refused n → answer.Refused 11 ≡ head_in T
+    pub head_refused : (n : ℕ) → reading_of x ≡ refused n → refused 11 ≡ head_in T
     unfolding head_in
     head_refused n h =
         let o = reading_refused (sheet_in document01 T) n (rw the_sheet at h) in
         rw (header_is T, s, o.0, ne_eqb n 0 o.1)
 
-    pub head_counted : (c : Counts) → reading_of x ≡ sheet.Counts c
-        → answer.Table (
+    pub head_counted : (c : Counts) → reading_of x ≡ ok c
+        → ok (
         record {
-          stage = get_or T 1 0;
+          closed = not (eqb (get_or T 1 0) 0);
           servers = get_or T 2 0;
           own = get_or T 3 0;
           returns = value_of (part 4 2 T);

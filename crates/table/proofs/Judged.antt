@@ -1,15 +1,19 @@
 -- The parts of a table's judgement, test by test: the one that fails, or the last where the others hold. Assumes nothing.
 use mathlib.Core.Path.{◌≡◌, refl, sym, ◌∙◌}
-use mathlib.Core.Bool.{Bool, true, false}
+use mathlib.Core.Bool.{Bool, true, false, ◌&&◌}
 use mathlib.Core.List.{List}
-use Prim.Native.Nat.{ℕ, ◌+◌, ◌-◌, ◌*◌, ◌≤◌, ◌<◌}
+use Prim.Native.Nat.{ℕ, ◌+◌, ◌-◌, ◌*◌, ◌≤◌}
 use native.Mathlib.Omega.{arith}
-use borrow.Author.Tests.{le-leb, lt-leb}
+use borrow.Author.Tests.{le-leb, lt-leb, leb-true, leb-false}
 use lib.Dec.{leb}
 use lib.ListN.{length, take, drop}
+use Rattle.std.specs.Prelude.{Result, Ok, Err, is_ok}
 use Rattle.words.specs.Bytes.{part, elements_of, all_below}
 use Rattle.records.specs.Outcome.{ok, or_else}
+use Rattle.records.specs.Refusals.{fault_of}
+use Rattle.records.specs.declared.Refusal.{Refusal}
 use Rattle.records.proofs.Outcome.{or_none}
+use Rattle.records.proofs.Refusals.{number_nonzero}
 use Rattle.rules.specs.Settings.{document01}
 use Rattle.rules.specs.Columns.{check, read_sheet, columns_of, returns_fault, totals_fault, totals_fit}
 use Rattle.rules.specs.Table.{header_length, sheet_in, columns_in}
@@ -18,6 +22,7 @@ use Rattle.rules.proofs.Circuits.Refusals.{sheet_read}
 use Rattle.layout.specs.Places.{totals_at, ids_at}
 use Rattle.layout.specs.Numbers.{table_of}
 use Rattle.layout.specs.declared.Table.{Table}
+use Rattle.table.proofs.Header.{and_assoc}
 use Rattle.table.specs.Reading.{length_of, Headed, counts_sound_at, totals_sound_at}
 
 -- ---- the sheet x of a table, as the code cuts it out: it is read
@@ -43,34 +48,32 @@ module _ (T : List ℕ) (k : Table) (h : Headed T k) (x : List ℕ) (ex : x ≡ 
   unfit_of true e = absurd (e refl)
   unfit_of false e = refl
 
-  -- what the answer n of the code's check tells
-  module _ (n : ℕ) (e : n ≡ or_else (returns_fault k.returns) (totals_fault document01 k.returns (columns_of x))) where
-    pub fits : n ≡ 0 → totals_fit document01 k.returns (columns_in document01 T) ≡ true
-    fits z = fit_of_lem _ (sym (e ∙ cut_fault) ∙ z)
-
-    pub fits_not : (n ≡ 0 → ⊥) → totals_fit document01 k.returns (columns_in document01 T) ≡ false
-    fits_not f = unfit_of _ (λ z. f (e ∙ cut_fault ∙ z))
+  -- what the answer of the code's check tells
+  pub fits_is : (r : Result (Unit {0}) Refusal)
+      → fault_of r ≡ or_else (returns_fault k.returns) (totals_fault document01 k.returns (columns_of x))
+      → is_ok r ≡ totals_fit document01 k.returns (columns_in document01 T)
+  fits_is (Ok u) e = sym (fit_of_lem _ (sym (e ∙ cut_fault)))
+  fits_is (Err f) e = sym (unfit_of _ (λ z. number_nonzero f (e ∙ cut_fault ∙ z)))
 
 -- ---- counts, where so many returns wait
-module _ (k : Table) (waiting : ℕ) (T : List ℕ) where
-  pub counts_unfit : totals_fit document01 k.returns (columns_in document01 T) ≡ false → false ≡ counts_sound_at k waiting T
-  unfolding counts_sound_at
-  counts_unfit f = rw f
+few_is : (d w n : ℕ) → leb d n && leb w (n - d) ≡ leb (d + w) n
+few_is d w n = decided (leb d n) refl
+  where
+    waiting : d ≤ n → (c : Bool) → leb w (n - d) ≡ c → c ≡ leb (d + w) n
+    waiting h true e = let l = leb-true w (n - d) e in sym (le-leb (d + w) n (omega arith))
+    waiting h false e = let l = leb-false w (n - d) e in sym (lt-leb (d + w) n (omega arith))
 
-  module _ (f : totals_fit document01 k.returns (columns_in document01 T) ≡ true) where
-    pub counts_short : length T < length_of k → false ≡ counts_sound_at k waiting T
-    unfolding counts_sound_at
-    counts_short l = rw (f, lt-leb _ _ l)
+    decided : (b : Bool) → leb d n ≡ b → b && leb w (n - d) ≡ leb (d + w) n
+    decided true e = waiting (leb-true d n e) (leb w (n - d)) refl
+    decided false e = let l = leb-false d n e in sym (lt-leb (d + w) n (omega arith))
 
-    module _ (l : length_of k ≤ length T) where
-      pub counts_over : k.returns < k.decided + waiting → false ≡ counts_sound_at k waiting T
-      unfolding counts_sound_at
-      counts_over d = rw (f, le-leb _ _ l, lt-leb (k.decided + waiting) k.returns d)
-
-      pub counts_but : k.decided + waiting ≤ k.returns
-          → leb k.entered k.decided ≡ counts_sound_at k waiting T
-      unfolding counts_sound_at
-      counts_but d = rw (f, le-leb _ _ l, le-leb (k.decided + waiting) k.returns d)
+-- the tests of the code, one after another: v says of all but the last whether they hold
+pub counts_are : (k : Table) (waiting : ℕ) (T : List ℕ) (v : Bool)
+    → v ≡ ((totals_fit document01 k.returns (columns_in document01 T) && leb (length_of k) (length T)) && leb k.decided k.returns)
+    && leb waiting (k.returns - k.decided)
+    → v && leb k.entered k.decided ≡ counts_sound_at k waiting T
+unfolding counts_sound_at
+counts_are k waiting T v e = rw (e, ← few_is k.decided waiting k.returns) (simp and_assoc)
 
 -- ---- totals, as the code cuts them out
 module _ (k : Table) (T : List ℕ) where

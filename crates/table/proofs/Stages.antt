@@ -6,7 +6,7 @@ use mathlib.Core.List.{List}
 use mathlib.Core.Option.{some, none}
 use Prim.Native.Nat.{ℕ, ◌≤◌, ◌<◌}
 use native.Mathlib.Omega.{arith}
-use borrow.Author.Tests.{ne_eqb, lt-ltb, le-ltb}
+use borrow.Author.Tests.{lt-ltb, le-ltb}
 use lib.ListN.{length, get_or}
 use Rattle.algebra.proofs.Members.{and_left}
 use Rattle.slots.specs.Slots.{free_slot}
@@ -24,24 +24,28 @@ use Rattle.table.specs.Reading.{Sound}
 abbrev pub waits_of : Lent → List Wait
 waits_of T = waits_in (columns_at document01 T) T.slots T.elements
 
--- ---- open or closed
-open_at : (T : Lent) (f : List Wait → ℕ) → (table_of T.bytes).stage ≡ 0 → while_open (stage_in document01 T) f ≡ f (waits_of T)
-unfolding while_open stage_in table_of
-open_at T f e = rw e
-
-closed_at : (T : Lent) (f : List Wait → ℕ) → ((table_of T.bytes).stage ≡ 0 → ⊥) → while_open (stage_in document01 T) f ≡ 11
-unfolding while_open stage_in table_of
-closed_at T f n = rw (ne_eqb (table_of T.bytes).stage 0 n)
-
 not_of : (b : Bool) → not b ≡ true → b ≡ false
 not_of true e = sym e
 not_of false e = refl
 
+not_of_false : (b : Bool) → not b ≡ false → b ≡ true
+not_of_false true e = refl
+not_of_false false e = sym e
+
+-- ---- open or closed
+open_at : (T : Lent) (f : List Wait → ℕ) → (table_of T.bytes).closed ≡ false → while_open (stage_in document01 T) f ≡ f (waits_of T)
+unfolding while_open stage_in table_of
+open_at T f e = rw (not_of_false _ e)
+
+closed_at : (T : Lent) (f : List Wait → ℕ) → (table_of T.bytes).closed ≡ true → while_open (stage_in document01 T) f ≡ 11
+unfolding while_open stage_in table_of
+closed_at T f e = rw (not_of _ e)
+
 module _ (T : Lent) (k : Table) (s : Sound T k) where
-  pub while_open_lem : (f : List Wait → ℕ) → k.stage ≡ 0 → while_open (stage_in document01 T) f ≡ f (waits_of T)
+  pub while_open_lem : (f : List Wait → ℕ) → k.closed ≡ false → while_open (stage_in document01 T) f ≡ f (waits_of T)
   while_open_lem f = rw s.says (open_at T f)
 
-  pub once_closed : (f : List Wait → ℕ) → (k.stage ≡ 0 → ⊥) → while_open (stage_in document01 T) f ≡ 11
+  pub once_closed : (f : List Wait → ℕ) → k.closed ≡ true → while_open (stage_in document01 T) f ≡ 11
   once_closed f = rw s.says (closed_at T f)
 
   pub waits_count : length (waits_of T) ≡ waiting_count T.slots

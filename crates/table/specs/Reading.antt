@@ -2,6 +2,7 @@
 -- Assumes nothing.
 use Rattle.std.specs.Prelude.{◌≡◌, Bool, true, cond, ◌&&◌, List, ℕ, ◌+◌, ◌*◌, ◌≤◌, ◌<◌, eqb, ltb, leb, length, get_or}
 use Rattle.words.specs.Bytes.{value_of, part, elements_of, all_below}
+use Rattle.records.specs.Outcome.{Outcome, ok, refused}
 use Rattle.rules.specs.Settings.{document01}
 use Rattle.rules.specs.Columns.{check, within, least_fits, sheet_fault, totals_fit}
 use Rattle.rules.specs.WaitingList.{waiting_count}
@@ -9,17 +10,15 @@ use Rattle.rules.specs.Table.{Lent, header_length, sheet_in, columns_in, header_
 use Rattle.layout.specs.Places.{totals_at, length_at, place_size_of}
 use Rattle.layout.specs.Numbers.{table_of, Limited}
 use Rattle.layout.specs.declared.Table.{Table}
-use Rattle.table.specs.declared.Found.{Found}
-use Rattle.table.specs.declared.Found.TheVariants as answer
 
 -- ---- what is found
 -- what the reader answers: what a sound table says, or rules' refusal of the table
-unfoldable pub found_in : Lent → Found
-found_in T = cond (table_sound document01 T) (answer.Table (table_of T.bytes)) (answer.Refused (table_fault document01 T))
+unfoldable pub found_in : Lent → Outcome Table
+found_in T = cond (table_sound document01 T) (ok (table_of T.bytes)) (refused (table_fault document01 T))
 
 -- what it has once the header and the sheet are sound
-unfoldable pub head_in : List ℕ → Found
-head_in T = cond (header_sound document01 T) (answer.Table (table_of T)) (answer.Refused (check (header_sound document01 T) 11))
+unfoldable pub head_in : List ℕ → Outcome Table
+head_in T = cond (header_sound document01 T) (ok (table_of T)) (refused (check (header_sound document01 T) 11))
 
 -- ---- the parts of the judgement: the header before the sheet is read
 unfoldable pub start_sound : List ℕ → Bool

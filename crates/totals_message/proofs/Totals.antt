@@ -22,7 +22,7 @@ use Rattle.field.specs.Residues.{prime}
 use Rattle.field.proofs.Below.{member_below}
 use Rattle.steps.specs.Words.{Words, sum_of}
 use Rattle.totals_message.specs.Totals.{totals_bytes, totals_part, totals_sound_at, all_totals_sound}
-use Rattle.totals_message.specs.Totals.{joined_fault_at, total_at, WholeTotals, SummableTotals}
+use Rattle.totals_message.specs.Totals.{joined_fault_at, total_at, SummableTotals}
 use Rattle.steps.proofs.Every.{every_at}
 use Rattle.steps.proofs.Parts.{check_holds, second, fourth}
 use Rattle.steps.proofs.Words.{message_within, words_within, words_sum}
@@ -37,10 +37,6 @@ pub join_totals_lem : (servers : ℕ) (sheet joined : List ℕ)
     ≡ tabulate (total_at servers (published_in (columns_of sheet)) joined) (published_in (columns_of sheet))
 unfolding join_totals total_at
 join_totals_lem servers sheet joined = refl
-
-pub totals_within : {servers published : ℕ} {joined : List ℕ} {i : ℕ} → WholeTotals servers published joined → i < servers
-    → totals_bytes published * i + totals_bytes published ≤ length joined
-totals_within {servers} {published} {joined} {i} w h = message_within (totals_bytes published) servers joined w.long i h
 
 -- ---- sums
 module _ (servers published k : ℕ) (joined : List ℕ) (s : SummableTotals servers published k joined) where

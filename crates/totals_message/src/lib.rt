@@ -5,10 +5,16 @@
 
 ghost use Rattle.std.specs.Prelude.{◌≡◌, ◌≤◌, length};
 ghost use Rattle.words.specs.Bytes.{splice};
+ghost use Rattle.records.specs.Refusals.{fault_of};
 ghost use Rattle.rules.specs.Settings.{document01};
 ghost use Rattle.rules.specs.Joining.{accepted_count, totals_sound};
 ghost use Rattle.totals_message.specs.Totals.{all_totals_sound, joined_fault_at, total_at, totals_header};
 ghost use Rattle.totals_message.specs.Totals.{Limited, WholeTotals, SummableTotals};
+
+use records::Refusal;
+
+// The byte that a totals message begins with.
+const KIND: u8 = 36;
 
 // The accepted count in a totals message.
 pub fn accepted_count(m: &[u8]) -> u32
@@ -23,16 +29,10 @@ fn totals_sound(m: &[u8], count: u32, server: u8) -> bool
     requires { 6 ≤ length m.now }
     ensures { result ≡ totals_sound document01 count server m.now }
 {
-    if m[0] != 36 {
-        return false;
-    }
-    if m[1] != server {
-        return false;
-    }
-    if accepted_count(m) != count {
-        return false;
-    }
-    elements::below(&m[6..], field::P)
+    m[0] == KIND
+        && m[1] == server
+        && accepted_count(m) == count
+        && elements::below(&m[6..], field::P)
 }
 
 // Whether each server's bytes, from its own place on, are its message with this count.
@@ -41,35 +41,37 @@ fn all_totals_sound(joined: &[u8], servers: usize, published: usize, count: u32)
     ensures { result ≡ all_totals_sound servers published count joined.now }
 {
     let size = 6 + 4 * published;
-    let mut i: usize = 0;
-    while i < servers {
+    for i in 0..servers {
         let start = size * i;
-        let end = start + size;
-        if !totals_sound(&joined[start..end], count, i as u8) {
+        if !totals_sound(&joined[start..start + size], count, i as u8) {
             return false;
         }
-        i += 1;
     }
     true
 }
 
-// The refusal of joined totals messages: 12, or 0 for none.
-pub fn totals_refusal(joined: &[u8], servers: u32, published: usize, returns: u32) -> u32
+// Whether joined bytes are one sound totals message of each server, with one count of N or fewer.
+pub fn check_totals(
+    joined: &[u8],
+    servers: u32,
+    published: usize,
+    returns: u32,
+) -> Result<(), Refusal>
     requires { Limited servers published }
-    ensures { result ≡ joined_fault_at servers published returns joined.now }
+    ensures { fault_of result ≡ joined_fault_at servers published returns joined.now }
 {
     let count = servers as usize;
     if joined.len() != (6 + 4 * published) * count {
-        return 12;
+        return Err(Refusal::Joined);
     }
     let accepted = accepted_count(joined);
     if !all_totals_sound(joined, count, published, accepted) {
-        return 12;
+        return Err(Refusal::Joined);
     }
     if returns < accepted {
-        return 12;
+        return Err(Refusal::Joined);
     }
-    0
+    Ok(())
 }
 
 // Total k of joined messages: the sum of their elements k.
@@ -85,7 +87,7 @@ pub fn write_totals_header(out: &mut [u8], own: u8, count: u32)
     requires { 6 ≤ length out.old }
     ensures { out.new ≡ splice out.old 0 (totals_header own count) }
 {
-    out[0] = 36;
+    out[0] = KIND;
     out[1] = own;
     words::write_u32(out, 2, count);
 }

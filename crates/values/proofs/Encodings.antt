@@ -9,35 +9,15 @@ use native.Mathlib.Numerals.{add-one}
 use native.Mathlib.Omega.{arith}
 use borrow.Author.Tests.{eq-eqb, ne_eqb, lt-ltb, le-ltb}
 use lib.Dec.{ltb, lit<}
-use lib.ListN.{length, get_or, take, drop, set, length-append, drop_of_length-le}
+use lib.ListN.{length, get_or, take, drop, length-append, drop_of_length-le}
 use lib.Seq.{drop-cons}
 use Rattle.algebra.specs.Lists.{tabulate}
-use Rattle.algebra.proofs.Tables.{tabulate_none, tabulate_next, tabulate_front, tabulate_append, tabulate_cong, length_tabulate}
-use Rattle.words.specs.Bytes.{splice, elements_of}
+use Rattle.algebra.proofs.Tables.{tabulate_front, tabulate_append, tabulate_cong, length_tabulate}
+use Rattle.words.specs.Bytes.{elements_of}
 use Rattle.words.proofs.Elements.{length_elements}
-use Rattle.words.proofs.Splice.{splice_none, length_splice}
-use Rattle.words.proofs.Loops.{sets_splice, grow}
 use Rattle.rules.specs.Columns.{Column, yes_no, number, top, point, bit_length, entries_of, values_of, entries_in, check}
 use Rattle.rules.specs.Values.{two_numbers, point_entry, encoded, legal_values, encoding}
 use Rattle.rules.specs.Making.{values_fault}
-
--- ---- a table put into the buffer d from place a
-module _ (f : ℕ → ℕ) (d : List ℕ) (a : ℕ) where
-  pub put_none : d ≡ splice d a (tabulate f 0)
-  put_none = sym (ap (splice d a) (tabulate_none f) ∙ splice_none d a)
-
-  pub put_next : (l : List ℕ) (i v : ℕ) → a + i < length d → l ≡ splice d a (tabulate f i) → v ≡ f i
-      → set l (a + i) v ≡ splice d a (tabulate f (i + 1))
-  put_next l i v h e q =
-      let n : length (tabulate f i) ≡ i = length_tabulate f i in
-      let m : length (splice d a (tabulate f i)) ≡ length d = length_splice d a (tabulate f i) (omega arith) in
-      rw (e, q)
-      (sets_splice (splice d a (tabulate f i)) (a + i) (f i ∷ []) (omega arith)
-      ∙ grow d a (tabulate f i) (f i ∷ []) i n (omega arith)
-      ∙ ap (splice d a) (sym (rw add-one (tabulate_next f i))))
-
-  pub put_all : (l : List ℕ) (i n : ℕ) → n ≤ i → i ≤ n → l ≡ splice d a (tabulate f i) → l ≡ splice d a (tabulate f n)
-  put_all l i n h k e = let q : i ≡ n = omega arith in e ∙ ap (λ (j : ℕ). splice d a (tabulate f j)) q
 
 -- ---- one column
 -- a number and its bits

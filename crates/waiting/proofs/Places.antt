@@ -1,63 +1,53 @@
 -- The records from place i on, as a loop over them goes: the record at i, then those behind it. The place of the first record
 -- for which a test holds, the number that wait and the limits each take one step there. Assumes nothing.
-use mathlib.Core.Path.{◌≡◌, refl, ap, ◌∙◌}
-use mathlib.Core.Bool.{Bool, true, false, ◌&&◌}
+use mathlib.Core.Path.{◌≡◌, refl, sym, ap, ◌∙◌}
+use mathlib.Core.Bool.{Bool, true, false, not, cond, ◌&&◌}
 use mathlib.Core.List.{List, [], ◌∷◌}
 use Prim.Native.Nat.{ℕ, zero, suc, ◌+◌, ◌*◌, ◌≤◌, ◌<◌}
 use native.Mathlib.Nat.{mul-le-mul_left}
-use native.Mathlib.Numerals.{add-one}
+use native.Mathlib.Nat.{zero-add}
+use native.Mathlib.Numerals.{add-one, one-add}
 use native.Mathlib.Omega.{arith}
-use borrow.Author.Tests.{le-leb, lt-leb, eq-eqb, ne_eqb, ltb-true, ltb-false}
+use borrow.Author.Tests.{le-leb, lt-leb, ltb-true, ltb-false}
 use lib.Dec.{ltb}
 use lib.ListN.{length, get_or, drop, drop_of_length-le}
 use lib.Seq.{drop-cons}
+use Rattle.std.specs.Prelude.{Option, None, Some, position, count_by}
+use Rattle.std.specs.List.{position_or_len}
+use Rattle.std.proofs.lemmas.List.Recursion.{is_position_or_len, is_count_by}
+use Rattle.std.proofs.lemmas.List.Sums.{prefix_len-le-length}
 use Rattle.words.specs.Bytes.{part}
 use Rattle.slots.specs.declared.Slot.{Slot}
 use Rattle.slots.specs.Slots.{free_slot}
 use Rattle.rules.specs.WaitingList.{is_free, first_where, waiting_count}
+use Rattle.waiting.specs.Stages.{place_in}
 use Rattle.waiting.specs.Soundness.{record_sound_at, records_sound_at, waiting_sound_at}
 
 behind : (xs : List Slot) (i : ℕ) (d : Slot) → i < length xs → drop i xs ≡ get_or xs i d ∷ drop (i + 1) xs
 behind xs i d h = rw (add-one, drop-cons xs i d)
 
--- ---- the first record for which t holds, where none of the first i does
-module _ (t : Slot → Bool) (xs : List Slot) (i : ℕ) (before : first_where t xs ≡ i + first_where t (drop i xs)) where
-  pub place_found : (d : Slot) → i < length xs → t (get_or xs i d) ≡ true → i ≡ first_where t xs
-  unfolding first_where
-  place_found d h e =
-      let f : first_where t (drop i xs) ≡ 0 = rw (behind xs i d h, e) in omega arith
+-- ---- the first of eight records for which t holds, as a position
+first_as_position : (t : Slot → Bool) (xs : List Slot) → first_where t xs ≡ position_or_len t xs
+unfolding first_where
+first_as_position t xs = is_position_or_len (first_where t) t refl (λ x ys. rw one-add refl) xs
 
-  pub place_next : (d : Slot) → i < length xs → t (get_or xs i d) ≡ false
-      → first_where t xs ≡ i + 1 + first_where t (drop (i + 1) xs)
-  unfolding first_where
-  place_next d h e =
-      let f : first_where t (drop i xs) ≡ suc (first_where t (drop (i + 1) xs)) = rw (behind xs i d h, e) in omega arith
+place_at : (n : ℕ) (b : Bool) → ltb n 8 ≡ b → n ≤ 8 → place_in (cond b (Some n) None) ≡ n
+place_at n true e h = refl
+place_at n false e h = omega (arith, ltb-false n 8 e)
 
-  pub place_none : length xs ≤ i → i ≡ first_where t xs
-  unfolding first_where
-  place_none h = let f : first_where t (drop i xs) ≡ 0 = ap (first_where t) (drop_of_length-le xs h) in omega arith
+pub place_is : (r : Option ℕ) (t : Slot → Bool) (xs : List Slot) → r ≡ position t xs → length xs ≡ 8 → place_in r ≡ first_where t xs
+place_is r t xs e h =
+    let most : position_or_len t xs ≤ 8 = rw h at (prefix_len-le-length (λ x. not (t x)) xs) in
+    rw (e, h, first_as_position t xs) (place_at (position_or_len t xs) _ refl most)
 
--- ---- how many wait, n of the first i
-module _ (xs : List Slot) (i n : ℕ) (before : waiting_count xs ≡ n + waiting_count (drop i xs)) where
-  pub count_waits : (d : Slot) → i < length xs → ((get_or xs i d).stage ≡ 0 → ⊥)
-      → waiting_count xs ≡ n + 1 + waiting_count (drop (i + 1) xs)
-  unfolding waiting_count
-  count_waits d h e =
-      let f : waiting_count (drop i xs) ≡ 1 + waiting_count (drop (i + 1) xs)
-      = rw (behind xs i d h, ne_eqb (get_or xs i d).stage 0 e) in
-      omega arith
-
-  pub count_free : (d : Slot) → i < length xs → (get_or xs i d).stage ≡ 0
-      → waiting_count xs ≡ n + waiting_count (drop (i + 1) xs)
-  unfolding waiting_count
-  count_free d h e =
-      let f : waiting_count (drop i xs) ≡ 0 + waiting_count (drop (i + 1) xs)
-      = rw (behind xs i d h, eq-eqb (get_or xs i d).stage 0 e) in
-      omega arith
-
-  pub count_all : length xs ≤ i → n ≡ waiting_count xs
-  unfolding waiting_count
-  count_all h = let f : waiting_count (drop i xs) ≡ 0 = ap waiting_count (drop_of_length-le xs h) in omega arith
+-- ---- how many wait
+pub count_is : (n : ℕ) (xs : List Slot) → n ≡ count_by (λ x. not (is_free x)) xs → n ≡ waiting_count xs
+unfolding waiting_count
+count_is n xs e = e ∙ sym (is_count_by waiting_count (λ x. not (is_free x)) refl (λ x ys. one_more (is_free x) (waiting_count ys)) xs)
+  where
+    one_more : (b : Bool) (n : ℕ) → cond b 0 1 + n ≡ cond (not b) (1 + n) n
+    one_more true n = zero-add n
+    one_more false n = refl
 
 -- one waits where a record is not free
 pub waiting_some : (xs : List Slot) (j : ℕ) → j < length xs → is_free (get_or xs j free_slot) ≡ false → 1 ≤ waiting_count xs

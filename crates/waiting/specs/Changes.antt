@@ -1,17 +1,15 @@
 -- What a call does to the list of records, and what a call on a table leaves: the bytes and the numbers that it was lent, and
 -- the list with its change.
 -- Assumes nothing.
-use Rattle.std.specs.Prelude.{◌≡◌, cond, List, ℕ, ◌<◌, eqb, length}
+use Rattle.std.specs.Prelude.{◌≡◌, cond, List, ℕ, ◌<◌, eqb, length, IfSome}
+use Rattle.std.specs.Prelude.{Option}
 use Rattle.slots.specs.declared.Slot.{Slot}
 use Rattle.slots.specs.declared.Change.{Change}
-use Rattle.slots.specs.Slots.{free_slot, applied}
+use Rattle.slots.specs.Slots.{applied}
 use Rattle.rules.specs.Table.{Lent}
 
-abbrev pub refused_by : ℕ → Change
-refused_by refusal = record { refusal = refusal; at = 0; slot = free_slot }
-
 abbrev pub records_at : ℕ → Slot → Change
-records_at at slot = record { refusal = 0; at = at; slot = slot }
+records_at at slot = record { at = at; slot = slot }
 
 -- the three parts
 abbrev pub lent : List ℕ → List Slot → List ℕ → Lent
@@ -21,9 +19,9 @@ lent t xs es = record { bytes = t; slots = xs; elements = es }
 unfoldable pub unless_refused : ℕ → Lent → Lent → Lent
 unless_refused refusal new old = cond (eqb refusal 0) new old
 
--- a call on the table T, with its refusal and the table after it where it is not refused: c is what it does to the list, t and
--- es are the bytes and the numbers that it leaves
-pub record Changes (refusal : ℕ) (new T : Lent) (c : Change) (t es : List ℕ) : Type 0 where
-  pub refusal_is : c.refusal ≡ refusal
-  pub within : c.refusal ≡ 0 → c.at < length T.slots
+-- a call on the table T, with its refusal and the table after it where it is not refused: r is the number that the call answers
+-- and c what it does to the list, t and es are the bytes and the numbers that it leaves
+pub record Changes (refusal : ℕ) (new T : Lent) (r : ℕ) (c : Option Change) (t es : List ℕ) : Type 0 where
+  pub refusal_is : r ≡ refusal
+  pub within : IfSome c (λ x. x.at < length T.slots)
   pub table_is : lent t (applied T.slots c) es ≡ unless_refused refusal new T

@@ -2,10 +2,11 @@
 // has an id, how many returns wait, whether they keep to the limits, what a record says. The contracts cite rules and specs/.
 #![tactic(auto)]
 
-ghost use Rattle.std.specs.Prelude.{◌≡◌, ◌+◌, ◌≤◌, ◌<◌, length};
+ghost use Rattle.std.specs.Prelude.{◌≡◌, ◌+◌, ◌≤◌, ◌<◌, length, IfSome};
 ghost use Rattle.field.specs.Residues.{prime};
-ghost use Rattle.rules.specs.WaitingList.{free_place, place_of, waits_under, waiting_count};
+ghost use Rattle.rules.specs.WaitingList.{is_free, free_place, place_of, waits_under, waiting_count};
 ghost use Rattle.waiting.specs.Soundness.{record_sound_at, waiting_sound_at};
+ghost use Rattle.waiting.specs.Stages.{place_in};
 ghost use Rattle.waiting.specs.Held.{held_at};
 
 use slots::Slot;
@@ -13,13 +14,13 @@ use slots::Slot;
 pub mod writing;
 
 // The stages of a record.
-pub const FREE: u32 = 0;
-
-pub const AWAITS_ONE: u32 = 1;
-
-pub const AWAITS_TWO: u32 = 2;
-
-pub const AWAITS_ENTRY: u32 = 3;
+#[derive(Clone, Copy, Debug, PartialEq, Eq)]
+pub enum Stage {
+    Free = 0,
+    AwaitsOne = 1,
+    AwaitsTwo = 2,
+    AwaitsEntry = 3,
+}
 
 // What a return that waits is known by, besides its share: its id and its pair; d_i and e_i in the first wait, the sums d and
 // e afterwards; r h_i(r) and tau_i.
@@ -34,81 +35,54 @@ pub struct Waiting {
     pub tau: u32,
 }
 
-// How many returns wait.
-pub fn count(list: [Slot; 8]) -> u32
-    ensures { result ≡ waiting_count list }
+// Whether nothing waits in a record.
+fn is_free(x: Slot) -> bool
+    ensures { result ≡ is_free x }
 {
-    let mut n: u32 = 0;
-    let mut i: usize = 0;
-    while i < 8 {
-        let stage = list[i].stage;
-        if stage != FREE {
-            n += 1;
-        }
-        i += 1;
-    }
-    n
-}
-
-// The place of the first free record; 8 where there is none.
-pub fn free_place(list: [Slot; 8]) -> usize
-    ensures { result ≡ free_place list }
-{
-    let mut i: usize = 0;
-    while i < 8 {
-        let stage = list[i].stage;
-        if stage == FREE {
-            return i;
-        }
-        i += 1;
-    }
-    8
+    x.stage == Stage::Free as u32
 }
 
 // Whether a return waits in a record under an id.
 fn waits_under(x: Slot, id: u32) -> bool
     ensures { result ≡ waits_under id x }
 {
-    if x.stage == FREE {
-        return false;
-    }
-    x.id == id
+    !is_free(x) && x.id == id
 }
 
-// The place of the first record in which a return waits under an id; 8 where there is none.
-pub fn place_of(list: [Slot; 8], id: u32) -> usize
-    ensures { result ≡ place_of id list }
+// How many returns wait.
+#[tactic(auto, using(crate::proofs::Places::count_is))]
+pub fn count(list: [Slot; 8]) -> u32
+    ensures { result ≡ waiting_count list }
 {
-    let mut i: usize = 0;
-    while i < 8 {
-        if waits_under(list[i], id) {
-            return i;
-        }
-        i += 1;
-    }
-    8
+    list.iter().filter(|x| !is_free(**x)).count() as u32
+}
+
+// The place of the first free record.
+pub fn free_place(list: [Slot; 8]) -> Option<usize>
+    ensures place { place_in result ≡ free_place list }
+    ensures within { IfSome result (λ i. i < 8) }
+{
+    list.iter().position(|x| is_free(*x))
+}
+
+// The place of the first record in which a return waits under an id.
+pub fn place_of(list: [Slot; 8], id: u32) -> Option<usize>
+    ensures place { place_in result ≡ place_of id list }
+    ensures within { IfSome result (λ i. i < 8) }
+{
+    list.iter().position(|x| waits_under(*x, id))
 }
 
 // Whether a record keeps to the limits, ns being the numbers of its place.
 fn record_sound(x: Slot, ns: &[u32], gates: usize) -> bool
     ensures { result ≡ record_sound_at gates x ns.now }
 {
-    if AWAITS_ENTRY < x.stage {
-        return false;
-    }
-    if x.stage == FREE {
-        return true;
-    }
-    if !limits::pair_sound(gates, x.r, x.s) {
-        return false;
-    }
-    if (field::P as u64) <= x.d {
-        return false;
-    }
-    if (field::P as u64) <= x.e {
-        return false;
-    }
-    elements::all_below(ns, field::P)
+    x.stage <= Stage::AwaitsEntry as u32
+        && (is_free(x)
+            || (limits::pair_sound(gates, x.r, x.s)
+                && x.d < u64::from(field::P)
+                && x.e < u64::from(field::P)
+                && elements::all_below(ns, field::P)))
 }
 
 // Whether the run of numbers has room for eight places of `size` numbers, and every record keeps to the limits. The loop goes by

@@ -2,9 +2,9 @@
 ghost use Rattle.std.specs.Prelude.{◌≡◌, [], ◌∷◌, ◌+◌, ◌*◌, ◌≤◌, length, replicate};
 ghost use Rattle.words.specs.Bytes.{splice, elements_of};
 ghost use Rattle.slots.specs.Slots.{free_slot};
-ghost use Rattle.waiting.specs.Changes.{refused_by, records_at};
+ghost use Rattle.waiting.specs.Changes.{records_at};
 
-use slots::{Change, Slot};
+use slots::{Change, FREE_SLOT, Slot};
 
 // Reads the element bytes x of a share into the numbers from `at`.
 pub fn read_share(numbers: &mut [u32], at: usize, x: &[u8], size: usize)
@@ -29,55 +29,20 @@ pub fn erase(numbers: &mut [u32], at: usize, n: usize)
     requires { at + n ≤ length numbers.old }
     ensures { numbers.new ≡ splice numbers.old at (replicate n 0) }
 {
-    let mut i: usize = 0;
-    while i < n {
-        numbers[at + i] = 0;
-        i += 1;
-    }
-}
-
-// What a refused call does to the list: nothing.
-pub fn refused(refusal: u32) -> Change
-    ensures { result ≡ refused_by refusal }
-{
-    Change {
-        refusal,
-        at: 0,
-        slot: Slot {
-            id: 0,
-            stage: 0,
-            r: 0,
-            s: 0,
-            d: 0,
-            e: 0,
-        },
-    }
+    let end = at + n;
+    numbers[at..end].fill(0);
 }
 
 // What a call does to the list that leaves a record at a place.
 pub fn records(at: usize, slot: Slot) -> Change
     ensures { result ≡ records_at at slot }
 {
-    Change {
-        refusal: 0,
-        at,
-        slot,
-    }
+    Change { at, slot }
 }
 
 // What a call does to the list that decides the return at a place: its record is free.
 pub fn frees(at: usize) -> Change
     ensures { result ≡ records_at at free_slot }
 {
-    records(
-        at,
-        Slot {
-            id: 0,
-            stage: 0,
-            r: 0,
-            s: 0,
-            d: 0,
-            e: 0,
-        },
-    )
+    records(at, FREE_SLOT)
 }

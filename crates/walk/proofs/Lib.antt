@@ -2,6 +2,7 @@
 pub mod Walking
 pub mod Filling
 pub mod Storing
+pub mod Parts
 pub mod Meanings
 pub mod ColumnTests
 pub mod BitsOnly

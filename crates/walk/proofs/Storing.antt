@@ -1,12 +1,25 @@
--- Behind the front of a buffer: with two places left, two stores fill them, and a part that is all the rest replaces it.
+-- Behind the front of a buffer: one store fills the one place that is left, two the two that are left, and a part that is all the rest replaces it.
 -- Assumes nothing.
-use mathlib.Core.Path.{◌≡◌, sym, ap, ap₂, ◌∙◌}
+use mathlib.Core.Path.{◌≡◌, refl, sym, ap, ap₂, ◌∙◌}
 use mathlib.Core.List.{List, [], ◌∷◌, ◌++◌, append_assoc, append-nil}
-use Prim.Native.Nat.{ℕ, suc, ◌+◌, ◌-◌, ◌≤◌}
+use Prim.Native.Nat.{ℕ, zero, suc, ◌+◌, ◌-◌, ◌≤◌}
 use native.Mathlib.Omega.{arith}
 use borrow.Rule.Slice.PartMut.{mid_of, put_mid, mid_len, Post-is}
-use lib.ListN.{length, get_or, set, drop, drop_of_length-le, length-append}
+use lib.ListN.{length, replicate, get_or, set, drop, drop_of_length-le, length-append}
 use lib.Seq.{drop-cons, drop-length, set_at, take_at}
+use Rattle.algebra.specs.Lists.{tabulate}
+use Rattle.algebra.proofs.Tables.{tabulate_front}
+
+pub zeros : (n : ℕ) → replicate {A = ℕ} n 0 ≡ tabulate (λ i. 0) n
+unfolding tabulate
+zeros zero = refl
+zeros (suc n) = ap (0 ∷◌) (zeros n) ∙ sym (tabulate_front (λ i. 0) n)
+
+pub set_one : (front d : List ℕ) (n a : ℕ) → length front ≡ n → length d ≡ suc n → set (front ++ drop n d) n a ≡ front ++ (a ∷ [])
+set_one front d n a h k =
+    let last : length d ≤ suc n = omega arith in
+    ap (λ (l : List ℕ). set (front ++ l) n a) (drop-cons d n 0 (omega arith) ∙ ap (get_or d n 0 ∷◌) (drop_of_length-le d last))
+    ∙ set_at front (get_or d n 0) [] a n h
 
 two_left : (d : List ℕ) (n : ℕ) → length d ≡ n + 2 → drop n d ≡ get_or d n 0 ∷ get_or d (suc n) 0 ∷ []
 two_left d n h =

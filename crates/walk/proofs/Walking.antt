@@ -5,13 +5,11 @@ use mathlib.Core.List.{List, [], ◌∷◌, ◌++◌, append_assoc, append-nil}
 use Prim.Native.Nat.{ℕ, zero, suc, ◌+◌, ◌-◌, ◌≤◌, ◌<◌}
 use native.Mathlib.Nat.{add-zero}
 use native.Mathlib.Numerals.{add-one}
-use native.Mathlib.Decide.{dec_lt}
 use native.Mathlib.Omega.{arith}
 use borrow.Rule.Slice.PartMut.{put_mid, Post-is}
 use lib.ListN.{length, length-append, length-drop, get_or, take, drop, drop_of_length-le}
 use lib.Seq.{take_all, take_at, drop-append-add, drop-drop}
-use Rattle.records.specs.Outcome.{ok}
-use Rattle.rules.specs.Columns.{Column, yes_no, entries_of, entries_in, read_sheet, columns_of}
+use Rattle.rules.specs.Columns.{Column, yes_no, entries_of, entries_in, columns_of}
 use Rattle.rules.specs.Circuit.{gates_of, gates_in}
 use Rattle.rules.proofs.Circuits.Limits.{InLimits}
 use Rattle.columns.specs.Kinds.{from_code}
@@ -20,7 +18,7 @@ use Rattle.columns.proofs.Sums.{Total, total_next}
 use Rattle.sheet.specs.declared.cursor.Cursor.{Cursor}
 use Rattle.sheet.specs.declared.cursor.Step.{Step}
 use Rattle.sheet.specs.Cursor.{begin, cursor_at, Stands, step_at}
-use Rattle.sheet.proofs.Cursors.{place, cursor_end}
+use Rattle.sheet.proofs.Cursors.{place}
 
 -- the parts of the columns, where e entries and t multiplications stand before them
 unfoldable pub walked : (ℕ → ℕ → Column → List ℕ) → ℕ → ℕ → List Column → List ℕ
@@ -40,34 +38,6 @@ pub record Parts (g : ℕ → ℕ → Column → List ℕ) (of : Column → ℕ)
   pub total : Total of In
   pub each : (e t : ℕ) (c : Column) → length (g e t c) ≡ of c
 
--- ---- where a cursor stands
--- before the end of the bytes it is before a column, and at the end it is behind the last
-pub stands : {s : List ℕ} {c : Cursor} → read_sheet s ≡ ok (columns_of s) → c ≡ cursor_at s c.index → c.at < length s
-    → Stands s c
-stands {s} {c} is_read here h =
-    record { is_read = is_read; here = here; within = go (dec_lt c.index (length (columns_of s))) }
-  where
-    at_end : length (columns_of s) ≤ c.index → c.at ≡ length s
-    at_end l = ap (λ (u : Cursor). u.at) (here ∙ cursor_end s is_read c.index l)
-
-    go : Dec (c.index < length (columns_of s)) → c.index < length (columns_of s)
-    go (yes k) = k
-    go (no k) = absurd (omega (arith, at_end (omega arith)))
-
-behind : (s : List ℕ) (c : Cursor) → read_sheet s ≡ ok (columns_of s) → c ≡ cursor_at s c.index → length s ≤ c.at
-    → length (columns_of s) ≤ c.index
-behind s c is_read here h = go (dec_lt c.index (length (columns_of s)))
-  where
-    go : Dec (c.index < length (columns_of s)) → length (columns_of s) ≤ c.index
-    go (yes k) =
-        let p = place (record { is_read = is_read; here = here; within = k }) in
-        absurd (omega (arith, p.size_some, p.size_fits))
-    go (no k) = omega arith
-
-pub all_walked : (s : List ℕ) (c : Cursor) → read_sheet s ≡ ok (columns_of s) → c ≡ cursor_at s c.index → length s ≤ c.at
-    → take c.index (columns_of s) ≡ columns_of s
-all_walked s c is_read here h = take_all c.index (columns_of s) (behind s c is_read here h)
-
 -- what a turn knows of the column that it takes
 pub record Turned (s : List ℕ) (c : Cursor) (step : Step) : Type 0 where
   pub within : c.index < length (columns_of s)
@@ -79,19 +49,15 @@ pub record Turned (s : List ℕ) (c : Cursor) (step : Step) : Type 0 where
   pub gates_next : step.next.gates ≡ c.gates + gates_of (from_code step.column)
   pub gates_fit : step.next.gates ≤ gates_in (columns_of s)
   pub gates_few : gates_in (columns_of s) ≤ 256
-  pub less : length s - step.next.at < length s - c.at
 
-pub turned : {s : List ℕ} {c : Cursor} (step : Step) → read_sheet s ≡ ok (columns_of s) → c ≡ cursor_at s c.index
-    → c.at < length s → step ≡ step_at s c.index → Turned s c step
-turned {s} {c} step is_read here before e =
-    let t = stands is_read here before in
+pub turned : {s : List ℕ} {c : Cursor} (step : Step) → Stands s c → step ≡ step_at s c.index → Turned s c step
+turned {s} {c} step t e =
     let p = place t in
     let q : from_code step.column ≡ get_or (columns_of s) c.index yes_no
     = ap (λ (u : Step). from_code u.column) e ∙ from_to_code _ in
     let n : step.next ≡ cursor_at s (c.index + 1) = ap (λ (u : Step). u.next) e in
     let g : step.next.gates ≡ c.gates + gates_of (get_or (columns_of s) c.index yes_no)
     = ap (λ (u : Cursor). u.gates) (n ∙ p.next_is) in
-    let a = ap (λ (u : Cursor). u.at) (n ∙ p.next_is) in
     record {
       within = t.within;
       column_is = q;
@@ -102,7 +68,6 @@ turned {s} {c} step is_read here before e =
       gates_next = rw q g;
       gates_fit = omega (arith, g, p.gates_fit);
       gates_few = p.gates_most;
-      less = omega (arith, a, p.size_some, p.size_fits);
     }
 
 walked_next : (g : ℕ → ℕ → Column → List ℕ) (cs : List Column) (k e t : ℕ) → k < length cs
@@ -214,10 +179,10 @@ module _ {g : ℕ → ℕ → Column → List ℕ} {of : Column → ℕ} {In : L
         (walk_turn step.next part to w t.within t.next_is (q ∙ ap (g c.entry c.gates) col)
         (u ∙ ap (λ a. done + of a) col) m)
 
-    pub walk_finish : {d l : List ℕ} {c : Cursor} {done : ℕ} → read_sheet s ≡ ok (columns_of s) → Walking g In s d l c done
-        → length s ≤ c.at → length d ≡ In (columns_of s) → l ≡ walked g 0 0 (columns_of s)
-    walk_finish {d} {l} {c} {done} is_read w h m =
-        let all : take c.index (columns_of s) ≡ columns_of s = all_walked s c is_read w.here h in
+    pub walk_finish : {d l : List ℕ} {c : Cursor} {done : ℕ} → Walking g In s d l c done
+        → c.index ≡ length (columns_of s) → length d ≡ In (columns_of s) → l ≡ walked g 0 0 (columns_of s)
+    walk_finish {d} {l} {c} {done} w h m =
+        let all : take c.index (columns_of s) ≡ columns_of s = take_all c.index (columns_of s) (omega arith) in
         let none : length d ≤ done = omega (arith, w.count, ap In all) in
         w.filled
         ∙ ap₂ (λ x y. walked g 0 0 x ++ y) all (drop_of_length-le d none)

@@ -20,46 +20,23 @@ ghost use Rattle.walk.specs.Walks.{Entries, Outputs, Asked};
 use columns::{Column, bit_length, counts_of};
 use sheet::cursor;
 
-// out[i] = x[first + i]
-fn copy(x: &[u32], first: usize, out: &mut [u32])
-    requires { first + length out.old ≤ length x.now }
-    ensures { out.new ≡ tabulate (λ i. members x.now (first + i)) (length out.old) }
-{
-    let mut i = 0;
-    while i < out.len() {
-        out[i] = x[first + i];
-        i += 1;
-    }
-}
-
-// out[i] = x[first + i] for the first n, then out[n] = last
+// n members of x from `first`, then `last`
 fn copy_then(x: &[u32], first: usize, n: usize, last: u32, out: &mut [u32])
     requires { (first + n ≤ length x.now) × (length out.old ≡ suc n) }
     ensures { out.new ≡ tabulate (λ i. members x.now (first + i)) n ++ (last ∷ []) }
 {
-    copy(x, first, &mut out[..n]);
+    out[..n].copy_from_slice(&x[first..first + n]);
     out[n] = last;
 }
 
-// out[i] = x[first + i] for the first n, then a and b
+// n members of x from `first`, then a and b
 fn copy_two(x: &[u32], first: usize, n: usize, a: u32, b: u32, out: &mut [u32])
     requires { (first + n ≤ length x.now) × (length out.old ≡ suc (suc n)) }
     ensures { out.new ≡ tabulate (λ i. members x.now (first + i)) n ++ (a ∷ b ∷ []) }
 {
-    let end = n + 1;
-    copy_then(x, first, n, a, &mut out[..end]);
-    out[end] = b;
-}
-
-// out[i] = 0
-fn clear(out: &mut [u32])
-    ensures { out.new ≡ tabulate (λ i. 0) (length out.old) }
-{
-    let mut i = 0;
-    while i < out.len() {
-        out[i] = 0;
-        i += 1;
-    }
+    out[..n].copy_from_slice(&x[first..first + n]);
+    out[n] = a;
+    out[n + 1] = b;
 }
 
 // start + x[first] + .. + x[first + n - 1]
@@ -69,10 +46,8 @@ fn sum_from(x: &[u32], first: usize, n: usize, start: u32) -> u32
         (λ i. members x.now (first + i)) n }
 {
     let mut acc = start;
-    let mut i = 0;
-    while i < n {
-        acc = field::add(acc, x[first + i]);
-        i += 1;
+    for v in &x[first..first + n] {
+        acc = field::add(acc, *v);
     }
     acc
 }
@@ -84,12 +59,10 @@ fn weighted_from(x: &[u32], first: usize, n: usize, start: u32) -> u32
         (λ i. residues.◌⊗◌ (members x.now (first + i)) (residues.ι (2 ^ i))) n }
 {
     let mut acc = start;
-    let mut power: u32 = 1;
-    let mut i = 0;
-    while i < n {
-        acc = field::mul_add(x[first + i], power, acc);
+    let mut power = 1;
+    for v in &x[first..first + n] {
+        acc = field::mul_add(*v, power, acc);
         power = field::add(power, power);
-        i += 1;
     }
     acc
 }
@@ -99,11 +72,11 @@ fn column_lefts(x: &[u32], e: usize, column: Column, out: &mut [u32])
     requires { (e + entries_of (from_code column) ≤ length x.now) × (length out.old ≡ gates_of (from_code column)) }
     ensures { out.new ≡ column_lefts document01 (plain 0 (members x.now)) e (from_code column) }
 {
+    let bits = out.len();
     match column {
         Column::YesNo => out[0] = x[e],
-        Column::Choice(_) => copy(x, e, out),
-        Column::Number(_) => copy(x, e + 1, out),
-        Column::Top(_) => copy(x, e + 1, out),
+        Column::Choice(_) => out.copy_from_slice(&x[e..e + bits]),
+        Column::Number(_) | Column::Top(_) => out.copy_from_slice(&x[e + 1..e + 1 + bits]),
         Column::Point(n) => copy_two(x, e + 4, 2 * n, x[e], x[e], out),
     }
 }
@@ -115,18 +88,12 @@ pub fn fill_lefts(s: &[u8], x: &[u32], out: &mut [u32]) -> usize
         ≡ walk_lefts document01 (plain 0 (members x.now)) 0 (columns_of s.now))
         × (result ≡ products_in (columns_of s.now)) }
 {
-    let mut c = cursor::start();
     let mut products = 0;
-    while c.at < s.len() {
-        let step = cursor::next(s, c);
-        let column = step.column;
-        let after = step.next;
-        let from = c.gates;
-        let to = after.gates;
-        column_lefts(x, c.entry, column, &mut out[from..to]);
-        let counts = counts_of(column);
-        products += counts.products;
-        c = after;
+    for place in cursor::columns(s) {
+        let from = place.before.gates;
+        let to = place.after.gates;
+        column_lefts(x, place.before.entry, place.column, &mut out[from..to]);
+        products += counts_of(place.column).products;
     }
     products
 }
@@ -145,7 +112,7 @@ fn point_extras(x: &[u32], e: usize, constant: u32, n: usize, out: &mut [u32])
     ensures { out.new ≡ column_extras residues constant (members x.now) e (point n) }
 {
     let bits = 2 * n;
-    clear(&mut out[..bits]);
+    out[..bits].fill(0);
     out[bits] = product_extra(x[e], x[e], constant);
     out[bits + 1] = product_extra(x[e], x[e + 2], constant);
 }
@@ -157,7 +124,7 @@ fn column_extras(x: &[u32], e: usize, constant: u32, column: Column, out: &mut [
     ensures { out.new ≡ column_extras residues constant (members x.now) e (from_code column) }
 {
     match column {
-        Column::YesNo | Column::Choice(_) | Column::Number(_) | Column::Top(_) => clear(out),
+        Column::YesNo | Column::Choice(_) | Column::Number(_) | Column::Top(_) => out.fill(0),
         Column::Point(n) => point_extras(x, e, constant, n, out),
     }
 }
@@ -168,15 +135,16 @@ pub fn fill_extras(s: &[u8], x: &[u32], constant: u32, out: &mut [u32])
     ensures { out.new
         ≡ walk_extras residues constant (members x.now) 0 (columns_of s.now) }
 {
-    let mut c = cursor::start();
-    while c.at < s.len() {
-        let step = cursor::next(s, c);
-        let column = step.column;
-        let after = step.next;
-        let from = c.gates;
-        let to = after.gates;
-        column_extras(x, c.entry, constant, column, &mut out[from..to]);
-        c = after;
+    for place in cursor::columns(s) {
+        let from = place.before.gates;
+        let to = place.after.gates;
+        column_extras(
+            x,
+            place.before.entry,
+            constant,
+            place.column,
+            &mut out[from..to],
+        );
     }
 }
 
@@ -259,15 +227,9 @@ fn column_tests(
             let sum = sum_from(x, e, n, field::mul(factor, field::P - 1));
             copy_then(x, first, n, sum, out);
         }
-        Column::Number(n) => {
-            number_tests(x, first, e, e + 1, n, out);
-        }
-        Column::Top(n) => {
-            top_tests(x, first, e, factor, n, out);
-        }
-        Column::Point(n) => {
-            point_tests(x, first, e, n, out);
-        }
+        Column::Number(n) => number_tests(x, first, e, e + 1, n, out),
+        Column::Top(n) => top_tests(x, first, e, factor, n, out),
+        Column::Point(n) => point_tests(x, first, e, n, out),
     }
 }
 
@@ -278,16 +240,19 @@ pub fn fill_tests(s: &[u8], x: &[u32], l: usize, factor: u32, out: &mut [u32])
     ensures { out.new
         ≡ walk_tests document01 (shared factor l x.now) 0 0 (columns_of s.now) }
 {
-    let mut c = cursor::start();
     let mut done = 0;
-    while c.at < s.len() {
-        let step = cursor::next(s, c);
-        let column = step.column;
-        let counts = counts_of(column);
-        let to = done + counts.tests;
-        column_tests(x, l, c.entry, c.gates, factor, column, &mut out[done..to]);
+    for place in cursor::columns(s) {
+        let before = place.before;
+        let to = done + counts_of(place.column).tests;
+        column_tests(
+            x,
+            l,
+            before.entry,
+            before.gates,
+            factor,
+            place.column,
+            &mut out[done..to],
+        );
         done = to;
-        let after = step.next;
-        c = after;
     }
 }

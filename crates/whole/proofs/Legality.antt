@@ -3,14 +3,16 @@
 use mathlib.Core.Path.{◌≡◌, sym, ◌∙◌}
 use mathlib.Core.Bool.{true, ◌&&◌}
 use mathlib.Core.List.{List}
-use Prim.Native.Nat.{ℕ, ◌+◌, ◌*◌, ◌≤◌}
+use Prim.Native.Nat.{ℕ, ◌+◌, ◌*◌, ◌≤◌, ◌<◌}
 use native.Mathlib.Omega.{arith}
 use borrow.Author.Tests.{eqb-true}
 use lib.Dec.{eqb}
-use lib.ListN.{length}
+use lib.ListN.{length, get_or}
 use Rattle.algebra.proofs.Members.{all_map, and_left, and_right}
 use Rattle.words.specs.Bytes.{splice, elements_of}
 use Rattle.words.proofs.Splice.{splice_all}
+use Rattle.field.specs.Residues.{prime}
+use Rattle.field.proofs.Below.{member_below}
 use Rattle.rules.specs.Columns.{entries_in, columns_of}
 use Rattle.rules.specs.Values.{legal_values}
 use Rattle.rules.specs.Making.{values_fault}
@@ -20,7 +22,7 @@ use Rattle.columns.specs.declared.Counts.{Counts}
 use Rattle.values.specs.Encode.{Encodable}
 use Rattle.steps.proofs.Parts.{check_holds}
 use Rattle.walk.specs.Walks.{Entries}
-use Rattle.whole.specs.Pieces.{PlaceOfH, Legal, entries_from, Fillable}
+use Rattle.whole.specs.Pieces.{Legal, entries_from, Fillable}
 use Rattle.whole.proofs.Room.{room}
 
 module _ {sheet values : List ℕ} (l : Legal sheet values) where
@@ -68,13 +70,16 @@ module _ {sheet : List ℕ} {k : Counts} {values random w : List ℕ} (f : Filla
   pub fits : k.entries + (k.gates + k.gates) + 6 ≡ length w
   fits = (room f.counted).size_is ∙ sym f.long
 
-  pub place_of_h : (t : List ℕ) → length t ≡ length w → PlaceOfH sheet t k.entries k.gates
-  place_of_h t e =
-      let m = room f.counted in
-      record {
-        entries_are = m.entries_are;
-        gates_are = m.gates_are;
-        entries_few = m.entries_few;
-        gates_few = m.gates_few;
-        room = omega (arith, fits);
-      }
+  pub below : (i : ℕ) → get_or (elements_of 4 random) i 0 < prime
+  below i = member_below (elements_of 4 random) i f.elements
+
+  -- a place of just as many elements as there are entries
+  module _ (x : List ℕ) (e : length x ≡ k.entries) where
+    just : length x ≡ entries_in (columns_of sheet)
+    just = e ∙ (room f.counted).entries_are
+
+    pub encodes : Encodable sheet values x
+    encodes = encodable_just legal_values_lem x just
+
+    pub holds_entries : {y : List ℕ} → y ≡ splice x 0 (entries_from sheet values) → y ≡ entries_from sheet values
+    holds_entries q = q ∙ just_entries legal_values_lem x just

@@ -1,6 +1,6 @@
 -- The room of a return of a sheet that is read: the limits on its counts and on the number of elements of a share.
 -- Assumes nothing.
-use mathlib.Core.Path.{◌≡◌, ap}
+use mathlib.Core.Path.{◌≡◌, ap, ◌∙◌}
 use mathlib.Core.List.{List}
 use Prim.Native.Nat.{ℕ, ◌+◌, ◌≤◌}
 use native.Mathlib.Omega.{arith}
@@ -36,3 +36,11 @@ room {sheet} {k} c =
       gates_few = omega (arith, m.gates_most, m.entries_most);
       size_small = m.share_most;
     }
+
+-- the number of elements of a share, as code works it out
+module _ {sheet : List ℕ} {k : Counts} (c : Counted sheet k) (n : ℕ) (e : n ≡ k.entries + (k.gates + k.gates) + 6) where
+  pub sized : n ≡ share_size (columns_of sheet)
+  sized = e ∙ (room c).size_is
+
+  pub small : n ≤ 774
+  small = omega (arith, sized, (room c).size_small)

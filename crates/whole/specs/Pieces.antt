@@ -6,7 +6,7 @@ use Rattle.words.specs.Bytes.{elements_of}
 use Rattle.records.specs.Outcome.{ok}
 use Rattle.field.specs.Residues.{residues, Elements}
 use Rattle.rules.specs.Settings.{document01}
-use Rattle.rules.specs.Columns.{Column, entries_in, read_sheet, columns_of}
+use Rattle.rules.specs.Columns.{Column, read_sheet, columns_of}
 use Rattle.rules.specs.Circuit.{gates_in}
 use Rattle.rules.specs.Values.{encoding}
 use Rattle.rules.specs.Judging.{share_size}
@@ -27,14 +27,6 @@ h_values cs xs u v =
     (λ j. residues.◌⊗◌ (f_of residues document01 cs (members xs) u (residues.ι j))
     (g_of residues document01 cs (members xs) v (residues.ι j)))
     (suc (gates_in cs + gates_in cs))
-
--- the values of h fit behind l entries and two elements
-pub record PlaceOfH (sheet w : List ℕ) (l m : ℕ) : Type 0 where
-  pub entries_are : l ≡ entries_in (columns_of sheet)
-  pub gates_are : m ≡ gates_in (columns_of sheet)
-  pub entries_few : l ≤ 256
-  pub gates_few : m ≤ 256
-  pub room : l + 3 + (m + m) ≤ length w
 
 -- the sheet is read, and the values are legal
 pub record Legal (sheet values : List ℕ) : Type 0 where

@@ -55,7 +55,7 @@ fn values() {
 fn written() {
     let mut out = [0; 21];
     forms::circuit(b"circuit of sheet 17", &mut out);
-    forms::steps(out);
+    forms::steps(&out);
     printing::write(b"read");
     forms::wires(1, &out);
     forms::circuit(b"with room for 20 bytes", &mut [0; 20]);

@@ -7,18 +7,13 @@ use Rattle.chacha.specs.ChaCha.{sums}
 use Rattle.chacha.proofs.add.Goals as goal
 
 pub loop-i-init : goal.loop-i-init
-loop-i-init c = (
-  omega arith,
-  fill_none (λ j. plus (get_or c.args.s.now j 0) (get_or c.args.t.now j 0)) c.args.out.now,
-  refl,
-)
+loop-i-init c = (fill_none (λ j. plus (get_or c.args.s.now j 0) (get_or c.args.t.now j 0)) c.args.out.now, refl)
 
 pub loop-i-preserved : goal.loop-i-preserved
 unfolding plus
 loop-i-preserved c = (
-  omega arith,
   fill_next (λ j. plus (get_or c.args.s.now j 0) (get_or c.args.t.now j 0)) c.args.out.now c.loop-i.out
-      c.loop-i.i _ (omega (arith, c.requires)) c.loop-i.invariant.1 c.wrapping_add_u32.ensures.value,
+      c.loop-i.i _ (omega arith) c.loop-i.invariant.0 refl,
   simp length-set (omega arith),
 )
 
@@ -26,5 +21,5 @@ pub returns : goal.returns
 unfolding sums
 returns c =
     fill_all (λ j. plus (get_or c.args.s.now j 0) (get_or c.args.t.now j 0)) c.args.out.now c.loop-i.out
-    c.loop-i.i (omega (arith, c.requires)) (omega (arith, c.requires)) c.loop-i.invariant.1
-    ∙ ap (tabulate (λ j. plus (get_or c.args.s.now j 0) (get_or c.args.t.now j 0))) c.requires.1
+    c.loop-i.i (omega arith) (omega arith) c.loop-i.invariant.0
+    ∙ ap (tabulate (λ j. plus (get_or c.args.s.now j 0) (get_or c.args.t.now j 0))) (omega arith)

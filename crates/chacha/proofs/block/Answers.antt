@@ -5,4 +5,4 @@ use Rattle.chacha.proofs.block.Goals as goal
 
 pub returns : goal.returns
 unfolding mixed
-returns c = rw (c.add.ensures, c.twenty_rounds.ensures, c.copy.ensures) refl
+returns c = rw (c.add.ensures, c.twenty_rounds.ensures, c.copy_from_slice.ensures.after) refl

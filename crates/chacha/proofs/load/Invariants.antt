@@ -1,11 +1,8 @@
--- The loop of `chacha::load`: the first i words are put there; the measure is what is left of them.
-use Rattle.std.proofs.Common.{◌≡◌, ◌-◌, ◌≤◌, length, take}
+-- The loop of `chacha::load`: the first i words are put there.
+use Rattle.std.proofs.Common.{◌≡◌, length, take}
 use Rattle.words.specs.Bytes.{splice, elements_of}
 use Rattle.chacha.proofs.load.Given as goal
 
 abbrev pub invariant-loop-i : goal.invariant-loop-i
 invariant-loop-i l =
-    (l.i ≤ l.n) × (l.s ≡ splice l.initial.s l.at (take l.i (elements_of 4 l.b))) × (length l.s ≡ length l.initial.s)
-
-abbrev pub decreases-loop-i : goal.decreases-loop-i
-decreases-loop-i l = l.n - l.i
+    (l.s ≡ splice l.initial.s l.at (take l.i (elements_of 4 l.b))) × (length l.s ≡ length l.initial.s)

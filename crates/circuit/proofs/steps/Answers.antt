@@ -1,98 +1,70 @@
--- `circuit::steps` meets its contract. The loop's invariant: the steps up to `at` are read and counted (`ReadTo`); the ways
--- out are taken apart once (`outcome`). Assumes nothing.
-use mathlib.Core.Path.{◌≡◌, sym, ◌∙◌}
-use mathlib.Core.Logic.{◌⊎◌, inl, inr, ⊎_elim}
-use Prim.Native.Nat.{ℕ, ◌+◌, ◌≤◌, ◌-◌}
+-- `circuit::steps` meets its contract. Each turn takes one step, or ends the reading (StepLaws). Assumes nothing.
+use mathlib.Core.Path.{◌≡◌, refl, sym, ap, ◌∙◌}
+use Prim.Native.Nat.{ℕ, ◌-◌}
 use native.Mathlib.Nat.{add-sub_cancel_left}
-use native.Mathlib.Omega.{arith}
-use borrow.Author.Rules.{rules}
-use lib.ListN.{get_or, length}
-use Rattle.words.specs.Bytes.{part}
-use Rattle.words.proofs.Splice.{length_part}
+use lib.ListN.{get_or}
+use Rattle.std.specs.Prelude.{Option, None, Result, Err}
+use Rattle.std.specs.Option.{ok_or}
+use Rattle.records.specs.Outcome.{refused}
+use Rattle.records.specs.Refusals.{number_of}
+use Rattle.records.specs.declared.Refusal.{Refusal}
+use Rattle.records.specs.declared.Refusal.TheVariants as why
+use Rattle.records.proofs.Refusals.{outcome_passed, number_nonzero}
 use Rattle.rules.specs.Settings.{document01}
-use Rattle.rules.specs.CircuitReader.{step_of, step_fault}
-use Rattle.circuit.specs.declared.Reading.{Reading}
-use Rattle.circuit.specs.declared.Reading.TheVariants.{Refused}
-use Rattle.circuit.specs.Reading.{limited_counts}
-use Rattle.circuit.proofs.StepLaws.{whole}
-use Rattle.circuit.proofs.StepLaws
+use Rattle.rules.specs.CircuitReader.{body_lengths}
+use Rattle.circuit.specs.declared.StepKind.{StepKind}
+use Rattle.circuit.specs.Reading.{code_of}
+use Rattle.circuit.proofs.StepLaws.{code_low, code_high, read_start, read_end, read_next, refuse_kind, refuse_cut, refuse_step, same_counts}
 use Rattle.circuit.proofs.steps.Goals as goal
-use Rattle.circuit.proofs.steps.Goals.{Joined-s-at, then-s-at, else-s-at+then-kind-lt1}
-use Rattle.circuit.proofs.steps.Goals.{else-s-at+else-kind-lt1+then-kind-gt6}
-use Rattle.circuit.proofs.steps.Goals.{else-s-at+else-kind-lt1+else-kind-gt6+then-s-start}
-use Rattle.circuit.proofs.steps.Goals.{else-s-at+else-kind-lt1+else-kind-gt6+else-s-start+then-found-ne0}
+use Rattle.circuit.proofs.steps.Goals.{After-code}
 
--- what is known where the loop is left: no fault and the limits to come, or the first fault
-abbrev Left : Reading → Reading → ℕ → Type 0
-Left all end fault = ((fault ≡ 0) × (all ≡ end)) ⊎ ((fault ≡ 0 → ⊥) × (all ≡ Refused fault))
+-- the refusal of an unknown kind
+unknown : (o : Option StepKind) (e : Refusal) → o ≡ None → ◌≡◌ {A = Result StepKind Refusal} (Err e) (ok_or o why.Kind) → e ≡ why.Kind
+unknown o e none is = let z : ◌≡◌ {A = Result StepKind Refusal} (Err e) (Err why.Kind) = rw none at is in cc
 
-refused : (all end : Reading) (f n : ℕ) → f ≡ n → (n ≡ 0 → ⊥) → all ≡ Refused n → Left all end f
-refused all end f n e z q = rw e (inr (z, q))
+-- the kind byte, and the length in the table
+module _ (c : After-code) where
+  abbrev n : ℕ
+  n = get_or c.args.lengths.now (c.code.result - 1) 0
 
-pub steps-init : goal.steps-init
-steps-init c = StepLaws.read_start _ _
+  byte_is : get_or c.args.s.now c.loop-at.at 0 ≡ code_of c.in_ok-kind.kind
+  byte_is = rw c.in_ok-kind.ensures.ok_part at c.of.ensures
 
-pub step_fault-found-requires : goal.step_fault-found-requires
-step_fault-found-requires c =
-    let s = c.args.s.now in
-    let at = c.steps.at in
-    let k = get_or s at 0 in
-    let n = get_or c.args.lengths.now (k - 1) 0 in
-    let lo : 1 ≤ k = c.if-kind-lt1.false in
-    let hi : k ≤ 6 = c.if-kind-gt6.false in
-    let l : at + 1 + n ≤ length s = omega arith in
-    (lo, hi, rw add-sub_cancel_left (length_part (at + 1) n s l) ∙ c.requires.0.rule k lo hi)
+  table : n ≡ get_or (body_lengths document01) (code_of c.in_ok-kind.kind - 1) 0
+  table = let k = c.in_ok-kind.kind in rw c.code.ensures (c.requires.0.rule (code_of k) (code_low k) (code_high k))
 
-pub steps-preserved : goal.steps-preserved
-steps-preserved c =
-    let s = c.args.s.now in
-    let k = get_or s c.steps.at 0 in
-    let fault_is : c.step_fault-found.result
-    ≡ step_fault document01 c.args.entries c.steps.wires
-    (step_of document01 k (part (c.steps.at + 1) (get_or c.args.lengths.now (k - 1) 0) s)) =
-    rw add-sub_cancel_left at c.step_fault-found.ensures in
-    let lo : 1 ≤ k = c.if-kind-lt1.false in
-    let hi : k ≤ 6 = c.if-kind-gt6.false in
-    StepLaws.read_next c.args.entries s c.steps.invariant (search rules) lo hi _ (c.requires.0.rule k lo hi) (search rules) _
-    fault_is c.if-found-ne0.false
-    c.one_if.ensures.0 c.one_if-multiplications.ensures.0 c.one_if-tests.ensures.0
+pub loop-at-init : goal.loop-at-init
+loop-at-init c =
+    let e = c.default-counts.ensures in
+    rw (same_counts c.default-counts.result (record { wires = 0; multiplications = 0; tests = 0 }) e.0 e.1.0 e.1.1) (read_start _ _)
 
--- how the loop is left: at the end of the steps, or with the number of a fault
-outcome : (c : Joined-s-at)
-    → Left (whole c.args.entries c.args.s.now) (limited_counts c.steps.wires c.steps.multiplications c.steps.tests)
-    c.if-s-at.fault
-outcome c =
-    let s = c.args.s.now in
-    let e = c.args.entries in
-    let r = c.steps.invariant in
-    let k = get_or s c.steps.at 0 in
-    let all = whole e s in
-    let end = limited_counts c.steps.wires c.steps.multiplications c.steps.tests in
-    let table = c.requires.0.rule k in
-    elim c.if-s-at.branch [
-      | then-s-at w ↦ inl (w.fault-is, StepLaws.read_end e s r w.if-s-at.true)
-      | else-s-at+then-kind-lt1 w ↦
-          refused all end _ 1 w.fault-is (λ x. omega arith) (StepLaws.refuse_kind e s r w.if-s-at.false (inl w.if-kind-lt1.true))
-      | else-s-at+else-kind-lt1+then-kind-gt6 w ↦
-          refused all end _ 1 w.fault-is (λ x. omega arith) (StepLaws.refuse_kind e s r w.if-s-at.false (inr w.if-kind-gt6.true))
-      | else-s-at+else-kind-lt1+else-kind-gt6+then-s-start w ↦
-          let l = w.if-s-at.false in
-          let lo = w.if-kind-lt1.false in
-          let hi = w.if-kind-gt6.false in
-          refused all end _ 1 w.fault-is (λ x. omega arith) (StepLaws.refuse_cut e s r l lo hi _ (table lo hi) w.if-s-start.true)
-      | else-s-at+else-kind-lt1+else-kind-gt6+else-s-start+then-found-ne0 w ↦
-          let l = w.if-s-at.false in
-          let lo = w.if-kind-lt1.false in
-          let hi = w.if-kind-gt6.false in
-          let found = rw add-sub_cancel_left at w.step_fault-found.ensures in
-          refused all end _ w.step_fault-found.result w.fault-is w.if-found-ne0.true
-          (StepLaws.refuse_step e s r l lo hi _ (table lo hi) w.if-s-start.false _ found w.if-found-ne0.true)
-    ]
+pub returns-in_err-kind : goal.returns-in_err-kind
+returns-in_err-kind c =
+    let none = c.in_err-kind.ensures.ok_part in
+    outcome_passed _ _ c.from_residual.ensures.1
+    ∙ ap (λ (r : Refusal). refused (number_of r)) (unknown _ _ none c.in_err-kind.ensures.value)
+    ∙ sym (refuse_kind c.args.entries c.args.s.now c.loop-at.invariant c.loop-at-test.true (rw none at c.of.ensures))
 
-pub returns-then-fault-ne0 : goal.returns-then-fault-ne0
-returns-then-fault-ne0 c =
-    ⊎_elim (λ w. absurd (c.if-fault-ne0.true w.0)) (λ w. sym w.1) (outcome (goal.at.returns-then-fault-ne0 c).Joined-s-at)
+pub returns-then-s-start : goal.returns-then-s-start
+returns-then-s-start c =
+    let a = (goal.at.returns-then-s-start c).After-code in
+    sym (refuse_cut c.args.entries c.args.s.now c.loop-at.invariant c.loop-at-test.true c.in_ok-kind.kind (byte_is a) _ (table a) c.if-s-start.true)
+
+pub returns-in_err-check_step : goal.returns-in_err-check_step
+returns-in_err-check_step c =
+    let a = (goal.at.returns-in_err-check_step c).After-code in
+    let fault = rw add-sub_cancel_left at c.in_err-check_step.ensures in
+    outcome_passed _ _ c.from_residual-in_err-check_step.ensures.1
+    ∙ sym (refuse_step c.args.entries c.args.s.now c.loop-at.invariant c.loop-at-test.true c.in_ok-kind.kind (byte_is a) _ (table a)
+    c.if-s-start.false _ fault (number_nonzero _))
+
+pub loop-at-preserved : goal.loop-at-preserved
+loop-at-preserved c =
+    let a = (goal.at.loop-at-preserved c).After-code in
+    let fault = rw add-sub_cancel_left at c.in_ok-check_step.ensures in
+    rw c.with-counts.ensures
+    (read_next c.args.entries c.args.s.now c.loop-at.invariant c.loop-at-test.true c.in_ok-kind.kind (byte_is a) _ (table a)
+    c.if-s-start.false _ fault refl)
 
 pub returns : goal.returns
-returns c =
-    ⊎_elim (λ w. c.limited.ensures ∙ sym w.1) (λ w. absurd (w.0 c.if-fault-ne0.false)) (outcome (goal.at.returns c).Joined-s-at)
+returns c = c.limited.ensures ∙ sym (read_end c.args.entries c.args.s.now c.loop-at.invariant c.loop-at-test.false)

@@ -17,7 +17,7 @@ returns c =
     let s = a.out.now in
     let at = a.at in
     let p = put_byte s at 1 (omega arith) in
-    let q = put_number (set s at 1) (at + 1) 4 a.constant _ c.write_u32.ensures (omega arith) in
+    let q = put_number (set s at 1) (at + 1) 4 a.constant _ (rw c.code.ensures at c.write_u32.ensures) (omega arith) in
     put_as (put_on p q) 5 (1 ∷ bytes_of 4 a.constant) (at + 5) refl refl (omega arith)
 
 pub shape_of-out : goal.shape_of-out

@@ -1,30 +1,27 @@
--- `elements::below`: one more element is below the bound or not (`test_next`, `test_not`); at the end none is left.
+-- `elements::below`: one more element is below the bound or not (`below_next`, `below_not`); at the end none is left.
 -- Assumes nothing.
-use mathlib.Core.Path.{sym, ◌∙◌}
-use native.Mathlib.Omega.{arith}
-use lib.Dec.{lit<}
-use Rattle.elements.proofs.Loops.{test_next, test_not, test_end}
+use Rattle.std.proofs.Common.{◌≡◌, ◌/◌, length, get_or, sym, ◌∙◌, arith}
+use Rattle.words.specs.Bytes.{elements_of}
+use Rattle.words.proofs.Elements.{length_elements, element_at_lem}
+use Rattle.elements.proofs.Loops.{below_next, below_not, below_end}
 use Rattle.elements.proofs.below.Goals as goal
 use Rattle.elements.proofs.below.Goals.{then-bound-read_u32, else-bound-read_u32}
 
-pub loop-at-preserved : goal.loop-at-preserved
-loop-at-preserved c =
-    let s = c.args.s.now in
-    let l = c.loop-at in
-    let h = c.loop-at-test.true in (
-      omega arith,
-      l.invariant.1
-          ∙ elim c.if-bound-read_u32.branch [
-            | then-bound-read_u32 w ↦
-                rw w.below-is
-                (test_not 4 (lit< tt) c.args.bound s l.at l.below h (rw c.read_u32.ensures at w.if-bound-read_u32.true))
-            | else-bound-read_u32 w ↦
-                rw w.below-is
-                (test_next 4 (lit< tt) c.args.bound s l.at l.below h (rw c.read_u32.ensures at w.if-bound-read_u32.false))
-          ],
-    )
+pub loop-k-preserved : goal.loop-k-preserved
+loop-k-preserved c =
+    let xs = elements_of 4 c.args.s.now in
+    let k = c.loop-k.k in
+    let f = c.loop-k.below in
+    let n : length xs ≡ length c.args.s.now / 4 = length_elements 4 c.args.s.now in
+    let e : c.read_u32.result ≡ get_or xs k 0 = c.read_u32.ensures ∙ sym (element_at_lem 4 c.args.s.now k c.loop-k-test.true) in
+    c.loop-k.invariant
+    ∙ elim c.if-bound-read_u32.branch [
+      | then-bound-read_u32 w ↦ rw w.below-is (below_not c.args.bound xs k f (omega arith) (rw e at w.if-bound-read_u32.true))
+      | else-bound-read_u32 w ↦ rw w.below-is (below_next c.args.bound xs k f (omega arith) (rw e at w.if-bound-read_u32.false))
+    ]
 
 pub returns : goal.returns
 returns c =
-    sym (c.loop-at.invariant.1
-    ∙ test_end 4 (lit< tt) c.args.bound c.args.s.now c.loop-at.at c.loop-at.below c.loop-at-test.false)
+    let xs = elements_of 4 c.args.s.now in
+    let n : length xs ≡ length c.args.s.now / 4 = length_elements 4 c.args.s.now in
+    sym (c.loop-k.invariant ∙ below_end c.args.bound xs c.loop-k.k c.loop-k.below (omega arith))

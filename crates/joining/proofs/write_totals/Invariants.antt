@@ -1,7 +1,6 @@
--- `joining::write_totals` meets its contract. The loop's invariant: the first k totals are put there (`fill_turn`); the
--- measure is what is left of them. Assumes nothing.
+-- `joining::write_totals` meets its contract. The loop's invariant: the first k totals are put there (`fill_turn`).
+-- Assumes nothing.
 use mathlib.Core.Path.{◌≡◌}
-use Prim.Native.Nat.{◌≤◌, ◌-◌}
 use lib.ListN.{length}
 use Rattle.words.specs.Bytes.{splice}
 use Rattle.totals_message.specs.Totals.{total_at}
@@ -10,7 +9,4 @@ use Rattle.joining.proofs.write_totals.Given as goal
 
 abbrev pub invariant-loop-k : goal.invariant-loop-k
 invariant-loop-k l =
-    (l.k ≤ l.published) × (l.out ≡ splice l.initial.out 0 (first_of (total_at l.servers l.published l.joined) l.k)) × (length l.out ≡ length l.initial.out)
-
-abbrev pub decreases-loop-k : goal.decreases-loop-k
-decreases-loop-k l = l.published - l.k
+    (l.out ≡ splice l.initial.out 0 (first_of (total_at l.servers l.published l.joined) l.k)) × (length l.out ≡ length l.initial.out)

@@ -1,44 +1,51 @@
--- `line::find` meets its contract. The loop's invariant: the cursor stands where it should, and no column before it has the number;
--- the measure is how many columns are left. Assumes nothing.
-use mathlib.Core.Path.{◌≡◌, sym, ap, ap₂, ◌∙◌}
+-- `line::find` meets its contract. The loop's invariant: no column before the walk's place has the number. Assumes nothing.
+use mathlib.Core.Path.{sym, ap, ap₂, ◌∙◌}
 use native.Mathlib.Omega.{arith}
-use lib.ListN.{length}
-use Rattle.rules.specs.Columns.{columns_of}
 use Rattle.sheet.specs.declared.cursor.Cursor.{Cursor}
-use Rattle.sheet.proofs.Walks.{walk_start, stands_by_place, walk_end, walk_next, next_index, column_seen}
+use Rattle.sheet.specs.declared.cursor.Walk.{Walk}
+use Rattle.sheet.specs.Walk.{Passes}
+use Rattle.sheet.proofs.Walks.{next_index, column_seen, passed, ended}
 use Rattle.line.specs.Calls.{point_at}
 use Rattle.line.proofs.Finding.{found_at, found_none}
 use Rattle.line.proofs.find.Goals as goal
+use Rattle.line.proofs.find.Goals.{In-Some}
 
-pub loop-c-init : goal.loop-c-init
-loop-c-init c =
-    let i = ap (λ (x : Cursor). x.index) c.start-c.ensures in
-    (walk_start _ _ c.start-c.ensures, λ h. omega arith)
+-- the column passed
+here : (c : In-Some) → Passes c.args.s.now c.loop-place.place-iterator.next c.in-Some.place c.next.new.self.next
+here c = passed c.loop-place.invariant.2 c.in-Some.ensures.steps.1
 
-pub next-step-requires : goal.next-step-requires
-next-step-requires c =
-    stands_by_place _ _ c.requires c.loop-c.invariant.0 c.loop-c-test.true
+pub loop-place-init : goal.loop-place-init
+loop-place-init c =
+    let g = c.into_iter-place-iterator.ensures.into_iter_gives in
+    let b = ap (λ (x : Walk). x.next.index) g ∙ ap (λ (x : Cursor). x.index) c.columns-place-items.ensures.next in (
+      tt,
+      tt,
+      ap (λ (x : Walk). x.sheet.now) g ∙ c.columns-place-items.ensures.sheet,
+      λ h. omega arith,
+    )
 
-pub returns-then-behind-column : goal.returns-then-behind-column
-returns-then-behind-column c =
-    let h = stands_by_place _ _ c.requires c.loop-c.invariant.0 c.loop-c-test.true in
-    let e = c.next-step.ensures in
+pub returns-then-place-column : goal.returns-then-place-column
+returns-then-place-column c =
+    let p = here (goal.at.returns-then-place-column c).In-Some in
+    let h = p.stands in
+    let published = ap (λ (x : Cursor). x.published) p.before_is ∙ ap (λ (x : Cursor). x.published) h.here in
+    let index = ap (λ (x : Cursor). x.index) p.after_is in
     c.point_at.ensures
-    ∙ ap₂ point_at (column_seen h _ e) (ap (λ (x : Cursor). x.published) h.here)
-    ∙ found_at _ _ _ h.within (sym (next_index h _ e) ∙ c.if-behind-column.true)
+    ∙ ap₂ point_at (column_seen h _ p.step_is) published
+    ∙ found_at _ _ _ h.within (sym (next_index h _ p.step_is) ∙ sym index ∙ c.if-place-column.true)
 
-pub loop-c-smaller : goal.loop-c-smaller
-loop-c-smaller c =
-    let h = stands_by_place _ _ c.requires c.loop-c.invariant.0 c.loop-c-test.true in
-    omega (arith, next_index h _ c.next-step.ensures, h.within)
-
-pub loop-c-preserved : goal.loop-c-preserved
-loop-c-preserved c =
-    let h = stands_by_place _ _ c.requires c.loop-c.invariant.0 c.loop-c-test.true in
-    let i = next_index h _ c.next-step.ensures in
-    (walk_next h _ c.next-step.ensures, λ l. c.loop-c.invariant.1 (omega (arith, c.if-behind-column.false)))
+pub loop-place-preserved : goal.loop-place-preserved
+loop-place-preserved c =
+    let p = here (goal.at.loop-place-preserved c).In-Some in
+    let i = next_index p.stands _ p.step_is in
+    let index = ap (λ (x : Cursor). x.index) p.after_is in (
+      tt,
+      tt,
+      c.in-Some.ensures.steps.0 ∙ c.loop-place.invariant.2,
+      λ l. c.loop-place.invariant.3 (omega (arith, c.if-place-column.false)),
+    )
 
 pub returns : goal.returns
 returns c =
-    let e : c.loop-c.c.index ≡ length (columns_of c.args.s.now) = walk_end _ _ c.requires c.loop-c.invariant.0 c.loop-c-test.false in
-    found_none _ _ (λ h. c.loop-c.invariant.1 (omega arith))
+    let e = ended c.loop-place.invariant.2 c.in-None.ensures.steps.1.0 in
+    found_none _ _ (λ h. c.loop-place.invariant.3 (omega arith))

@@ -1,14 +1,11 @@
--- `line::find` meets its contract. The loop's invariant: the cursor stands where it should, and no column before it has the number;
--- the measure is how many columns are left. Assumes nothing.
+-- `line::find` meets its contract. The loop's invariant: no column before the walk's place has the number. Assumes nothing.
 use mathlib.Core.Path.{◌≡◌}
-use Prim.Native.Nat.{◌-◌, ◌≤◌}
-use lib.ListN.{length}
-use Rattle.rules.specs.Columns.{columns_of}
-use Rattle.sheet.proofs.Walks.{Walks}
+use Prim.Native.Nat.{◌≤◌}
 use Rattle.line.proofs.find.Given as goal
 
-abbrev pub invariant-loop-c : goal.invariant-loop-c
-invariant-loop-c l = Walks l.s l.c × (l.column ≤ l.c.index → l.column ≡ 0)
-
-abbrev pub decreases-loop-c : goal.decreases-loop-c
-decreases-loop-c l = length (columns_of l.s) - l.c.index
+abbrev pub invariant-loop-place : goal.invariant-loop-place
+invariant-loop-place l =
+    (goal.iterator-loop-place).can_next l.place-iterator
+    × (goal.iterator-loop-place).is_finite l.place-iterator
+    × (l.place-iterator.sheet.now ≡ l.s)
+    × (l.column ≤ l.place-iterator.next.index → l.column ≡ 0)

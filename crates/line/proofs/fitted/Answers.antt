@@ -8,15 +8,17 @@ use Rattle.line.specs.Numbers.{sums_in, fitting_of}
 use Rattle.line.proofs.Words.{bits_none, bits_some}
 use Rattle.line.proofs.fitted.Goals as goal
 
-pub returns-then-determinant-eq0 : goal.returns-then-determinant-eq0
+pub returns-then-line-eq0 : goal.returns-then-line-eq0
 unfolding fitting_of determinant
-returns-then-determinant-eq0 c =
+returns-then-line-eq0 c =
     let told : of_z w64 c.line_of-line.result.determinant ≡ of_z w64 (determinant (sums_in c.args.t)) =
-    ap (λ (l : Line). of_z w64 l.determinant) c.line_of-line.ensures in let p = c.requires in
-    rw (bits_none _ _ p.n_xx p.x_x (sym told ∙ c.if-determinant-eq0.true))
+    ap (λ (l : Line). of_z w64 l.determinant) c.line_of-line.ensures in
+    let p = c.requires in
+    rw (bits_none _ _ p.n_xx p.x_x (sym told ∙ c.if-line-eq0.true))
 
 pub returns : goal.returns
 unfolding fitting_of determinant
 returns c =
     let told : of_z w64 c.line_of-line.result.determinant ≡ of_z w64 (determinant (sums_in c.args.t)) =
-    ap (λ (l : Line). of_z w64 l.determinant) c.line_of-line.ensures in rw (bits_some _ _ (λ e. c.if-determinant-eq0.false (told ∙ e)), c.line_of-line.ensures)
+    ap (λ (l : Line). of_z w64 l.determinant) c.line_of-line.ensures in
+    rw (bits_some _ _ (λ e. c.if-line-eq0.false (told ∙ e)), c.line_of-line.ensures)

@@ -17,6 +17,7 @@ total-requires-4 c = let p = c.requires in p.summable _ (omega (arith, p.four))
 pub returns : goal.returns
 returns c =
     rw (
+      c.from.ensures,
       c.accepted_count.ensures,
       c.total.ensures,
       c.total-2.ensures,

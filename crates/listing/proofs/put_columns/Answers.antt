@@ -1,58 +1,63 @@
--- `listing::put_columns` meets its contract. The loop's invariant: the cursor stands where it should, and the lines of the
--- columns before it are put there (`before_next`); the measure is how many columns are left. Assumes nothing.
-use mathlib.Core.Path.{◌≡◌}
+-- `listing::put_columns` meets its contract. The loop's invariant: the lines of the columns before the walk's place are put
+-- there (`before_next`). Assumes nothing.
+use mathlib.Core.Path.{◌≡◌, ap, ◌∙◌}
 use native.Mathlib.Omega.{arith}
 use borrow.Author.Rules.{rules}
-use lib.ListN.{length}
-use Rattle.rules.specs.Columns.{columns_of}
+use Rattle.sheet.specs.declared.cursor.Cursor.{Cursor}
+use Rattle.sheet.specs.declared.cursor.Walk.{Walk}
+use Rattle.sheet.specs.Walk.{Passes}
 use Rattle.sheet.proofs.Cursors.{place}
-use Rattle.sheet.proofs.Walks.{walk_start, stands_by_place, walk_end, walk_next, next_index}
+use Rattle.sheet.proofs.Walks.{next_index, passed, ended}
 use Rattle.listing.proofs.Walking.{before_start, before_next, before_end, step_published, options_fit}
 use Rattle.listing.proofs.put_columns.Goals as goal
+use Rattle.listing.proofs.put_columns.Goals.{In-Some}
 
-pub loop-c-init : goal.loop-c-init
-loop-c-init c =
+-- the column passed
+here : (c : In-Some) → Passes c.args.s.now c.loop-place.place-iterator.next c.in-Some.place c.next.new.self.next
+here c = passed c.loop-place.invariant.2 c.in-Some.ensures.steps.1
+
+pub loop-place-init : goal.loop-place-init
+loop-place-init c =
     let a = c.args in
-    let p = before_start a.s.now a.totals.now a.out.now a.at (omega (arith, c.requires.room)) in
-    (walk_start _ _ c.start-c.ensures, rw c.start-c.ensures p)
+    let g = c.into_iter-place-iterator.ensures.into_iter_gives in
+    let b = ap (λ (x : Walk). x.next.index) g ∙ ap (λ (x : Cursor). x.index) c.columns-place-items.ensures.next in (
+      tt,
+      tt,
+      ap (λ (x : Walk). x.sheet.now) g ∙ c.columns-place-items.ensures.sheet,
+      rw b (before_start a.s.now a.totals.now a.out.now a.at (omega (arith, c.requires.room))),
+    )
 
-pub next-step-requires : goal.next-step-requires
-next-step-requires c =
-    stands_by_place _ _ c.requires.is_read c.loop-c.invariant.0 c.loop-c-test.true
+pub overflow_cast-column : goal.overflow_cast-column
+overflow_cast-column c =
+    let p = here (goal.at.overflow_cast-column c).In-Some in
+    let i = ap (λ (x : Cursor). x.index) p.after_is ∙ next_index p.stands _ p.step_is in
+    let q = place p.stands in search (rules, q.index_fits, i)
 
 pub overflow_sub-options : goal.overflow_sub-options
 overflow_sub-options c =
-    let h = stands_by_place _ _ c.requires.is_read c.loop-c.invariant.0 c.loop-c-test.true in
-    omega (arith, step_published h _ c.next-step.ensures)
+    let p = here (goal.at.overflow_sub-options c).In-Some in
+    let b = ap (λ (x : Cursor). x.published) p.before_is in
+    let a = ap (λ (x : Cursor). x.published) p.after_is in
+    omega (arith, step_published p.stands _ p.step_is)
 
-pub overflow_add-c : goal.overflow_add-c
-overflow_add-c c =
-    let h = stands_by_place _ _ c.requires.is_read c.loop-c.invariant.0 c.loop-c-test.true in
-    let q = place h in search (rules, q.index_fits)
+pub put_options-next-requires : goal.put_options-next-requires
+put_options-next-requires c =
+    let p = here (goal.at.put_options-next-requires c).In-Some in
+    rw (p.before_is, p.after_is) (options_fit p.stands _ p.step_is _ _ _ _ _ c.loop-place.invariant.3 c.requires)
 
-pub overflow_cast-c : goal.overflow_cast-c
-overflow_cast-c c =
-    let h = stands_by_place _ _ c.requires.is_read c.loop-c.invariant.0 c.loop-c-test.true in
-    let q = place h in search (rules, q.index_fits)
-
-pub put_options-place-requires : goal.put_options-place-requires
-put_options-place-requires c =
-    let h = stands_by_place _ _ c.requires.is_read c.loop-c.invariant.0 c.loop-c-test.true in
-    options_fit h _ c.next-step.ensures _ _ _ _ _ c.loop-c.invariant.1 c.requires
-
-pub loop-c-smaller : goal.loop-c-smaller
-loop-c-smaller c =
-    let h = stands_by_place _ _ c.requires.is_read c.loop-c.invariant.0 c.loop-c-test.true in
-    omega (arith, next_index h _ c.next-step.ensures, h.within)
-
-pub loop-c-preserved : goal.loop-c-preserved
-loop-c-preserved c =
-    let h = stands_by_place _ _ c.requires.is_read c.loop-c.invariant.0 c.loop-c-test.true in
-    let e = c.next-step.ensures in
-    (walk_next h _ e, before_next h _ e _ _ _ _ _ c.loop-c.invariant.1 _ _ c.put_options-place.ensures)
+pub loop-place-preserved : goal.loop-place-preserved
+loop-place-preserved c =
+    let p = here (goal.at.loop-place-preserved c).In-Some in
+    let i = ap (λ (x : Cursor). x.index) p.after_is ∙ next_index p.stands _ p.step_is in
+    let b = ap (λ (x : Cursor). x.published) p.before_is in
+    let a = ap (λ (x : Cursor). x.published) p.after_is in (
+      tt,
+      tt,
+      c.in-Some.ensures.steps.0 ∙ c.loop-place.invariant.2,
+      before_next p.stands _ p.step_is _ _ _ _ _ c.loop-place.invariant.3 _ _ (rw (i, a, b) at c.put_options-next.ensures),
+    )
 
 pub returns : goal.returns
 returns c =
-    let e : c.loop-c.c.index ≡ length (columns_of c.args.s.now)
-    = walk_end _ _ c.requires.is_read c.loop-c.invariant.0 c.loop-c-test.false in
-    before_end _ _ _ _ c.loop-c.c.index _ _ (omega arith) c.loop-c.invariant.1
+    let e = ended c.loop-place.invariant.2 c.in-None.ensures.steps.1.0 in
+    before_end _ _ _ _ c.loop-place.place-iterator.next.index _ _ (omega arith) c.loop-place.invariant.3

@@ -1,14 +1,12 @@
--- `listing::put_columns` meets its contract. The loop's invariant: the cursor stands where it should, and the lines of the
--- columns before it are put there (`before_next`); the measure is how many columns are left. Assumes nothing.
-use Prim.Native.Nat.{◌-◌}
-use lib.ListN.{length}
-use Rattle.rules.specs.Columns.{columns_of}
-use Rattle.sheet.proofs.Walks.{Walks}
+-- `listing::put_columns` meets its contract. The loop's invariant: the lines of the columns before the walk's place are put
+-- there (`before_next`). Assumes nothing.
+use mathlib.Core.Path.{◌≡◌}
 use Rattle.listing.proofs.Walking.{Before}
 use Rattle.listing.proofs.put_columns.Given as goal
 
-abbrev pub invariant-loop-c : goal.invariant-loop-c
-invariant-loop-c l = Walks l.s l.c × Before l.s l.totals l.initial.out l.at l.c.index l.out l.place
-
-abbrev pub decreases-loop-c : goal.decreases-loop-c
-decreases-loop-c l = length (columns_of l.s) - l.c.index
+abbrev pub invariant-loop-place : goal.invariant-loop-place
+invariant-loop-place l =
+    (goal.iterator-loop-place).can_next l.place-iterator
+    × (goal.iterator-loop-place).is_finite l.place-iterator
+    × (l.place-iterator.sheet.now ≡ l.s)
+    × Before l.s l.totals l.initial.out l.at l.place-iterator.next.index l.out l.next

@@ -1,10 +1,9 @@
 -- `listing::put_options` meets its contract. The loop's invariant: the lines of the options before are put there
--- (`options_next`); the measure is what is left of them. Assumes nothing.
+-- (`options_next`). Assumes nothing.
 use mathlib.Core.Path.{◌≡◌, sym, ap, ◌∙◌}
 use mathlib.Core.List.{List}
 use Prim.Native.Nat.{ℕ, ◌+◌}
 use native.Mathlib.Omega.{arith}
-use borrow.Author.Rules.{rules}
 use lib.ListN.{get_or, drop}
 use lib.Seq.{get_or-drop}
 use Rattle.words.specs.Bytes.{elements_of}
@@ -24,25 +23,23 @@ turn column first k ts s at t next u end total p e q =
 
 pub loop-option-init : goal.loop-option-init
 loop-option-init c =
-    (search rules, put_as (put_none c.args.out.now c.args.at (omega (arith, c.requires.room))) _ (options_none _ _))
+    put_as (put_none c.args.out.now c.args.at (omega (arith, c.requires.room))) _ (options_none _ _)
 
 pub put_line-next-requires : goal.put_line-next-requires
 put_line-next-requires c =
     let a = c.args in
-    let p = c.loop-option.invariant.1 in
+    let p = c.loop-option.invariant in
     let m = options_most a.column 0 c.loop-option.option (drop a.first (elements_of 4 a.totals.now)) in
     omega (arith, c.requires.room, c.loop-option-test.true)
 
 pub loop-option-preserved : goal.loop-option-preserved
 loop-option-preserved c =
-    let a = c.args in (
-      search rules,
-      turn a.column a.first c.loop-option.option (elements_of 4 a.totals.now) _ _ _ _ _ _ _ c.loop-option.invariant.1
-          c.at-total.ensures c.put_line-next.ensures,
-    )
+    let a = c.args in
+    turn a.column a.first c.loop-option.option (elements_of 4 a.totals.now) _ _ _ _ _ _ _ c.loop-option.invariant c.at-total.ensures
+    c.put_line-next.ensures
 
 pub returns : goal.returns
 returns c =
     let a = c.args in
     let e : a.n ≡ c.loop-option.option = omega arith in
-    put_as c.loop-option.invariant.1 _ (ap (λ (k : ℕ). option_lines a.column 0 k (drop a.first (elements_of 4 a.totals.now))) e)
+    put_as c.loop-option.invariant _ (ap (λ (k : ℕ). option_lines a.column 0 k (drop a.first (elements_of 4 a.totals.now))) e)

@@ -8,4 +8,4 @@ use Rattle.listing.proofs.put_refusal.Goals as goal
 pub returns : goal.returns
 returns c =
     let word = put_run c.args.out.now 0 refused_text _ c.copy.ensures (omega (arith, c.requires)) in
-    put_as (put_on word c.put_number.ensures) _ (refusal_is c.args.n)
+    put_as (put_on word (rw c.number.ensures at c.put_number.ensures)) _ (refusal_is _)

@@ -21,4 +21,4 @@ pub returns : goal.returns
 returns c =
     let input = c.args.input.now in
     let t = text_joined_at input c.read_u16-size.result c.read_u16-size.ensures c.if-input-end.false in
-    lists input _ _ _ (put_as c.put_joined.ensures _ (t _ _ c.wide-servers.ensures c.read_u16-returns.ensures))
+    lists input _ _ _ (put_as c.put_joined.ensures _ (t _ _ c.from-servers.ensures c.read_u16-returns.ensures))

@@ -3,8 +3,8 @@ use Rattle.std.proofs.Common.{arith}
 use Rattle.loops.proofs.Running.{start, turn}
 use Rattle.loops.proofs.chain.Goals as goal
 
-pub loop-i-init : goal.loop-i-init
-loop-i-init c = (omega arith, start _ _)
+pub loop-place-init : goal.loop-place-init
+loop-place-init c = start _ _
 
-pub loop-i-preserved : goal.loop-i-preserved
-loop-i-preserved c = (omega arith, turn _ c.mul-acc.result c.loop-i.invariant.1 (omega arith) c.mul-acc.ensures)
+pub loop-place-preserved : goal.loop-place-preserved
+loop-place-preserved c = turn _ c.mul-acc.result c.loop-place.invariant (omega arith) c.mul-acc.ensures

@@ -7,22 +7,22 @@ use Rattle.loops.proofs.stretch.Goals as goal
 pub mul-by-requires : goal.mul-by-requires
 mul-by-requires c =
     let a = c.args in
-    let e = first_at a.s a.out.now a.k (a.k - 1) c.requires.out_value (omega arith) in
+    let e = first_at a.s a.out.now a.k (a.k - 1) c.requires.first_powers (omega arith) in
     (rw e (product_below (a.k - 1) (λ i. a.s)), omega arith)
 
 pub loop-i-init : goal.loop-i-init
 loop-i-init c =
     let a = c.args in
-    let e = c.requires.out_value in (
-      omega arith,
-      start _ _ _ _ (omega arith) (omega arith) e (factor_of a.s a.out.now a.k _ (omega arith) e c.mul-by.ensures),
-    )
+    let e = c.requires.first_powers in
+    start _ _ _ _ (omega arith) e (factor_of a.s a.out.now a.k _ (omega arith) e c.mul-by.ensures)
 
 pub mul-requires : goal.mul-requires
 mul-requires c =
     let l = c.loop-i in
     let a = c.args in
-    (rw (entry_at _ l.invariant.1) (product_below l.i (λ i. a.s)), rw l.invariant.1.factor (product_below a.k (λ i. a.s)))
+    let power_low = λ (n : _). product_below n (λ i. a.s) in
+    (rw (entry_at _ l.invariant (l.i - a.k) (omega arith)) (power_low (l.i - a.k)), rw l.invariant.factor (power_low a.k))
 
 pub loop-i-preserved : goal.loop-i-preserved
-loop-i-preserved c = (omega arith, turn _ c.loop-i.invariant.1 c.mul.result (omega arith) c.mul.ensures)
+loop-i-preserved c =
+    turn _ c.loop-i.invariant c.mul.result (omega arith) (omega arith) (omega arith) c.mul.ensures

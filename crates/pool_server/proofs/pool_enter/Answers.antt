@@ -3,7 +3,10 @@ use Rattle.pool_server.proofs.Facts.{enter_in_range, enters}
 use Rattle.pool_server.proofs.pool_enter.Goals as goal
 
 pub apply-requires : goal.apply-requires
-apply-requires c = enter_in_range c.args.id c.args.slots.now (rw c.copied-list.ensures at c.enter-change.ensures)
+apply-requires c =
+    rw c.ok.ensures.value (enter_in_range c.args.id c.args.slots.now _ (rw c.copied-list.ensures at c.enter-answer.ensures))
 
 pub returns : goal.returns
-returns c = enters c.args.id c.args.slots.now (rw c.copied-list.ensures at c.enter-change.ensures) c.apply.ensures
+returns c =
+    enters c.args.id c.args.slots.now _ (rw c.copied-list.ensures at c.enter-answer.ensures) (rw c.ok.ensures.value at c.apply.ensures)
+    c.number_of.ensures

@@ -7,4 +7,4 @@ pub returns : goal.returns
 unfolding written_of circuit_in
 returns c =
     let w = c.write.ensures in
-    writes _ _ _ _ _ _ _ _ _ w.0 w.1 c.hand_back.ensures.0 c.hand_back.ensures.1
+    writes _ _ _ _ _ _ _ _ _ w.0 w.1 c.hand_back.ensures.number c.hand_back.ensures.length

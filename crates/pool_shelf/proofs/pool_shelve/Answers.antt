@@ -5,4 +5,4 @@ use Rattle.pool_shelf.proofs.pool_shelve.Goals as goal
 pub returns : goal.returns
 returns c =
     let s = c.shelve.ensures in
-    writes _ _ _ _ _ _ _ _ _ s.answer_is s.out_is c.hand_back.ensures.0 c.hand_back.ensures.1
+    writes _ _ _ _ _ _ _ _ _ s.answer_is s.out_is c.hand_back.ensures.number c.hand_back.ensures.length

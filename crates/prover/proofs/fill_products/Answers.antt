@@ -6,7 +6,7 @@ use native.Mathlib.Omega.{arith}
 use lib.Dec.{lit<}
 use Rattle.field.specs.Residues.{residues}
 use Rattle.field.proofs.Below.{member_below}
-use Rattle.walk.proofs.Filling.{start, turn, finish}
+use Rattle.walk.proofs.Filling.{start, turn}
 use Rattle.prover.proofs.InPlace.{unfilled}
 use Rattle.prover.proofs.Shifts.{shift_below}
 use Rattle.prover.proofs.fill_products.Goals as goal
@@ -14,19 +14,15 @@ use Rattle.prover.proofs.fill_products.Goals as goal
 pub loop-j-init : goal.loop-j-init
 loop-j-init c = start _ _
 
-pub shift-requires : goal.shift-requires
-shift-requires c =
-    (c.requires.d_lt_prime.0, c.requires.d_lt_prime.1, c.requires.d_lt_prime.2, omega (arith, c.requires.elements.1, c.loop-j.invariant.same))
-
 pub add-requires : goal.add-requires
 add-requires c =
     let l = c.loop-j in
-    (rw (unfilled _ l.invariant) (member_below _ _ c.requires.elements.0), rw c.shift.ensures (shift_below _ _ _))
+    (rw (unfilled _ l.invariant) (member_below _ _ c.requires.1), rw c.shift.ensures (shift_below _ _ _))
 
 pub mul-requires : goal.mul-requires
 mul-requires c =
     let l = c.loop-j in
-    (rw (unfilled _ l.invariant) (member_below _ _ c.requires.elements.0), rw c.add.ensures (mod-lt _ (lit< tt)))
+    (rw (unfilled _ l.invariant) (member_below _ _ c.requires.1), rw c.add.ensures (mod-lt _ (lit< tt)))
 
 pub loop-j-preserved : goal.loop-j-preserved
 loop-j-preserved c =
@@ -35,9 +31,3 @@ loop-j-preserved c =
     turn _ c.mul.result l.invariant (omega (arith, l.invariant.same))
     (c.mul.ensures
     ∙ ap₂ residues.◌⊗◌ y (c.add.ensures ∙ ap₂ residues.◌⊕◌ y c.shift.ensures))
-
-pub shape_of-out : goal.shape_of-out
-shape_of-out c = omega (arith, c.loop-j.invariant.same)
-
-pub returns : goal.returns
-returns c = finish _ c.loop-j.invariant (omega (arith, c.loop-j.invariant.same))

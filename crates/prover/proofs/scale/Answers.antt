@@ -4,16 +4,12 @@ use native.Mathlib.Omega.{arith}
 use Rattle.field.specs.Residues.{residues}
 use Rattle.field.proofs.Below.{member_below}
 use Rattle.walk.specs.Walks.{members}
-use Rattle.walk.proofs.Filling.{start, turn, finish}
+use Rattle.walk.proofs.Filling.{start, turn}
 use Rattle.prover.proofs.Weighted.{weights_long, weight_at, weight_low}
 use Rattle.prover.proofs.scale.Goals as goal
 
 pub loop-j-init : goal.loop-j-init
 loop-j-init c = start _ _
-
-pub offset_bounds-weights-j : goal.offset_bounds-weights-j
-offset_bounds-weights-j c =
-    omega (arith, weights_long c.requires.weights.0, c.loop-j.invariant.same)
 
 pub bounds-weights-j : goal.bounds-weights-j
 bounds-weights-j c =
@@ -26,13 +22,8 @@ mul-requires c =
 pub loop-j-preserved : goal.loop-j-preserved
 loop-j-preserved c =
     let l = c.loop-j in
-    turn _ c.mul.result l.invariant (omega (arith, l.invariant.same))
-    (c.mul.ensures
+    turn _ c.from.result l.invariant (omega (arith, l.invariant.same))
+    (c.from.ensures
+    ∙ c.mul.ensures
     ∙ ap (residues.◌⊗◌ (members c.args.y.now l.j))
     (weight_at c.requires.weights.0 l.j (omega (arith, l.invariant.same))))
-
-pub shape_of-out : goal.shape_of-out
-shape_of-out c = omega (arith, c.loop-j.invariant.same)
-
-pub returns : goal.returns
-returns c = finish _ c.loop-j.invariant (omega (arith, c.loop-j.invariant.same))

@@ -7,6 +7,3 @@ use Rattle.prover.proofs.scale.Given as goal
 
 abbrev pub invariant-loop-j : goal.invariant-loop-j
 invariant-loop-j l = Filling (scaled_at (length l.initial.out - 1) l.y) l.initial.out l.out l.j
-
-abbrev pub decreases-loop-j : goal.decreases-loop-j
-decreases-loop-j l = length l.initial.out - l.j

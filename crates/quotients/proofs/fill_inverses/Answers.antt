@@ -5,4 +5,4 @@ use Rattle.quotients.proofs.Tested.{inverses_tested}
 use Rattle.quotients.proofs.fill_inverses.Goals as goal
 
 pub returns : goal.returns
-returns c = c.copy.ensures ∙ inverses_tested _ _ refl (lit< tt) c.requires
+returns c = c.copy_from_slice.ensures.after ∙ inverses_tested _ _ refl (lit< tt) c.requires

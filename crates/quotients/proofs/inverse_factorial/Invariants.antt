@@ -1,10 +1,10 @@
--- `quotients::inverse_factorial`: acc is 1 over i factorial, where i and n leave the same modulo 4.
-use Rattle.std.proofs.Common.{◌≡◌, ◌-◌, ◌%◌, ◌≤◌}
+-- `quotients::inverse_factorial`: acc is 1 over the factorial of the number of inverses so far.
+use Rattle.std.proofs.Common.{◌≡◌, ◌+◌, ◌*◌, ◌/◌}
 use Rattle.quotients.specs.Factorials.{inverse_factorial}
 use Rattle.quotients.proofs.inverse_factorial.Given as goal
 
-abbrev pub invariant-loop-i : goal.invariant-loop-i
-invariant-loop-i l = (l.i ≤ l.n) × (l.i % 4 ≡ l.n % 4) × (l.acc ≡ inverse_factorial l.i)
+abbrev pub invariant-loop-a : goal.invariant-loop-a
+invariant-loop-a l = l.acc ≡ inverse_factorial (l.a-index * 4)
 
-abbrev pub decreases-loop-i : goal.decreases-loop-i
-decreases-loop-i l = l.n - l.i
+abbrev pub invariant-loop-inverse : goal.invariant-loop-inverse
+invariant-loop-inverse l = l.acc ≡ inverse_factorial (l.n / 4 * 4 + l.inverse-index)

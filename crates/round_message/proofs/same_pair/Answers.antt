@@ -1,19 +1,13 @@
--- `round_message::same_pair` meets its contract. The test of r that led to the first return decides the definition; else it is the
--- test of s. Assumes nothing.
-use borrow.Author.Tests.{eq-eqb, ne_eqb}
+-- `round_message::same_pair` meets its contract: its tests are those of the definition. Assumes nothing.
+use native.Mathlib.Omega.{arith}
+use Rattle.std.proofs.lemmas.Grind.{common_steps}
 use Rattle.rules.specs.Messages.{same_pair}
 use Rattle.round_message.proofs.same_pair.Goals as goal
 
 pub returns-then-element : goal.returns-then-element
 unfolding same_pair
-returns-then-element c =
-    simp (ne_eqb _ _ (rw (c.element.ensures, c.element-2.ensures) at c.if-element.true))
+returns-then-element c = grind (arith, common_steps)
 
-pub returns : goal.returns
+pub returns-else-element : goal.returns-else-element
 unfolding same_pair
-returns c =
-    simp (
-      eq-eqb _ _ (rw (c.element.ensures, c.element-2.ensures) at c.if-element.false),
-      c.element-3.ensures,
-      c.element-4.ensures,
-    )
+returns-else-element c = grind (arith, common_steps)

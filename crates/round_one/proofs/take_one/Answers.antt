@@ -22,6 +22,6 @@ sigma_of-sigma-requires c =
 pub returns : goal.returns
 unfolding summed_slot message_at
 returns c = (
-  rw (c.element_sum-d.ensures, c.element_sum-e.ensures) refl,
+  rw (c.from.ensures, c.from-2.ensures, c.element_sum-d.ensures, c.element_sum-e.ensures) refl,
   rw (c.sigma_of-sigma.ensures, c.element_sum-d.ensures, c.element_sum-e.ensures) at c.write_two.ensures,
 )

@@ -1,18 +1,13 @@
--- `round_two::verdict` meets its contract: one sum, then the other (`first_not`, `second_not`, `both_zero_lem`). Assumes nothing.
-use Rattle.round_two.proofs.SecondRound.{first_not, second_not, both_zero_lem}
+-- `round_two::verdict` meets its contract: it is the test of one sum, then of the other. Assumes nothing.
+use borrow.Author.Tests.{ne_eqb}
+use Rattle.rules.specs.Messages.{both_zero}
 use Rattle.round_two.proofs.verdict.Goals as goal
 
-pub returns-then-element_sum-ne0 : goal.returns-then-element_sum-ne0
-returns-then-element_sum-ne0 c =
-    let a = c.args in
-    first_not a.servers a.joined.now _ c.element_sum.ensures c.if-element_sum-ne0.true
+pub returns-then-element_sum-eq0 : goal.returns-then-element_sum-eq0
+unfolding both_zero
+returns-then-element_sum-eq0 c =
+    rw (← c.element_sum.ensures, ← c.element_sum-then-element_sum-eq0.ensures, c.if-element_sum-eq0.true)
 
-pub returns-then-element_sum-ne0-2 : goal.returns-then-element_sum-ne0-2
-returns-then-element_sum-ne0-2 c =
-    let a = c.args in
-    second_not a.servers a.joined.now _ c.element_sum.ensures c.if-element_sum-ne0.false _ c.element_sum-2.ensures c.if-element_sum-ne0-2.true
-
-pub returns : goal.returns
-returns c =
-    let a = c.args in
-    both_zero_lem a.servers a.joined.now _ c.element_sum.ensures c.if-element_sum-ne0.false _ c.element_sum-2.ensures c.if-element_sum-ne0-2.false
+pub returns-else-element_sum-eq0 : goal.returns-else-element_sum-eq0
+unfolding both_zero
+returns-else-element_sum-eq0 c = rw (← c.element_sum.ensures, ne_eqb c.element_sum.result 0 c.if-element_sum-eq0.false)

@@ -1,59 +1,29 @@
--- `seeds::fill` meets its contract. The loop's invariant: `count` blocks are done, up to place `at`, which is the end or a
--- block's start; the state differs from the first in its count only; the buffer holds the stream up to `at` (`turn`). The
--- measure is what is left of the buffer. Assumes nothing.
-use mathlib.Core.Path.{◌≡◌, refl, ◌∙◌}
-use Prim.Native.Nat.{ℕ, ◌+◌, ◌-◌, ◌<◌}
-use native.Mathlib.Omega.{arith}
-use borrow.Rule.Slice.PartMut.{same_len_mid}
-use lib.ListN.{length, length-set}
+-- `seeds::fill`: one more block is put there (`turn`), and at the end all are. Assumes nothing.
+use Rattle.std.proofs.Common.{◌≡◌, ◌*◌, min, length, refl, ◌∙◌, arith}
 use lib.Seq.{set-set}
 use Rattle.algebra.proofs.Tables.{fill_none, fill_all}
 use Rattle.seeds.specs.Filling.{streamed}
-use Rattle.seeds.proofs.Filling.{some, done_next, turn}
+use Rattle.seeds.proofs.Filling.{turn, blocks_left, blocks_done}
 use Rattle.seeds.proofs.fill.Goals as goal
 
-less : (n a z : ℕ) → a < n → 0 < z → n - (a + z) < n - a
-less n a z h s = omega arith
+pub loop-count-init : goal.loop-count-init
+loop-count-init c =
+    let z : min (length c.args.out.now) 0 ≡ 0 = omega arith in
+    ((λ v. refl), rw z (fill_none (streamed c.args.s.now) c.args.out.now))
 
-pub loop-at-init : goal.loop-at-init
-loop-at-init c = (
-  omega arith,
-  omega (arith, c.requires),
-  refl,
-  (λ v. refl),
-  fill_none (streamed c.args.s.now) c.args.out.now,
-)
-
-pub loop-at-smaller : goal.loop-at-smaller
-loop-at-smaller c =
+pub loop-count-preserved : goal.loop-count-preserved
+loop-count-preserved c =
     let n = length c.args.out.now in
-    let k = c.loop-at.count in
-    let at = c.loop-at.at in
-    let z = c.block_part.result in
-    let h : at < n = c.loop-at-test.true in
-    let p : z ≡ n - at - (n - at - 16) = c.block_part.ensures in
-    let s : 0 < z = some n k at z c.loop-at.invariant.0 h p in
-    less n at z h s
-
-pub loop-at-preserved : goal.loop-at-preserved
-loop-at-preserved c =
-    let n = length c.args.out.now in
-    let k = c.loop-at.count in
-    let at = c.loop-at.at in
-    let z = c.block_part.result in
-    let h : at < n = c.loop-at-test.true in
-    let p : z ≡ n - at - (n - at - 16) = c.block_part.ensures in
-    let b = c.fill_block in (
-      done_next n k at z c.loop-at.invariant.0 h p,
-      length-set c.loop-at.s 12 k ∙ c.loop-at.invariant.1,
-      same_len_mid at (at + z - at) c.loop-at.out b.new.out b.auto.out ∙ c.loop-at.invariant.2,
-      (λ v. set-set c.loop-at.s 12 k v ∙ c.loop-at.invariant.3 v),
-      turn n k at z c.loop-at.invariant.0 h p c.args.s.now c.loop-at.s c.args.out.now c.loop-at.out
-          b.new.out refl
-          c.loop-at.invariant.2 c.loop-at.invariant.3 c.loop-at.invariant.4 b.ensures,
+    let k = c.loop-count.count in (
+      (λ v. set-set c.loop-count.s 12 k v ∙ c.loop-count.invariant.0 v),
+      turn n k c.min-end.result (blocks_left n k _ c.div_ceil-count-end.ensures c.loop-count-test.true) c.min-end.ensures
+          c.args.s.now c.loop-count.s c.args.out.now c.loop-count.out c.fill_block.new.out (omega arith)
+          c.loop-count.invariant.0 c.loop-count.invariant.1 c.fill_block.ensures,
     )
 
 pub returns : goal.returns
 returns c =
-    fill_all (streamed c.args.s.now) c.args.out.now c.loop-at.out c.loop-at.at
-    (omega arith) (omega arith) c.loop-at.invariant.4
+    let n = length c.args.out.now in
+    let z : min n (16 * c.loop-count.count) ≡ n = blocks_done n _ _ c.div_ceil-count-end.ensures c.loop-count-test.false in
+    fill_all (streamed c.args.s.now) c.args.out.now c.loop-count.out n (omega arith) (omega arith)
+    (rw z at c.loop-count.invariant.1)

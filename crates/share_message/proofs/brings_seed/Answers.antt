@@ -1,22 +1,26 @@
--- `share_message::brings_seed` meets its contract: an empty message has no kind byte (`brings_none`), and of another the test is the
--- definition's. Assumes nothing.
-use mathlib.Core.Path.{◌≡◌, refl}
-use mathlib.Core.Bool.{false}
+-- `share_message::brings_seed` meets its contract: an empty message has no kind byte, and of another the test is the
+-- definition's (`first_is`). Assumes nothing.
+use mathlib.Core.Path.{◌≡◌, refl, ◌∙◌}
+use mathlib.Core.Bool.{Bool}
 use mathlib.Core.List.{List, [], ◌∷◌}
 use Prim.Native.Nat.{ℕ}
-use native.Mathlib.Omega.{arith}
-use lib.ListN.{length}
+use lib.Dec.{eqb}
+use Rattle.std.specs.Prelude.{Option, Some, None, slice_get, option_copied}
+use Rattle.std.specs.Borrow.{Bor}
+use Rattle.std.specs.Option.{option_eq}
 use Rattle.rules.specs.Messages.{brings_seed}
 use Rattle.share_message.proofs.brings_seed.Goals as goal
 
-brings_none : (m : List ℕ) → length m ≡ 0 → false ≡ brings_seed m
-unfolding brings_seed
-brings_none [] e = refl
-brings_none (x ∷ m) e = absurd (omega arith)
+abbrev same : Bor ℕ → Bor ℕ → Bool
+same x y = eqb x.now y.now
 
-pub returns-then-m-eq0 : goal.returns-then-m-eq0
-returns-then-m-eq0 c = brings_none c.args.m.now c.if-m-eq0.true
+first_is : (m : List ℕ) (r : Option (Bor ℕ)) (k : Bor ℕ) → option_copied r ≡ slice_get m 0 → k.now ≡ 38
+    → option_eq same r (Some k) ≡ brings_seed m
+unfolding brings_seed
+first_is [] None k e s = refl
+first_is [] (Some x) k e s = cc
+first_is (a ∷ m) None k e s = cc
+first_is (a ∷ m) (Some x) k e s = let f : x.now ≡ a = cc in rw (s, f) refl
 
 pub returns : goal.returns
-unfolding brings_seed
-returns c = refl
+returns c = c.eq.ensures ∙ first_is c.args.m.now c.first.result _ c.first.ensures.value refl

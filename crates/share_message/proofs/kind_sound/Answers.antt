@@ -7,6 +7,6 @@ pub returns-then-brings_seed : goal.returns-then-brings_seed
 unfolding kind_sound_at
 returns-then-brings_seed c = rw (sym c.brings_seed.ensures ∙ c.if-brings_seed.true) c.seed_sound.ensures
 
-pub returns : goal.returns
+pub returns-else-brings_seed : goal.returns-else-brings_seed
 unfolding kind_sound_at
-returns c = rw (sym c.brings_seed.ensures ∙ c.if-brings_seed.false) c.long_sound.ensures
+returns-else-brings_seed c = rw (sym c.brings_seed.ensures ∙ c.if-brings_seed.false) c.long_sound.ensures

@@ -6,8 +6,8 @@ use Rattle.share_message.proofs.long_sound.Goals as goal
 
 pub returns-then-m-size : goal.returns-then-m-size
 unfolding long_sound
-returns-then-m-size c = rw (ne_eqb _ _ c.if-m-size.true)
+returns-then-m-size c = rw (eq-eqb _ _ c.if-m-size.true) refl
 
-pub returns : goal.returns
+pub returns-else-m-size : goal.returns-else-m-size
 unfolding long_sound
-returns c = rw (eq-eqb _ _ c.if-m-size.false) refl
+returns-else-m-size c = rw (ne_eqb _ _ c.if-m-size.false)

@@ -1,63 +1,54 @@
 -- `shares::share` meets its contract: an unsound table and a refusal leave all as it was (`share_unsound`, `share_refused_lem`);
 -- a share that no check refuses is what taking asks for (`takable`), and what it writes is what rules say (`share_done`).
 -- Assumes nothing.
-use mathlib.Core.Path.{sym, ◌∙◌}
+use mathlib.Core.Path.{refl, sym}
 use native.Mathlib.Omega.{arith}
 use Rattle.waiting.specs.Changes.{lent}
 use Rattle.table.proofs.Answers.{sound}
 use Rattle.shares.proofs.Sharing.{standing, share_unsound, share_refused_lem, share_done, takable}
 use Rattle.shares.proofs.share.Goals as goal
 
+pub returns-in_err-k : goal.returns-in_err-k
+returns-in_err-k c =
+    let a = c.args in
+    let T = lent a.table.now a.list a.numbers.now in
+    share_unsound T a.m.now a.r a.s a.out.now _ _ c.from_residual.ensures.1 c.in_err-k.ensures
+
 pub share_size-requires : goal.share_size-requires
 share_size-requires c =
     let a = c.args in
-    let T = lent a.table.now a.list a.numbers.now in
-    let sound_table = sound T c.in-Table.k (sym c.read.ensures ∙ c.in-Table.is) in
-    sound_table.limited
+    let s = sound (lent a.table.now a.list a.numbers.now) c.in_ok-k.k (sym c.in_ok-k.ensures) in
+    s.limited
 
 pub share_part-x-requires : goal.share_part-x-requires
 share_part-x-requires c =
     let a = c.args in
-    let T = lent a.table.now a.list a.numbers.now in
-    let sound_table = sound T c.in-Table.k (sym c.read.ensures ∙ c.in-Table.is) in
-    omega (arith, c.share_size.ensures, sound_table.limited)
+    let s = sound (lent a.table.now a.list a.numbers.now) c.in_ok-k.k (sym c.in_ok-k.ensures) in
+    omega (arith, c.share_size.ensures, s.limited)
 
-pub share_refusal-refusal-requires : goal.share_refusal-refusal-requires
-share_refusal-refusal-requires c =
+pub check_share-requires : goal.check_share-requires
+check_share-requires c =
     let a = c.args in
     let T = lent a.table.now a.list a.numbers.now in
-    let sound_table = sound T c.in-Table.k (sym c.read.ensures ∙ c.in-Table.is) in
-    (standing T _ sound_table, rw c.share_size.ensures at c.share_part-x.ensures)
+    (standing T _ (sound T c.in_ok-k.k (sym c.in_ok-k.ensures)), rw c.share_size.ensures at c.share_part-x.ensures)
 
-pub returns-then-refusal-ne0 : goal.returns-then-refusal-ne0
-returns-then-refusal-ne0 c =
+pub returns-in_err-check_share : goal.returns-in_err-check_share
+returns-in_err-check_share c =
     let a = c.args in
     let T = lent a.table.now a.list a.numbers.now in
-    let sound_table = sound T c.in-Table.k (sym c.read.ensures ∙ c.in-Table.is) in
-    let x = c.share_refusal-refusal in
-    share_refused_lem T a.m.now a.r a.s a.out.now a.written.now _ sound_table x.result (x.ensures T.elements)
-    c.if-refusal-ne0.true c.refused-then-refusal-ne0.result c.refused-then-refusal-ne0.ensures
+    share_refused_lem T a.m.now a.r a.s a.out.now _ (sound T c.in_ok-k.k (sym c.in_ok-k.ensures)) _ _
+    c.from_residual-in_err-check_share.ensures.1 (c.in_err-check_share.ensures T.elements)
 
 pub take-requires : goal.take-requires
 take-requires c =
     let a = c.args in
     let T = lent a.table.now a.list a.numbers.now in
-    let sound_table = sound T c.in-Table.k (sym c.read.ensures ∙ c.in-Table.is) in
-    let x = c.share_refusal-refusal in
-    takable T a.m.now a.r a.s a.out.now a.written.now _ sound_table x.result (x.ensures T.elements)
-    c.if-refusal-ne0.false _ (rw c.share_size.ensures at c.share_part-x.ensures)
+    takable T a.m.now a.r a.s a.out.now _ (sound T c.in_ok-k.k (sym c.in_ok-k.ensures)) 0 (c.in_ok-check_share.ensures T.elements) refl
+    _ (rw c.share_size.ensures at c.share_part-x.ensures)
 
-pub returns-in-Refused : goal.returns-in-Refused
-returns-in-Refused c =
-    let a = c.args in
-    share_unsound (lent a.table.now a.list a.numbers.now) a.m.now a.r a.s a.out.now a.written.now _ (sym c.read.ensures ∙ c.in-Refused.is)
-    c.refused.result c.refused.ensures
-
-pub returns-else-refusal-ne0 : goal.returns-else-refusal-ne0
-returns-else-refusal-ne0 c =
+pub returns : goal.returns
+returns c =
     let a = c.args in
     let T = lent a.table.now a.list a.numbers.now in
-    let sound_table = sound T c.in-Table.k (sym c.read.ensures ∙ c.in-Table.is) in
-    let x = c.share_refusal-refusal in
-    share_done T a.m.now a.r a.s a.out.now a.written.now _ sound_table x.result (x.ensures T.elements)
-    c.if-refusal-ne0.false c.take.result _ _ c.take.ensures
+    share_done T a.m.now a.r a.s a.out.now _ (sound T c.in_ok-k.k (sym c.in_ok-k.ensures)) 0 (c.in_ok-check_share.ensures T.elements) refl
+    c.take.result _ _ c.take.ensures

@@ -10,10 +10,10 @@ use Rattle.columns.specs.Counting.{Small}
 use Rattle.sheet.proofs.Reader.{Tracks}
 use Rattle.sheet.proofs.read.Given as goal
 
-abbrev pub invariant-columns : goal.invariant-columns
-invariant-columns l =
+abbrev pub invariant-loop-at : goal.invariant-loop-at
+invariant-loop-at l =
     (l.at ≤ length l.s) × Small 320 l.counts
     × ((done : List Column) × Tracks l.counts done × (read column_format l.s ≡ read_from column_format (drop l.at l.s) 0 done))
 
-abbrev pub decreases-columns : goal.decreases-columns
-decreases-columns l = length l.s - l.at
+abbrev pub decreases-loop-at : goal.decreases-loop-at
+decreases-loop-at l = length l.s - l.at

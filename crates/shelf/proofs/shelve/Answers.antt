@@ -1,22 +1,22 @@
--- `shelf::shelve` meets its contract: a refusal leaves the buffer, and without one every byte can be moved and is.
--- Assumes nothing.
-use mathlib.Core.Path.{sym, ◌∙◌}
+-- `shelf::shelve`: a refusal leaves the buffer, and without one every byte can be moved and is. Assumes nothing.
+use Rattle.std.proofs.Common.{sym}
+use Rattle.records.proofs.Refusals.{outcome_passed}
 use Rattle.shelf.proofs.Refusals.{taken}
 use Rattle.shelf.proofs.Answers.{is_refused, is_done}
 use Rattle.shelf.proofs.Grids.{storable, stored}
 use Rattle.shelf.proofs.shelve.Goals as goal
 
-pub returns-then-refusal-ne0 : goal.returns-then-refusal-ne0
-returns-then-refusal-ne0 c = is_refused _ _ _ _ _ _ c.shelf_refusal-refusal.ensures c.if-refusal-ne0.true
+pub returns-in_err-check_shelf : goal.returns-in_err-check_shelf
+returns-in_err-check_shelf c =
+    is_refused _ _ _ _ _ _ _ (outcome_passed _ _ c.from_residual.ensures.1) c.in_err-check_shelf.ensures
 
 pub move_all-requires : goal.move_all-requires
 move_all-requires c =
-    let t = taken _ _ _ _ (sym c.shelf_refusal-refusal.ensures ∙ c.if-refusal-ne0.false) in
+    let t = taken _ _ _ _ (sym c.in_ok-check_shelf.ensures) in
     rw (c.by_message.ensures, c.by_place.ensures) (storable _ _ _ _ t.0 t.1)
 
 pub returns : goal.returns
 returns c =
-    let z = sym c.shelf_refusal-refusal.ensures ∙ c.if-refusal-ne0.false in
-    let t = taken _ _ _ _ z in
-    is_done _ _ _ _ _ _ z t.0 _
+    let t = taken _ _ _ _ (sym c.in_ok-check_shelf.ensures) in
+    is_done _ _ _ _ _ _ (sym c.in_ok-check_shelf.ensures) t.0 _
     (stored _ _ _ _ _ t.1 (rw (c.by_message.ensures, c.by_place.ensures) at c.move_all.ensures))

@@ -1,11 +1,10 @@
--- `slots::copied`: eight records are read one by one, another list as eight broken ones. Assumes nothing.
-use mathlib.Core.Path.{sym, ◌∙◌}
+-- `slots::copied`: eight records are read as they are, another list as eight broken ones. Assumes nothing.
+use Rattle.std.proofs.Common.{sym, ◌∙◌}
 use Rattle.slots.proofs.Eight.{eight_is, eight_broken}
-use Rattle.slots.proofs.Places.{eight}
 use Rattle.slots.proofs.copied.Goals as goal
 
-pub returns-then-slots-ne8 : goal.returns-then-slots-ne8
-returns-then-slots-ne8 c = c.broken.ensures ∙ sym (eight_broken c.args.slots.now c.if-slots-ne8.true)
+pub returns-then-slots-eq8 : goal.returns-then-slots-eq8
+returns-then-slots-eq8 c = c.copy_from_slice.ensures.after ∙ sym (eight_is c.args.slots.now c.if-slots-eq8.true)
 
-pub returns : goal.returns
-returns c = eight c.args.slots.now c.if-slots-ne8.false ∙ sym (eight_is c.args.slots.now c.if-slots-ne8.false)
+pub returns-else-slots-eq8 : goal.returns-else-slots-eq8
+returns-else-slots-eq8 c = sym (eight_broken c.args.slots.now c.if-slots-eq8.false)

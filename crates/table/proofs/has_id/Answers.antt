@@ -1,30 +1,20 @@
--- `table::has_id` meets its contract. The loop's invariant: the id is one of those before `at`, or of those from there
--- on (`id_next`); the measure is what is left of the slice. Assumes nothing.
-use mathlib.Core.Path.{refl, sym, ◌∙◌}
-use borrow.Author.Rules.{rules}
-use Rattle.table.proofs.Ids.{id_next, id_found, id_end}
+-- `table::has_id`: one more id is the one or not (`id_next`); at the end none is left. Assumes nothing.
+use Rattle.std.proofs.Common.{◌≡◌, ◌/◌, length, get_or, sym, ◌∙◌, arith}
+use Rattle.words.specs.Bytes.{elements_of}
+use Rattle.words.proofs.Elements.{length_elements, element_at_lem}
+use Rattle.table.proofs.Ids.{id_next, id_end}
 use Rattle.table.proofs.has_id.Goals as goal
-use Rattle.table.proofs.has_id.Goals.{then-read_u32-id, else-read_u32-id}
 
-pub loop-at-init : goal.loop-at-init
-loop-at-init c = (search rules, refl)
-
-pub loop-at-preserved : goal.loop-at-preserved
-loop-at-preserved c =
-    let s = c.args.ids.now in
-    let l = c.loop-at in
-    let h = c.loop-at-test.true in (
-      search rules,
-      l.invariant.1
-          ∙ elim c.if-read_u32-id.branch [
-            | then-read_u32-id w ↦
-                rw w.found-is (id_found c.args.id s l.at l.found h (rw c.read_u32.ensures at w.if-read_u32-id.true))
-            | else-read_u32-id w ↦
-                rw w.found-is (id_next c.args.id s l.at l.found h (rw c.read_u32.ensures at w.if-read_u32-id.false))
-          ],
-    )
+pub loop-k-preserved : goal.loop-k-preserved
+loop-k-preserved c =
+    let xs = elements_of 4 c.args.ids.now in
+    let k = c.loop-k.k in
+    let n : length xs ≡ length c.args.ids.now / 4 = length_elements 4 c.args.ids.now in
+    let e : c.read_u32.result ≡ get_or xs k 0 = c.read_u32.ensures ∙ sym (element_at_lem 4 c.args.ids.now k c.loop-k-test.true) in
+    rw e (c.loop-k.invariant ∙ id_next c.args.id xs k c.loop-k.found (omega arith))
 
 pub returns : goal.returns
 returns c =
-    sym (c.loop-at.invariant.1
-    ∙ id_end c.args.id c.args.ids.now c.loop-at.at c.loop-at.found c.loop-at-test.false)
+    let xs = elements_of 4 c.args.ids.now in
+    let n : length xs ≡ length c.args.ids.now / 4 = length_elements 4 c.args.ids.now in
+    sym (c.loop-k.invariant ∙ id_end c.args.id xs c.loop-k.k c.loop-k.found (omega arith))

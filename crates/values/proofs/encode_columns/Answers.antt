@@ -1,30 +1,36 @@
--- `values::encode_columns` meets its contract. The loop's invariant: the columns before the cursor stand encoded at the
--- front of `out`, up to the cursor's entry (`encoding_next`); the measure is what is left of the columns. Assumes nothing.
+-- `values::encode_columns` meets its contract. The loop's invariant: the columns before the walk's place stand encoded at the
+-- front of `out`, up to that place's entry (`encoding_next`). Assumes nothing.
 use mathlib.Core.Path.{◌≡◌, refl, sym, ap, ap₂, ◌∙◌}
 use mathlib.Core.List.{List}
-use Prim.Native.Nat.{ℕ, ◌+◌, ◌≤◌, ◌<◌}
+use Prim.Native.Nat.{ℕ, ◌+◌, ◌-◌, ◌≤◌}
 use native.Mathlib.Nat.{zero-add}
 use native.Mathlib.Numerals.{add-one}
 use native.Mathlib.Omega.{arith}
 use borrow.Author.Rules.{rules}
+use borrow.Rule.Slice.PartMut.{mid_len}
 use lib.ListN.{length, get_or, take}
 use lib.Seq.{take_all}
 use Rattle.algebra.specs.Lists.{tabulate}
+use Rattle.algebra.proofs.Tables.{length_tabulate}
 use Rattle.words.specs.Bytes.{splice, elements_of}
 use Rattle.words.proofs.Splice.{splice_none}
-use Rattle.words.proofs.Loops.{grow}
+use Rattle.words.proofs.Loops.{grow, part_put}
 use Rattle.rules.specs.Columns.{Column, yes_no, entries_of, columns_of}
 use Rattle.rules.specs.Values.{encoded, encoding}
 use Rattle.columns.specs.Kinds.{from_code}
 use Rattle.sheet.specs.declared.cursor.Cursor.{Cursor}
+use Rattle.sheet.specs.declared.cursor.Place.{Place}
 use Rattle.sheet.specs.declared.cursor.Step.{Step}
+use Rattle.sheet.specs.declared.cursor.Walk.{Walk}
 use Rattle.sheet.specs.Cursor.{Stands, step_at}
+use Rattle.sheet.specs.Walk.{Passes}
 use Rattle.values.specs.Encode.{Encodable}
 use Rattle.sheet.proofs.Cursors.{place}
-use Rattle.sheet.proofs.Walks.{walk_start, stands_by_place, walk_end, walk_next, next_index, column_seen, column_limited}
+use Rattle.sheet.proofs.Walks.{next_index, column_seen, column_limited, passed, ended}
 use Rattle.values.proofs.Encodings.{count_values, encoding_next, encoding_long}
 use Rattle.values.proofs.encode_columns.Invariants.{up_to}
 use Rattle.values.proofs.encode_columns.Goals as goal
+use Rattle.values.proofs.encode_columns.Goals.{In-Some}
 
 none_yet : (s values d : List ℕ) → d ≡ up_to s values d 0
 unfolding encoding
@@ -61,49 +67,91 @@ module _
         ∙ ap (splice d 0) (sym (encoding_next cs vs k h.within (omega (arith, h.within))))
         ∙ ap (up_to s values d) (sym (next_index h r e ∙ add-one k))
 
-pub loop-c-init : goal.loop-c-init
-loop-c-init c =
-    let n = none_yet c.args.s.now c.args.values.now c.args.out.now in
-    (walk_start _ _ c.start-c.ensures, rw c.start-c.ensures n, refl)
+-- the entries of the column passed
+entries_passed : {s : List ℕ} {c c' : Cursor} {p : Place} → Passes s c p c' → p.after.entry ≡ p.before.entry + entries_of (from_code p.column)
+entries_passed {s} {c} {c'} {p} t =
+    let h = t.stands in
+    let last : c'.entry ≡ c.entry + entries_of (get_or (columns_of s) c.index yes_no) =
+    ap (λ (x : Step). x.next.entry) t.step_is ∙ ap (λ (x : Cursor). x.entry) (place h).next_is in
+    let same : entries_of (from_code p.column) ≡ entries_of (get_or (columns_of s) c.index yes_no) =
+    ap entries_of (column_seen h _ t.step_is) in
+    omega (arith, last, same, ap (λ (x : Cursor). x.entry) t.after_is, ap (λ (x : Cursor). x.entry) t.before_is)
 
-pub next-step-requires : goal.next-step-requires
-next-step-requires c =
-    let stands : c.loop-c.c.at < length c.args.s.now
-    → Stands c.args.s.now c.loop-c.c =
-    λ h. stands_by_place _ _ c.requires.is_read c.loop-c.invariant.0 h in stands c.loop-c-test.true
+-- a place's entries lie within the buffer
+record Room (p : Place) (out : List ℕ) : Type 0 where
+  span : p.after.entry ≡ p.before.entry + entries_of (from_code p.column)
+  fits : p.before.entry + entries_of (from_code p.column) ≤ length out
+
+-- the column passed
+here : (c : In-Some) → Passes c.args.s.now c.loop-place.place-iterator.next c.in-Some.place c.next.new.self.next
+here c = passed c.loop-place.invariant.2 c.in-Some.ensures.steps.1
+
+pub loop-place-init : goal.loop-place-init
+loop-place-init c =
+    let n = none_yet c.args.s.now c.args.values.now c.args.out.now in
+    let g = c.into_iter-place-iterator.ensures.into_iter_gives in
+    let b = ap (λ (x : Walk). x.next.index) g ∙ ap (λ (x : Cursor). x.index) c.columns-place-items.ensures.next in (
+      tt,
+      tt,
+      ap (λ (x : Walk). x.sheet.now) g ∙ c.columns-place-items.ensures.sheet,
+      n ∙ ap (up_to c.args.s.now c.args.values.now c.args.out.now) (sym b),
+      refl,
+    )
 
 pub at-v-requires : goal.at-v-requires
 at-v-requires c =
-    let stands : c.loop-c.c.at < length c.args.s.now
-    → Stands c.args.s.now c.loop-c.c =
-    λ h. stands_by_place _ _ c.requires.is_read c.loop-c.invariant.0 h in let h = stands c.loop-c-test.true in
-    omega (arith, h.within, c.requires.a_value_each)
+    let p = here (goal.at.at-v-requires c).In-Some in
+    let i = ap (λ (x : Cursor). x.index) p.before_is in
+    omega (arith, p.stands.within, c.requires.a_value_each, i)
+
+-- the buffer has room for its entries
+room : (c : In-Some) → Room c.in-Some.place c.loop-place.out
+room c =
+    let p = here c in
+    let w = within _ _ c.requires p.stands _ p.step_is in
+    let i = ap (λ (x : Cursor). x.entry) p.before_is in
+    record { span = entries_passed p; fits = omega (arith, w, c.loop-place.invariant.4, i) }
+
+pub offset_bounds-out-place : goal.offset_bounds-out-place
+offset_bounds-out-place c =
+    let p = here (goal.at.offset_bounds-out-place c).In-Some in
+    let q = place p.stands in
+    let i = ap (λ (x : Cursor). x.entry) p.before_is in
+    omega arith
+
+pub slice_bounds-encode_column-count : goal.slice_bounds-encode_column-count
+slice_bounds-encode_column-count c = let r = room (goal.at.slice_bounds-encode_column-count c).In-Some in omega arith
+
+pub slice_bounds-encode_column-start : goal.slice_bounds-encode_column-start
+slice_bounds-encode_column-start c = let r = room (goal.at.slice_bounds-encode_column-start c).In-Some in omega arith
+
+pub slice_bounds-encode_column-end : goal.slice_bounds-encode_column-end
+slice_bounds-encode_column-end c = let r = room (goal.at.slice_bounds-encode_column-end c).In-Some in omega arith
 
 pub encode_column-requires : goal.encode_column-requires
 encode_column-requires c =
-    let stands : c.loop-c.c.at < length c.args.s.now
-    → Stands c.args.s.now c.loop-c.c =
-    λ h. stands_by_place _ _ c.requires.is_read c.loop-c.invariant.0 h in let h = stands c.loop-c-test.true in
-    let e = c.next-step.ensures in
-    let w = within _ _ c.requires h _ e in
-    (omega (arith, w, c.loop-c.invariant.2), column_limited h _ e)
+    let p = here (goal.at.encode_column-requires c).In-Some in
+    let r = room (goal.at.encode_column-requires c).In-Some in
+    let k = c.in-Some.place in
+    (mid_len k.before.entry k.after.entry c.loop-place.out (omega arith) ∙ omega arith, column_limited p.stands _ p.step_is)
 
-pub loop-c-smaller : goal.loop-c-smaller
-loop-c-smaller c =
-    let stands : c.loop-c.c.at < length c.args.s.now
-    → Stands c.args.s.now c.loop-c.c =
-    λ h. stands_by_place _ _ c.requires.is_read c.loop-c.invariant.0 h in let h = stands c.loop-c-test.true in
-    omega (arith, next_index h _ c.next-step.ensures, h.within)
-
-pub loop-c-preserved : goal.loop-c-preserved
-loop-c-preserved c =
-    let stands : c.loop-c.c.at < length c.args.s.now
-    → Stands c.args.s.now c.loop-c.c =
-    λ h. stands_by_place _ _ c.requires.is_read c.loop-c.invariant.0 h in let h = stands c.loop-c-test.true in
-    let e = c.next-step.ensures in (
-      walk_next h _ e,
-      one_more_lem _ _ c.requires h _ e _ _ _ c.loop-c.invariant.1 c.at-v.ensures
-          c.encode_column.ensures,
+pub loop-place-preserved : goal.loop-place-preserved
+loop-place-preserved c =
+    let p = here (goal.at.loop-place-preserved c).In-Some in
+    let v = c.at-v.ensures ∙ ap (λ (x : Cursor). get_or (elements_of 4 c.args.values.now) x.index 0) p.before_is in
+    let r = room (goal.at.loop-place-preserved c).In-Some in
+    let k = c.in-Some.place in
+    let a = from_code k.column in
+    let e = tabulate (encoded a c.at-v.result) (entries_of a) in
+    let l : length c.encode_column.new.out ≡ k.after.entry - k.before.entry =
+    omega (arith, ap length c.encode_column.ensures, length_tabulate (encoded a c.at-v.result) (entries_of a)) in
+    let o = part_put k.before.entry k.after.entry c.loop-place.out c.encode_column.new.out (omega arith) (omega arith) l
+    ∙ ap (splice c.loop-place.out k.before.entry) c.encode_column.ensures
+    ∙ ap (λ (x : Cursor). splice c.loop-place.out x.entry e) p.before_is in (
+      tt,
+      tt,
+      c.in-Some.ensures.steps.0 ∙ c.loop-place.invariant.2,
+      one_more_lem _ _ c.requires p.stands _ p.step_is _ _ _ c.loop-place.invariant.3 v o,
       search rules,
     )
 
@@ -111,9 +159,9 @@ pub returns : goal.returns
 returns c =
     let s = c.args.s.now in
     let values = c.args.values.now in
-    let k = c.loop-c.c.index in
-    let e = walk_end _ _ c.requires.is_read c.loop-c.invariant.0 c.loop-c-test.false in
+    let k = c.loop-place.place-iterator.next.index in
+    let e = ended c.loop-place.invariant.2 c.in-None.ensures.steps.1.0 in
     let n = count_values values (length (columns_of s)) c.requires.a_value_each in
-    c.loop-c.invariant.1
+    c.loop-place.invariant.3
     ∙ ap₂ (λ (x : List Column) (y : List ℕ). splice c.args.out.now 0 (encoding x y))
     (take_all k (columns_of s) (omega arith)) (take_all k (elements_of 4 values) (omega arith))

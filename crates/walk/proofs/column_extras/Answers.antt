@@ -13,6 +13,7 @@ use Rattle.columns.specs.declared.Column.TheVariants as kind
 use Rattle.columns.specs.Kinds.{from_code}
 use Rattle.walk.specs.Walks.{members}
 use Rattle.walk.proofs.BitsOnly.{extras_bits}
+use Rattle.walk.proofs.Storing.{zeros}
 use Rattle.walk.proofs.column_extras.Goals as goal
 
 -- the kinds of the first arm
@@ -37,7 +38,7 @@ pub returns-in-YesNo : goal.returns-in-YesNo
 returns-in-YesNo c =
     let a = c.args in
     let bits = extras_bits (from_code a.column) a.e (no_products a.column c.in-YesNo.is) a.constant in
-    c.clear.ensures ∙ ap (tabulate (λ i. 0)) c.requires.column_in_bounds.1 ∙ sym (bits (members a.x.now))
+    c.fill.ensures.after (λ y e. e) ∙ zeros _ ∙ ap (tabulate (λ i. 0)) c.requires.column_in_bounds.1 ∙ sym (bits (members a.x.now))
 
 pub returns-in-Point : goal.returns-in-Point
 returns-in-Point c =

@@ -7,85 +7,115 @@ use borrow.Rule.Slice.PartMut.{mid_len}
 use lib.ListN.{length}
 use Rattle.rules.specs.Columns.{columns_of}
 use Rattle.rules.specs.Circuit.{gates_in}
+use Rattle.rules.specs.Products.{column_extras}
+use Rattle.field.specs.Residues.{residues}
+use Rattle.columns.specs.Kinds.{from_code}
 use Rattle.columns.proofs.Sums.{gates}
 use Rattle.sheet.specs.declared.cursor.Cursor.{Cursor}
 use Rattle.walk.specs.Walks.{members}
-use Rattle.walk.proofs.Walking.{Walking, turned, walk_start, stands, walk_put, walk_finish}
+use Rattle.sheet.specs.declared.cursor.Walk.{Walk}
+use Rattle.sheet.specs.Walk.{Passes}
+use Rattle.sheet.proofs.Walks.{passed, ended}
+use Rattle.walk.proofs.Walking.{Turned, Walking, turned, walk_start, walk_put, walk_finish}
 use Rattle.walk.proofs.Meanings.{extra_part, extras, extras_walked}
 use Rattle.walk.proofs.fill_extras.Goals as goal
+use Rattle.walk.proofs.fill_extras.Goals.{In-Some}
+
+-- the column passed
+here : (c : In-Some) → Passes c.args.s.now c.loop-place.place-iterator.next c.in-Some.place c.next.new.self.next
+here c = passed c.loop-place.invariant.2 c.in-Some.ensures.steps.1
+
+turn_of : (c : In-Some)
+    → Turned c.args.s.now c.loop-place.place-iterator.next (record { column = c.in-Some.place.column; next = c.next.new.self.next })
+turn_of c = let p = here c in turned _ p.stands p.step_is
 
 -- ---- the steps
-pub loop-c-init : goal.loop-c-init
-loop-c-init c =
+pub loop-place-init : goal.loop-place-init
+loop-place-init c =
     let out = c.args.out.now in
     let entries = members c.args.x.now in
-    let none : c.start-c.result.gates ≡ 0 = ap (λ (u : Cursor). u.gates) c.start-c.ensures ∙ gates.nothing in
-    subst (Walking (extra_part c.args.constant entries) gates_in c.args.s.now out out c.start-c.result) (sym none)
-    (walk_start (extras c.args.constant entries) out c.start-c.result c.start-c.ensures)
-
-pub next-step-requires : goal.next-step-requires
-next-step-requires c = stands c.requires.0.is_read c.loop-c.invariant.here c.loop-c-test.true
+    let g = c.into_iter-place-iterator.ensures.into_iter_gives in
+    let n = ap (λ (x : Walk). x.next) g ∙ c.columns-place-items.ensures.next in
+    let none : c.into_iter-place-iterator.result.next.gates ≡ 0 = ap (λ (u : Cursor). u.gates) n ∙ gates.nothing in (
+      tt,
+      tt,
+      ap (λ (x : Walk). x.sheet.now) g ∙ c.columns-place-items.ensures.sheet,
+      subst (Walking (extra_part c.args.constant entries) gates_in c.args.s.now out out c.into_iter-place-iterator.result.next) (sym none)
+          (walk_start (extras c.args.constant entries) out c.into_iter-place-iterator.result.next n),
+    )
 
 pub offset_bounds-out-from : goal.offset_bounds-out-from
 offset_bounds-out-from c =
-    let turn =
-    turned c.next-step.result c.requires.0.is_read c.loop-c.invariant.here c.loop-c-test.true c.next-step.ensures in
-    omega (arith, turn.gates_next, turn.gates_fit, c.requires.1)
+    let p = here (goal.at.offset_bounds-out-from c).In-Some in
+    let turn = turn_of (goal.at.offset_bounds-out-from c).In-Some in
+    let from = ap (λ (x : Cursor). x.gates) p.before_is in
+    let to = ap (λ (x : Cursor). x.gates) p.after_is in
+    omega (arith, turn.gates_next, turn.gates_fit, c.requires.1, from, to)
 
 pub slice_bounds-column_extras-count : goal.slice_bounds-column_extras-count
 slice_bounds-column_extras-count c =
-    let turn =
-    turned c.next-step.result c.requires.0.is_read c.loop-c.invariant.here c.loop-c-test.true c.next-step.ensures in
-    omega (arith, turn.gates_next)
+    let p = here (goal.at.slice_bounds-column_extras-count c).In-Some in
+    let turn = turn_of (goal.at.slice_bounds-column_extras-count c).In-Some in
+    let from = ap (λ (x : Cursor). x.gates) p.before_is in
+    let to = ap (λ (x : Cursor). x.gates) p.after_is in
+    omega (arith, turn.gates_next, from, to)
 
 pub slice_bounds-column_extras-start : goal.slice_bounds-column_extras-start
 slice_bounds-column_extras-start c =
-    let turn =
-    turned c.next-step.result c.requires.0.is_read c.loop-c.invariant.here c.loop-c-test.true c.next-step.ensures in
-    omega (arith, turn.gates_next)
+    let p = here (goal.at.slice_bounds-column_extras-start c).In-Some in
+    let turn = turn_of (goal.at.slice_bounds-column_extras-start c).In-Some in
+    let from = ap (λ (x : Cursor). x.gates) p.before_is in
+    let to = ap (λ (x : Cursor). x.gates) p.after_is in
+    omega (arith, turn.gates_next, from, to)
 
 pub slice_bounds-column_extras-end : goal.slice_bounds-column_extras-end
 slice_bounds-column_extras-end c =
-    let turn =
-    turned c.next-step.result c.requires.0.is_read c.loop-c.invariant.here c.loop-c-test.true c.next-step.ensures in
-    omega (arith, turn.gates_fit, c.requires.1, c.loop-c.invariant.same)
+    let p = here (goal.at.slice_bounds-column_extras-end c).In-Some in
+    let turn = turn_of (goal.at.slice_bounds-column_extras-end c).In-Some in
+    let from = ap (λ (x : Cursor). x.gates) p.before_is in
+    let to = ap (λ (x : Cursor). x.gates) p.after_is in
+    omega (arith, turn.gates_fit, c.requires.1, c.loop-place.invariant.3.same, from, to)
 
 pub column_extras-requires : goal.column_extras-requires
 column_extras-requires c =
-    let turn =
-    turned c.next-step.result c.requires.0.is_read c.loop-c.invariant.here c.loop-c-test.true c.next-step.ensures in
-    let l = c.loop-c in
-    let to = c.next-step.result.next.gates in
-    let fit : to ≤ length l.out = omega (arith, turn.gates_fit, c.requires.1, l.invariant.same) in
+    let p = here (goal.at.column_extras-requires c).In-Some in
+    let turn = turn_of (goal.at.column_extras-requires c).In-Some in
+    let l = c.loop-place in
+    let from = ap (λ (x : Cursor). x.gates) p.before_is in
+    let to = ap (λ (x : Cursor). x.gates) p.after_is in
+    let entry = ap (λ (x : Cursor). x.entry) p.before_is in
+    let fit : c.in-Some.place.after.gates ≤ length l.out = omega (arith, turn.gates_fit, c.requires.1, l.invariant.3.same, to) in
     record {
       elements = (c.requires.0.elements, c.requires.2, turn.in_limits);
       column_in_bounds = (
-        omega (arith, turn.entries_fit, c.requires.0.enough),
-        mid_len l.c.gates to l.out fit ∙ omega (arith, turn.gates_next),
+        omega (arith, turn.entries_fit, c.requires.0.enough, entry),
+        mid_len c.in-Some.place.before.gates c.in-Some.place.after.gates l.out fit ∙ omega (arith, turn.gates_next, from, to),
       );
     }
 
-pub loop-c-smaller : goal.loop-c-smaller
-loop-c-smaller c =
-    let turn =
-    turned c.next-step.result c.requires.0.is_read c.loop-c.invariant.here c.loop-c-test.true c.next-step.ensures in
-    turn.less
-
-pub loop-c-preserved : goal.loop-c-preserved
-loop-c-preserved c =
-    let turn =
-    turned c.next-step.result c.requires.0.is_read c.loop-c.invariant.here c.loop-c-test.true c.next-step.ensures in
-    let to = c.next-step.result.next.gates in
+pub loop-place-preserved : goal.loop-place-preserved
+loop-place-preserved c =
+    let p = here (goal.at.loop-place-preserved c).In-Some in
+    let turn = turn_of (goal.at.loop-place-preserved c).In-Some in
+    let to = c.next.new.self.next.gates in
     let fits : to ≤ length c.args.out.now = omega (arith, turn.gates_fit, c.requires.1) in
     let filled = c.column_extras in
-    walk_put (extras c.args.constant (members c.args.x.now)) c.next-step.result filled.new.out to
-    c.loop-c.invariant turn filled.ensures turn.gates_next fits
+    let entries = members c.args.x.now in
+    let part = filled.ensures
+    ∙ ap (λ (x : Cursor). column_extras residues c.args.constant entries x.entry (from_code c.in-Some.place.column)) p.before_is in (
+      tt,
+      tt,
+      c.in-Some.ensures.steps.0 ∙ c.loop-place.invariant.2,
+      rw (p.before_is, p.after_is)
+          (walk_put (extras c.args.constant entries) _ filled.new.out to c.loop-place.invariant.3 turn part turn.gates_next fits),
+    )
 
 pub shape_of-out : goal.shape_of-out
-shape_of-out c = c.loop-c.invariant.same
+shape_of-out c = c.loop-place.invariant.3.same
 
 pub returns : goal.returns
 returns c =
     let entries = members c.args.x.now in
-    walk_finish (extras c.args.constant entries) c.requires.0.is_read c.loop-c.invariant c.loop-c-test.false c.requires.1
+    let end = ended c.loop-place.invariant.2 c.in-None.ensures.steps.1.0 in
+    walk_finish (extras c.args.constant entries) c.loop-place.invariant.3 end c.requires.1
     ∙ extras_walked c.args.constant entries (columns_of c.args.s.now) 0 0

@@ -1,7 +1,7 @@
--- `walk::weighted_from` meets its contract: after i turns acc is the sum of the first i, and power is 2 to the i.
+-- `walk::weighted_from` meets its contract: after some turns acc is the sum of as many, and power is 2 to their number.
 -- Assumes nothing.
-use mathlib.Core.Path.{◌≡◌, refl, ap, ◌∙◌}
-use Prim.Native.Nat.{ℕ, ◌+◌, ◌^◌, ◌<◌}
+use mathlib.Core.Path.{◌≡◌, refl, ap, ap₂, ◌∙◌}
+use Prim.Native.Nat.{◌+◌, ◌^◌, ◌<◌}
 use native.Mathlib.Omega.{arith}
 use lib.Dec.{lit<}
 use Rattle.field.specs.Residues.{prime, residues}
@@ -10,38 +10,41 @@ use Rattle.rules.specs.Settings.{document01}
 use Rattle.rules.specs.Walk.{sum_from}
 use Rattle.walk.specs.Walks.{plain, members}
 use Rattle.walk.proofs.Filling.{add_start, add_turn, doubled, swapped}
+use Rattle.walk.proofs.Parts.{part_long, part_at}
 use Rattle.walk.proofs.weighted_from.Goals as goal
 
-pub loop-i-init : goal.loop-i-init
-loop-i-init c = (omega arith, lit< tt, refl, add_start _ _ _ c.requires.2)
+pub loop-v-init : goal.loop-v-init
+loop-v-init c = (lit< tt, refl, add_start _ _ _ c.requires.2)
 
 pub mul_add-acc-requires : goal.mul_add-acc-requires
 mul_add-acc-requires c =
-    let l = c.loop-i in
-    (member_below _ _ c.requires.1, l.invariant.1, l.invariant.3.element)
+    let a = c.args in
+    let l = c.loop-v in
+    let at = part_at a.x.now a.first a.n c.requires.0 l.v-index c.loop-v-test.true in
+    (rw at (member_below a.x.now (a.first + l.v-index) c.requires.1), l.invariant.0, l.invariant.2.element)
 
-pub loop-i-preserved : goal.loop-i-preserved
-loop-i-preserved c =
-    let s = c.args in
-    let l = c.loop-i in
+pub loop-v-preserved : goal.loop-v-preserved
+loop-v-preserved c =
+    let a = c.args in
+    let l = c.loop-v in
     let twice : c.add-power.result < prime = omega (arith, c.add-power.ensures) in
+    let at = part_at a.x.now a.first a.n c.requires.0 l.v-index c.loop-v-test.true in
     let sum : c.mul_add-acc.result
-    ≡ residues.◌⊕◌ l.acc (residues.◌⊗◌ (members s.x.now (s.first + l.i)) (residues.ι (2 ^ l.i))) =
+    ≡ residues.◌⊕◌ l.acc (residues.◌⊗◌ (members a.x.now (a.first + l.v-index)) (residues.ι (2 ^ l.v-index))) =
     c.mul_add-acc.ensures
     ∙ swapped _ l.acc
-    ∙ ap (λ (t : ℕ). residues.◌⊕◌ l.acc (residues.◌⊗◌ (members s.x.now (s.first + l.i)) t)) l.invariant.2 in (
-      omega arith,
+    ∙ ap (residues.◌⊕◌ l.acc) (ap₂ residues.◌⊗◌ at l.invariant.1) in (
       twice,
-      doubled l.i l.power c.add-power.result l.invariant.2 c.add-power.ensures,
-      add_turn _ _ _ c.mul_add-acc.result l.invariant.3 sum,
+      doubled l.v-index l.power c.add-power.result l.invariant.1 c.add-power.ensures,
+      add_turn _ _ _ c.mul_add-acc.result l.invariant.2 sum,
     )
 
 pub returns : goal.returns
 returns c =
-    let s = c.args in
-    let l = c.loop-i in
-    let e : l.i ≡ s.n = omega arith in
-    l.invariant.3.is
+    let a = c.args in
+    let l = c.loop-v in
+    let e : l.v-index ≡ a.n = omega (arith, part_long a.x.now a.first a.n c.requires.0) in
+    l.invariant.2.is
     ∙ ap
-    (sum_from document01 (plain 0 (members s.x.now)) s.start
-    (λ i. residues.◌⊗◌ (members s.x.now (s.first + i)) (residues.ι (2 ^ i)))) e
+    (sum_from document01 (plain 0 (members a.x.now)) a.start
+    (λ i. residues.◌⊗◌ (members a.x.now (a.first + i)) (residues.ι (2 ^ i)))) e

@@ -1,69 +1,47 @@
--- `whole::fill_whole` meets its contract: the pieces are put there one after another (`whole_written`).
--- Assumes nothing.
-use mathlib.Core.Path.{◌∙◌}
+-- `whole::fill_whole` meets its contract: the pieces are put into the parts of the list (`pieces`). Assumes nothing.
 use native.Mathlib.Omega.{arith}
-use Rattle.words.specs.Bytes.{elements_of}
-use Rattle.field.proofs.Below.{member_below}
+use Rattle.rules.specs.Columns.{columns_of}
+use Rattle.whole.specs.Pieces.{h_values}
 use Rattle.whole.proofs.Room.{room}
-use Rattle.whole.proofs.Legality.{legal_values_lem, fits, place_of_h, encodable, length_entries}
-use Rattle.whole.proofs.Filling.{whole_written}
+use Rattle.whole.proofs.Legality.{legal_values_lem, fits, below, encodes, holds_entries, length_entries, entries_given}
+use Rattle.whole.proofs.Filling.{pieces}
 use Rattle.whole.proofs.fill_whole.Goals as goal
 
+pub split_at_mut-x-requires : goal.split_at_mut-x-requires
+split_at_mut-x-requires c = omega (arith, fits c.requires)
+
+pub split_at_mut-free-requires : goal.split_at_mut-free-requires
+split_at_mut-free-requires c = omega (arith, fits c.requires)
+
+pub overflow_mul-counts : goal.overflow_mul-counts
+overflow_mul-counts c = omega (arith, (room c.requires.counted).gates_few)
+
+pub overflow_add-counts : goal.overflow_add-counts
+overflow_add-counts c = omega (arith, (room c.requires.counted).gates_few)
+
+pub split_at_mut-h-requires : goal.split_at_mut-h-requires
+split_at_mut-h-requires c = omega (arith, fits c.requires)
+
 pub encode_columns-requires : goal.encode_columns-requires
-encode_columns-requires c =
-    let m = room c.requires.counted in
-    encodable (legal_values_lem c.requires) c.args.w.now (omega (arith, fits c.requires, m.entries_are))
+encode_columns-requires c = encodes c.requires _ c.split_at_mut-x.ensures.front_len
 
-pub put_two-requires : goal.put_two-requires
-put_two-requires c =
-    omega (arith, fits c.requires, c.encode_columns.auto.out)
+-- the first part holds the entries then
+pub fill_h-requires-clause-entries : goal.fill_h-requires-clause-entries
+fill_h-requires-clause-entries c =
+    let p = c.requires in
+    let given = holds_entries p _ c.split_at_mut-x.ensures.front_len c.encode_columns.ensures in
+    (rw given (entries_given (legal_values_lem p)), rw c.at-u.ensures (below p 0), rw c.at-v.ensures (below p 1))
 
-pub encode_h-requires : goal.encode_h-requires
-encode_h-requires c =
-    let z = elements_of 4 c.args.random.now in (
-      legal_values_lem c.requires,
-      place_of_h c.requires _ (c.put_two.auto.w ∙ c.encode_columns.auto.out),
-      rw c.at-u.ensures (member_below z 0 c.requires.elements),
-      rw c.at-v.ensures (member_below z 1 c.requires.elements),
-    )
+pub mul-requires : goal.mul-requires
+mul-requires c = let p = c.requires in (rw c.at-a.ensures (below p 2), rw c.at-b.ensures (below p 3))
 
-pub overflow_add-l : goal.overflow_add-l
-overflow_add-l c =
-    let m = room c.requires.counted in
-    omega (arith, m.entries_few, m.gates_few)
-
-pub overflow_add-m : goal.overflow_add-m
-overflow_add-m c =
-    let m = room c.requires.counted in
-    omega (arith, m.entries_few, m.gates_few)
-
-pub overflow_add-l-2 : goal.overflow_add-l-2
-overflow_add-l-2 c =
-    let m = room c.requires.counted in
-    omega (arith, m.entries_few, m.gates_few)
-
-pub put_product-requires : goal.put_product-requires
-put_product-requires c =
-    let z = elements_of 4 c.args.random.now in
-    let e = c.encode_h.auto.w ∙ c.put_two.auto.w ∙ c.encode_columns.auto.out in (
-      omega (arith, e, fits c.requires),
-      rw c.at-a.ensures (member_below z 2 c.requires.elements),
-      rw c.at-b.ensures (member_below z 3 c.requires.elements),
-    )
+pub copy_from_slice-requires-2 : goal.copy_from_slice-requires-2
+copy_from_slice-requires-2 c = omega (arith, fits c.requires)
 
 pub returns : goal.returns
+unfolding h_values
 returns c =
-    let a = c.args in
-    let m = room c.requires.counted in
-    rw (
-      c.put_product.ensures,
-      c.encode_h.ensures,
-      c.put_two.ensures,
-      c.encode_columns.ensures,
-      c.at-u.ensures,
-      c.at-v.ensures,
-      c.at-a.ensures,
-      c.at-b.ensures,
-    )
-    (whole_written _ _ (length_entries (legal_values_lem c.requires)) _ _ _ _ a.w.now a.counts.entries a.counts.gates
-    c.requires.long m.entries_are m.gates_are)
+    let p = c.requires in
+    let given = holds_entries p _ c.split_at_mut-x.ensures.front_len c.encode_columns.ensures in
+    rw (c.copy_from_slice.ensures.after, c.copy_from_slice-2.ensures.after, c.fill_h.ensures, given, c.mul.ensures, c.at-u.ensures, c.at-v.ensures, c.at-a.ensures, c.at-b.ensures)
+    (pieces (columns_of c.args.sheet.now) _ (length_entries (legal_values_lem p)) _ _ _ _)

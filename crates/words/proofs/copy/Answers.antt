@@ -1,19 +1,9 @@
--- `words::copy`: one more byte is put there (`copy_next`), and at the end all are. Assumes nothing.
-use mathlib.Core.Path.{refl, ap, ◌∙◌}
-use mathlib.Core.List.{List}
-use Prim.Native.Nat.{ℕ, ◌+◌}
-use native.Mathlib.Omega.{arith}
-use lib.ListN.{set, get_or, length-set}
-use Rattle.words.proofs.Loops.{copy_none, copy_next}
+-- `words::copy`: the part lent for them is put back (`part_put`). Assumes nothing.
+use Rattle.std.proofs.Common.{arith}
+use Rattle.words.proofs.Loops.{part_put}
 use Rattle.words.proofs.copy.Goals as goal
 
-pub loop-i-init : goal.loop-i-init
-loop-i-init c = (omega arith, copy_none c.args.s.now c.args.at c.args.from.now, refl)
-
-pub loop-i-preserved : goal.loop-i-preserved
-loop-i-preserved c = (
-  omega arith,
-  ap (λ (t : List ℕ). set t (c.args.at + c.loop-i.i) (get_or c.args.from.now c.loop-i.i 0)) c.loop-i.invariant.1
-      ∙ copy_next c.args.s.now c.args.at c.args.from.now c.loop-i.i c.requires (omega arith),
-  simp length-set (omega arith),
-)
+pub returns : goal.returns
+returns c =
+    rw c.copy_from_slice.ensures.after
+    (part_put c.args.at _ c.args.s.now c.args.from.now (omega arith) c.requires (omega arith))

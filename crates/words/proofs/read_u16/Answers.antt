@@ -1,10 +1,9 @@
--- `words::read_u16`: the bytes are taken place by place, and `value_places` says that these places, each
--- 256 times the one before it, are the number of the part. Assumes nothing.
-use mathlib.Core.Path.{sym, ◌∙◌}
-use native.Mathlib.Nat.{add-zero}
-use native.Mathlib.Omega.{arith}
+-- `words::read_u16`: the bytes are taken place by place (`value_places`). Assumes nothing.
+use Rattle.std.proofs.Common.{add-zero, arith}
 use Rattle.words.proofs.Loops.{value_places}
 use Rattle.words.proofs.read_u16.Goals as goal
 
 pub returns : goal.returns
-returns c = c.half.ensures ∙ sym (simp add-zero at (value_places c.args.s.now c.args.at 0 2 (omega arith)))
+returns c =
+    let p = simp add-zero at (value_places c.args.s.now c.args.at 0 2 (omega arith)) in
+    omega (arith, c.from.ensures, c.from_le_bytes.ensures, p)

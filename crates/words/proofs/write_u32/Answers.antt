@@ -1,12 +1,14 @@
--- `words::write_u32`: the bytes are stored one after another, which is the run put there as a whole
--- (`sets_splice`). Assumes nothing.
-use native.Mathlib.Numerals.{add-one, add-two, add-three}
+-- `words::write_u32`: the part lent for the bytes is put back (`part_put`). Assumes nothing.
+use Rattle.std.proofs.Common.{◌≡◌, ◌/◌, arith}
 use Rattle.words.specs.Bytes.{bytes_of}
-use Rattle.words.proofs.Loops.{sets_splice}
+use Rattle.words.proofs.Loops.{part_put}
 use Rattle.words.proofs.write_u32.Goals as goal
 
 pub returns : goal.returns
 unfolding bytes_of
 returns c =
-    rw (add-one, add-two, add-three)
-    (sets_splice c.args.s.now c.args.at (bytes_of 4 c.args.v) c.requires)
+    let v = c.args.v in
+    let third : v / 65536 ≡ v / 256 / 256 = omega arith in
+    let fourth : v / 16777216 ≡ v / 256 / 256 / 256 = omega arith in
+    rw (c.copy_from_slice.ensures.after, c.to_le_bytes.ensures, third, fourth)
+    (part_put c.args.at _ c.args.s.now (bytes_of 4 c.args.v) (omega arith) c.requires (omega arith))

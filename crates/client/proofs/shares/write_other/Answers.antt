@@ -6,6 +6,6 @@ use Rattle.client.proofs.shares.write_other.Goals as goal
 
 pub returns : goal.returns
 returns c =
-    rw (c.copy.ensures, c.write_share_header.ensures)
+    rw (c.copy.ensures, c.write_header.ensures)
     (other_written c.args.out.now c.args.random.now _ c.args.size c.args.id c.args.j _
     (omega (arith, c.requires.room)) refl)

@@ -1,7 +1,5 @@
--- `entering::adding::add_words` meets its contract. The loop's invariant: the first i sums are put there (`words_turn`); the
--- measure is what is left of them. Assumes nothing.
+-- `entering::adding::add_words` meets its contract. The loop's invariant: the first i sums are put there. Assumes nothing.
 use mathlib.Core.Path.{◌≡◌}
-use Prim.Native.Nat.{◌-◌, ◌≤◌}
 use lib.ListN.{length}
 use Rattle.algebra.specs.Lists.{tabulate}
 use Rattle.words.specs.Bytes.{bytes_of_all, splice}
@@ -9,8 +7,7 @@ use Rattle.entering.specs.Totals.{words_added}
 use Rattle.entering.proofs.adding.add_words.Given as goal
 
 abbrev pub invariant-loop-i : goal.invariant-loop-i
-invariant-loop-i l =
-    (l.i ≤ l.n) × (l.t ≡ splice l.initial.t l.to (bytes_of_all 4 (tabulate (words_added l.initial.t l.to l.xs l.from) l.i))) × (length l.t ≡ length l.initial.t)
-
-abbrev pub decreases-loop-i : goal.decreases-loop-i
-decreases-loop-i l = l.n - l.i
+invariant-loop-i l = record {
+  filled : l.t ≡ splice l.initial.t l.to (bytes_of_all 4 (tabulate (words_added l.initial.t l.to l.xs l.from) l.i));
+  same : length l.t ≡ length l.initial.t;
+}

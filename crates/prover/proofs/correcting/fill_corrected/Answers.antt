@@ -7,7 +7,7 @@ use lib.Dec.{lit<}
 use Rattle.field.specs.Residues.{residues}
 use Rattle.field.proofs.Below.{member_below}
 use Rattle.walk.specs.Walks.{members}
-use Rattle.walk.proofs.Filling.{start, turn, finish}
+use Rattle.walk.proofs.Filling.{start, turn}
 use Rattle.prover.proofs.InPlace.{unfilled}
 use Rattle.prover.proofs.Shifts.{shift_below}
 use Rattle.prover.proofs.correcting.fill_corrected.Goals as goal
@@ -15,18 +15,10 @@ use Rattle.prover.proofs.correcting.fill_corrected.Goals as goal
 pub loop-j-init : goal.loop-j-init
 loop-j-init c = start _ _
 
-pub shift-requires : goal.shift-requires
-shift-requires c =
-    (c.requires.d_lt_prime.0, c.requires.d_lt_prime.1, c.requires.d_lt_prime.2, omega (arith, c.requires.elements.3, c.loop-j.invariant.same))
-
 pub add-shifted-requires : goal.add-shifted-requires
 add-shifted-requires c =
     let l = c.loop-j in
     (rw (unfilled _ l.invariant) (member_below _ _ c.requires.elements.0), rw c.shift.ensures (shift_below _ _ _))
-
-pub bounds-e-j : goal.bounds-e-j
-bounds-e-j c =
-    omega (arith, c.requires.elements.2, c.loop-j.invariant.same)
 
 pub add-requires : goal.add-requires
 add-requires c =
@@ -46,9 +38,3 @@ loop-j-preserved c =
     ∙ ap₂ residues.◌⊗◌ y
     (c.add.ensures
     ∙ ap (λ t. residues.◌⊕◌ t (members c.args.e.now l.j)) (c.add-shifted.ensures ∙ ap₂ residues.◌⊕◌ y c.shift.ensures)))
-
-pub shape_of-out : goal.shape_of-out
-shape_of-out c = omega (arith, c.loop-j.invariant.same)
-
-pub returns : goal.returns
-returns c = finish _ c.loop-j.invariant (omega (arith, c.loop-j.invariant.same))

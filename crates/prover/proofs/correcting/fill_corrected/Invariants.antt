@@ -1,6 +1,5 @@
 -- `prover::correcting::fill_corrected` meets its contract: its loop fills the buffer by the rule of its products, each from the value that
 -- stands there (`unfilled`). Assumes nothing.
-use Prim.Native.Nat.{◌-◌}
 use lib.ListN.{length}
 use Rattle.walk.specs.Walks.{members}
 use Rattle.walk.proofs.Filling.{Filling}
@@ -8,7 +7,4 @@ use Rattle.prover.specs.Curves.{corrected_of}
 use Rattle.prover.proofs.correcting.fill_corrected.Given as goal
 
 abbrev pub invariant-loop-j : goal.invariant-loop-j
-invariant-loop-j l = Filling (λ j. corrected_of (length l.falls) (members l.initial.out j) (members l.e j) l.d j) l.initial.out l.out l.j
-
-abbrev pub decreases-loop-j : goal.decreases-loop-j
-decreases-loop-j l = length l.initial.out - l.j
+invariant-loop-j l = Filling (λ j. corrected_of (length l.tables.falls.now) (members l.initial.out j) (members l.e j) l.d j) l.initial.out l.out l.j

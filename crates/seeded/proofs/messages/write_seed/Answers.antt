@@ -6,5 +6,5 @@ use Rattle.seeded.proofs.messages.write_seed.Goals as goal
 
 pub returns : goal.returns
 returns c =
-    rw (c.copy.ensures, c.write_seed_header.ensures)
+    rw (c.copy.ensures, c.write_header.ensures)
     (seed_written c.args.out.now c.args.seeds.now _ c.args.id c.args.j _ (omega (arith, c.requires.room)) refl)

@@ -1,41 +1,35 @@
--- `seeded::shares::take_seeds` meets its contract: what is lent to `subtract` are just the sums. Assumes nothing.
-use mathlib.Core.Path.{sym, ap, ◌∙◌}
-use Prim.Native.Nat.{ℕ}
+-- `seeded::shares::take_seeds` meets its contract. The loop's invariant: the elements of the first i seeds are taken (`less_next`).
+-- Assumes nothing.
+use mathlib.Core.Path.{◌≡◌, refl, ap, ◌∙◌}
+use Prim.Native.Nat.{ℕ, ◌*◌}
 use native.Mathlib.Omega.{arith}
-use lib.ListN.{length, length-append}
-use lib.Seq.{length-take-le, take_at}
-use Rattle.seeded.specs.Pieces.{seed_sums}
-use Rattle.seeded.proofs.Sums.{first_zeros, length_sums, sums_elements}
+use lib.ListN.{length}
+use Rattle.steps.proofs.Parts.{span}
+use Rattle.seeded.specs.Pieces.{lessened, seed_sums}
+use Rattle.seeded.proofs.Sums.{less_none, less_next, less_elements, seed_within, seed_whole}
 use Rattle.seeded.proofs.shares.take_seeds.Goals as goal
 
-pub slice_bounds-sum_seeds-end : goal.slice_bounds-sum_seeds-end
-slice_bounds-sum_seeds-end c = sym (length-take-le _ _ c.requires.2)
+pub loop-i-init : goal.loop-i-init
+loop-i-init c = less_none _ _ _ _ refl c.requires.1
 
-pub sum_seeds-requires : goal.sum_seeds-requires
-sum_seeds-requires c =
-    rw (length-take-le _ _ c.requires.2) (c.requires.0, c.requires.2, first_zeros (length c.args.w.now) 774 c.requires.2)
+pub slice_bounds-take_seed-end : goal.slice_bounds-take_seed-end
+slice_bounds-take_seed-end c = seed_within c.requires.0 c.loop-i.i c.loop-i-test.true
 
-pub slice_bounds-sum-end-2 : goal.slice_bounds-sum-end-2
-slice_bounds-sum-end-2 c =
-    let l = c.sum_seeds.auto.sum ∙ length-take-le _ _ c.requires.2 in
-    rw (length-append, l) (omega arith)
+pub take_seed-requires : goal.take_seed-requires
+take_seed-requires c =
+    let l = c.loop-i in
+    (seed_whole c.requires.0 l.i c.loop-i-test.true, rw l.invariant (less_elements _ _), rw l.auto.w c.requires.2)
 
-pub slice_bounds-subtract-end : goal.slice_bounds-subtract-end
-slice_bounds-subtract-end c =
-    let l = c.sum_seeds.auto.sum ∙ length-take-le _ _ c.requires.2 in
-    rw (take_at _ _ _ l) (sym l)
-
--- what the first places hold then
-pub subtract-requires : goal.subtract-requires
-subtract-requires c =
+pub loop-i-preserved : goal.loop-i-preserved
+loop-i-preserved c =
     let a = c.args in
-    let t = length-take-le _ _ c.requires.2 in
-    let given = c.sum_seeds.ensures ∙ ap (λ (n : ℕ). seed_sums a.seeds.now a.id n a.others) t in
-    rw (take_at _ _ _ (c.sum_seeds.auto.sum ∙ t), given) (c.requires.1, sums_elements _ _ _ _, length_sums _ _ _ _)
+    let l = c.loop-i in
+    c.take_seed.ensures
+    ∙ rw (span (32 * l.i) 32 a.seeds.now, l.auto.w, l.invariant) (less_next a.seeds.now a.id _ a.w.now refl c.requires.1 l.i)
 
 pub returns : goal.returns
 returns c =
     let a = c.args in
-    let t = length-take-le _ _ c.requires.2 in
-    let given = c.sum_seeds.ensures ∙ ap (λ (n : ℕ). seed_sums a.seeds.now a.id n a.others) t in
-    rw (c.subtract.ensures, take_at _ _ _ (c.sum_seeds.auto.sum ∙ t), given)
+    let l = c.loop-i in
+    let e : l.i ≡ a.others = omega arith in
+    l.invariant ∙ ap (λ (n : ℕ). lessened a.w.now (seed_sums a.seeds.now a.id (length a.w.now) n)) e

@@ -4,8 +4,8 @@ use mathlib.Core.Path.{◌≡◌, refl, sym, ap, ap₂, ◌∙◌}
 use mathlib.Core.List.{List}
 use Prim.Native.Nat.{ℕ, suc, ◌≤◌, ◌<◌}
 use native.Mathlib.Omega.{arith}
-use lib.ListN.{length, get_or, length-append}
-use lib.Seq.{length-take-le, take_at}
+use lib.ListN.{length, get_or}
+use lib.Seq.{length-take-le}
 use Rattle.algebra.specs.Lists.{tabulate}
 use Rattle.algebra.specs.Interpolation.{weight}
 use Rattle.algebra.proofs.Tables.{length_tabulate, get_d_tabulate}
@@ -43,49 +43,44 @@ returns-then-products-eq0 c =
     (no_extra c.args.constant (members c.args.x.now) (columns_of c.args.sheet.now) c.args.r
     (sym c.requires.entries.4 ∙ c.if-products-eq0.true))
 
-pub slice_bounds-extras-end : goal.slice_bounds-extras-end
-slice_bounds-extras-end c = few _ _ c.requires.weights_value c.requires.entries.3
+pub slice_bounds-buffer-end : goal.slice_bounds-buffer-end
+slice_bounds-buffer-end c = few _ _ c.requires.weights_value c.requires.entries.3
 
-pub slice_bounds-fill_extras-end : goal.slice_bounds-fill_extras-end
-slice_bounds-fill_extras-end c = sym (length-take-le _ _ (few _ _ c.requires.weights_value c.requires.entries.3))
+pub slice_bounds-extras-end : goal.slice_bounds-extras-end
+slice_bounds-extras-end c = sym (length-take-le _ _ (few _ _ c.requires.weights_value c.requires.entries.3))
 
 pub fill_extras-requires : goal.fill_extras-requires
 fill_extras-requires c =
-    (c.requires.entries.0, length-take-le _ _ (few _ _ c.requires.weights_value c.requires.entries.3) ∙ many _ _ c.requires.weights_value, c.requires.entries.1)
-
-pub slice_bounds-extras-end-2 : goal.slice_bounds-extras-end-2
-slice_bounds-extras-end-2 c =
-    let l = c.fill_extras.auto.out ∙ length-take-le _ _ (few _ _ c.requires.weights_value c.requires.entries.3) in
-    rw (length-append, l) (omega arith)
-
-pub slice_bounds-sum-end : goal.slice_bounds-sum-end
-slice_bounds-sum-end c =
-    let l = c.fill_extras.auto.out ∙ length-take-le _ _ (few _ _ c.requires.weights_value c.requires.entries.3) in
-    rw (take_at _ _ _ l) (sym l)
+    let p = c.requires in
+    (p.entries.0, length-take-le _ _ (few _ _ p.weights_value p.entries.3) ∙ many _ _ p.weights_value, p.entries.1)
 
 pub sum-requires : goal.sum-requires
 sum-requires c =
+    let p = c.requires in
     let w = c.fill_extras in
-    let l = w.auto.out ∙ length-take-le _ _ (few _ _ c.requires.weights_value c.requires.entries.3) in
-    let elements = extras_elements c.args.constant (members c.args.x.now) (columns_of c.args.sheet.now) 0 in
-    rw (take_at _ _ _ l)
-    (sym l, rw w.ensures elements, weights_elements _ _ c.requires.weights_value, c.requires.entries.2, omega (arith, l, few _ _ c.requires.weights_value c.requires.entries.3))
+    let l = w.auto.out ∙ length-take-le _ _ (few _ _ p.weights_value p.entries.3) in
+    let elements = extras_elements c.args.constant (members c.args.x.now) (columns_of c.args.sheet.now) 0 in (
+      sym l,
+      rw w.ensures elements,
+      weights_elements _ _ p.weights_value,
+      p.entries.2,
+      omega (arith, l, few _ _ p.weights_value p.entries.3),
+    )
 
 pub mul-requires : goal.mul-requires
-mul-requires c =
-    (c.requires.entries.2, c.sum.ensures.1.over_below)
+mul-requires c = (c.requires.entries.2, c.sum.ensures.1.over_below)
 
 pub returns : goal.returns
 returns c =
+    let p = c.requires in
     let w = c.fill_extras in
-    let l = w.auto.out ∙ length-take-le _ _ (few _ _ c.requires.weights_value c.requires.entries.3) in
+    let l = w.auto.out ∙ length-take-le _ _ (few _ _ p.weights_value p.entries.3) in
     let cs = columns_of c.args.sheet.now in
     let ks = walk_extras residues c.args.constant (members c.args.x.now) 0 cs in
     let fraction : c.sum.result ≡ sum_of ks c.args.weights.now 1 c.args.r (gates_in cs)
     = c.sum.ensures.0
-    ∙ rw (take_at _ _ _ l)
-    (ap₂ (λ (ks : List ℕ) (n : ℕ). sum_of ks c.args.weights.now 1 c.args.r n) w.ensures (l ∙ many _ _ c.requires.weights_value)) in
+    ∙ ap₂ (λ (ks : List ℕ) (n : ℕ). sum_of ks c.args.weights.now 1 c.args.r n) w.ensures (l ∙ many _ _ p.weights_value) in
     c.mul.ensures
     ∙ ap (λ (q : Fraction). residues.◌⊗◌ c.args.r q.over) fraction
-    ∙ rest_at (gates_in cs) c.args.r _ c.args.weights.now c.requires.entries.2 refl (weight_is _ _ c.requires.weights_value) _
+    ∙ rest_at (gates_in cs) c.args.r _ c.args.weights.now p.entries.2 refl (weight_is _ _ p.weights_value) _
     (extras_elements c.args.constant (members c.args.x.now) cs 0)

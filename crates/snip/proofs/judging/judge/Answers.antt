@@ -1,9 +1,9 @@
 -- `snip::judging::judge` meets its contract: with the weights that it makes. Assumes nothing.
 use mathlib.Core.Path.{◌≡◌, sym, ◌∙◌}
-use Prim.Native.Nat.{ℕ, ◌+◌, ◌<◌, ◌≤◌}
+use Prim.Native.Nat.{ℕ, suc, ◌+◌, ◌<◌, ◌≤◌}
+use native.Mathlib.Numerals.{add-one}
 use native.Mathlib.Omega.{arith}
-use lib.ListN.{length-append}
-use lib.Seq.{length-take-le, take_at}
+use lib.Seq.{length-take-le}
 use Rattle.snip.proofs.Numbers.{weights_to}
 use Rattle.snip.proofs.ShareRoom.{room}
 use Rattle.snip.proofs.judging.judge.Goals as goal
@@ -27,58 +27,31 @@ overflow_add-points c = omega (arith, (room c.requires).gates_few)
 pub overflow_add-twice : goal.overflow_add-twice
 overflow_add-twice c = omega (arith, (room c.requires).gates_few)
 
-pub slice_bounds-single-end : goal.slice_bounds-single-end
-slice_bounds-single-end c = few (room c.requires).gates_few
+pub slice_bounds-first-end : goal.slice_bounds-first-end
+slice_bounds-first-end c = few (room c.requires).gates_few
 
-pub slice_bounds-fill_two-end : goal.slice_bounds-fill_two-end
-slice_bounds-fill_two-end c = sym (length-take-le _ _ (few (room c.requires).gates_few))
+pub slice_bounds-single-end : goal.slice_bounds-single-end
+slice_bounds-single-end c = sym (length-take-le _ _ (few (room c.requires).gates_few))
+
+pub slice_bounds-second-end : goal.slice_bounds-second-end
+slice_bounds-second-end c = more (room c.requires).gates_few
 
 pub slice_bounds-double-end : goal.slice_bounds-double-end
-slice_bounds-double-end c = more (room c.requires).gates_few
-
-pub slice_bounds-fill_two-end-2 : goal.slice_bounds-fill_two-end-2
-slice_bounds-fill_two-end-2 c = sym (length-take-le _ _ (more (room c.requires).gates_few))
+slice_bounds-double-end c = sym (length-take-le _ _ (more (room c.requires).gates_few))
 
 pub fill_two-requires : goal.fill_two-requires
 fill_two-requires c =
     let g = (room c.requires).gates_few in
     record { first_nonzero = points (length-take-le _ _ (few g)) g; second_nonzero = twice_points (length-take-le _ _ (more g)) g }
 
-pub slice_bounds-single-end-2 : goal.slice_bounds-single-end-2
-slice_bounds-single-end-2 c =
+pub judge_with-requires-clause-single_value : goal.judge_with-requires-clause-single_value
+judge_with-requires-clause-single_value c =
     let g = (room c.requires).gates_few in
-    let l = c.fill_two.auto.first ∙ length-take-le _ _ (few g) in
-    rw (length-append, l) (omega arith)
+    c.fill_two.ensures.first_after ∙ weights_to (length-take-le _ _ (few g) ∙ add-one c.args.shape.gates)
 
-pub slice_bounds-judge_with-end : goal.slice_bounds-judge_with-end
-slice_bounds-judge_with-end c =
+pub judge_with-requires-clause-double_value : goal.judge_with-requires-clause-double_value
+judge_with-requires-clause-double_value c =
     let g = (room c.requires).gates_few in
-    let l = c.fill_two.auto.first ∙ length-take-le _ _ (few g) in
-    rw (take_at _ _ _ l) (sym l)
-
-pub slice_bounds-double-end-2 : goal.slice_bounds-double-end-2
-slice_bounds-double-end-2 c =
-    let g = (room c.requires).gates_few in
-    let l = c.fill_two.auto.second ∙ length-take-le _ _ (more g) in
-    rw (length-append, l) (omega arith)
-
-pub slice_bounds-judge_with-end-2 : goal.slice_bounds-judge_with-end-2
-slice_bounds-judge_with-end-2 c =
-    let g = (room c.requires).gates_few in
-    let l = c.fill_two.auto.second ∙ length-take-le _ _ (more g) in
-    rw (take_at _ _ _ l) (sym l)
-
-pub judge_with-requires : goal.judge_with-requires
-judge_with-requires c =
-    let g = (room c.requires).gates_few in
-    let w = c.fill_two in
-    let l = length-take-le _ _ (few g) in
-    let k = length-take-le _ _ (more g) in
-    let single = w.auto.first ∙ l in
-    let double = w.auto.second ∙ k in
-    rw (take_at _ _ _ single, take_at _ _ _ double)
-    (record {
-      share = c.requires;
-      single_value = w.ensures.first_after ∙ weights_to (omega (arith, l));
-      double_value = w.ensures.second_after ∙ weights_to (omega (arith, k));
-    })
+    let m = c.args.shape.gates in
+    let e : m + (m + 1) ≡ suc (m + m) = omega arith in
+    c.fill_two.ensures.second_after ∙ weights_to (length-take-le _ _ (more g) ∙ e)

@@ -3,45 +3,30 @@ use mathlib.Core.Path.{sym, ap₂, ◌∙◌}
 use mathlib.Core.List.{List}
 use Prim.Native.Nat.{ℕ}
 use native.Mathlib.Omega.{arith}
-use lib.ListN.{length-append}
-use lib.Seq.{length-take-le, take_at}
+use lib.Seq.{length-take-le}
 use Rattle.interpolation.specs.Fractions.{sum_of}
 use Rattle.rules.specs.Columns.{columns_of}
 use Rattle.walk.proofs.InputElements.{lefts_elements}
 use Rattle.snip.proofs.judging.lefts_sum.Goals as goal
 
-pub slice_bounds-fill_lefts-end : goal.slice_bounds-fill_lefts-end
-slice_bounds-fill_lefts-end c = sym (length-take-le _ _ c.requires.4)
+pub slice_bounds-lefts-end : goal.slice_bounds-lefts-end
+slice_bounds-lefts-end c = sym (length-take-le _ _ c.requires.4)
 
 pub fill_lefts-products-requires : goal.fill_lefts-products-requires
-fill_lefts-products-requires c =
-    (c.requires.0, length-take-le _ _ c.requires.4 ∙ c.requires.3)
-
-pub slice_bounds-lefts-end-2 : goal.slice_bounds-lefts-end-2
-slice_bounds-lefts-end-2 c =
-    let l = c.fill_lefts-products.auto.out ∙ length-take-le _ _ c.requires.4 in
-    rw (length-append, l) (omega arith)
-
-pub slice_bounds-sum-end : goal.slice_bounds-sum-end
-slice_bounds-sum-end c =
-    let l = c.fill_lefts-products.auto.out ∙ length-take-le _ _ c.requires.4 in
-    rw (take_at _ _ _ l) (sym l)
+fill_lefts-products-requires c = (c.requires.0, length-take-le _ _ c.requires.4 ∙ c.requires.3)
 
 pub sum-sum-requires : goal.sum-sum-requires
 sum-sum-requires c =
     let w = c.fill_lefts-products in
     let l = w.auto.out ∙ length-take-le _ _ c.requires.4 in
     let elements = lefts_elements c.args.x.now c.requires.0.elements (columns_of c.args.sheet.now) 0 in
-    rw (take_at _ _ _ l)
     (sym l, rw w.ensures.0 elements, c.requires.1, c.requires.2, omega (arith, l, c.requires.4))
 
 pub returns : goal.returns
 returns c =
     let w = c.fill_lefts-products in
     let l = w.auto.out ∙ length-take-le _ _ c.requires.4 in (
-      c.sum-sum.ensures.0
-          ∙ rw (take_at _ _ _ l)
-          (ap₂ (λ (ls : List ℕ) (n : ℕ). sum_of ls c.args.weights.now 1 c.args.r n) w.ensures.0 (l ∙ c.requires.3)),
+      c.sum-sum.ensures.0 ∙ ap₂ (λ (ls : List ℕ) (n : ℕ). sum_of ls c.args.weights.now 1 c.args.r n) w.ensures.0 (l ∙ c.requires.3),
       c.sum-sum.ensures.1,
       w.ensures.1,
     )

@@ -1,25 +1,15 @@
--- `waiting::writing::erase` meets its contract. The loop's invariant: the first i numbers are erased (`clear_next`); the
--- measure is what is left of them. Assumes nothing.
-use mathlib.Core.Path.{refl, ap, ◌∙◌}
-use mathlib.Core.List.{List}
-use Prim.Native.Nat.{ℕ, ◌+◌}
+-- `waiting::writing::erase` meets its contract: the part that was lent is put back as zeros (`part_put`). Assumes nothing.
+use mathlib.Core.Path.{◌≡◌, ap, ◌∙◌}
+use Prim.Native.Nat.{ℕ, ◌+◌, ◌-◌}
 use native.Mathlib.Omega.{arith}
-use borrow.Author.Rules.{rules}
-use lib.ListN.{set, replicate, length-set}
-use Rattle.words.proofs.Loops.{copy_none, clear_next, clear_all}
+use lib.ListN.{length, take, drop, replicate, length-take, length-drop, length-replicate}
+use Rattle.words.proofs.Loops.{part_put}
 use Rattle.waiting.proofs.writing.erase.Goals as goal
-
-pub loop-i-init : goal.loop-i-init
-loop-i-init c = (search rules, copy_none c.args.numbers.now c.args.at (replicate c.args.n 0), refl)
-
-pub loop-i-preserved : goal.loop-i-preserved
-loop-i-preserved c = (
-  search rules,
-  ap (λ (s : List ℕ). set s (c.args.at + c.loop-i.i) 0) c.loop-i.invariant.1
-      ∙ clear_next c.args.numbers.now c.args.at c.args.n c.loop-i.i c.requires c.loop-i-test.true,
-  simp length-set (omega arith),
-)
 
 pub returns : goal.returns
 returns c =
-    cc (clear_all c.args.numbers.now c.args.at c.args.n c.loop-i.i c.loop-i-test.false)
+    let g = c.args in
+    let lent : length (take (g.at + g.n - g.at) (drop g.at g.numbers.now)) ≡ g.n = simp (length-take, length-drop) (omega arith) in
+    let zeros : c.fill.new.self ≡ replicate g.n 0 = c.fill.ensures.after (λ y h. h) ∙ ap (λ (k : ℕ). replicate k 0) lent in
+    rw zeros
+    (part_put g.at (g.at + g.n) g.numbers.now (replicate g.n 0) (omega arith) c.requires (omega (arith, length-replicate {A = ℕ} g.n 0)))

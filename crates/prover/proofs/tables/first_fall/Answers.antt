@@ -1,0 +1,11 @@
+-- `prover::tables::first_fall` meets its contract: the last of a table of products. Assumes nothing.
+use Prim.Native.Nat.{◌+◌, ◌≤◌}
+use native.Mathlib.Omega.{arith}
+use lib.Seq.{length-take-le}
+use Rattle.prover.proofs.Falls.{fall_first}
+use Rattle.prover.proofs.tables.first_fall.Goals as goal
+
+pub returns : goal.returns
+returns c =
+    let few : c.args.n + 2 ≤ 258 = omega (arith, c.requires) in
+    fall_first _ c.args.n _ c.ascending.ensures (length-take-le _ _ few)

@@ -12,16 +12,16 @@ use lib.ListN.{length, replicate}
 use Rattle.algebra.proofs.Members.{and_left, and_right}
 use Rattle.words.specs.Bytes.{splice}
 use Rattle.std.specs.Prelude.{None, Some, Result, Ok, Err, IfSome}
-use Rattle.std.specs.Result.{result_ok, result_and}
+use Rattle.std.specs.Result.{result_ok}
 use Rattle.records.specs.Outcome.{ok, refused}
-use Rattle.records.specs.Refusals.{number_of, fault_of, outcome_of}
+use Rattle.records.specs.Refusals.{number_of, fault_of}
 use Rattle.records.specs.Answers.{answered, only_if, if_done, length_of}
 use Rattle.records.specs.declared.Refusal.{Refusal}
 use Rattle.records.proofs.Answers.{writes}
 use Rattle.records.proofs.Refusals.{number_nonzero}
 use Rattle.slots.specs.declared.Slot.{Slot}
 use Rattle.slots.specs.declared.Change.{Change}
-use Rattle.slots.specs.Slots.{free_slot, eight_of, applied}
+use Rattle.slots.specs.Slots.{free_slot, eight_of, applied, cleared}
 use Rattle.rules.specs.Settings.{document01}
 use Rattle.rules.specs.Columns.{columns_of}
 use Rattle.rules.specs.Server.{totals_length, share_refusal, one_refusal, two_refusal, enter_refusal, drop_refusal, close_refusal}
@@ -31,6 +31,8 @@ use Rattle.rules.specs.Table.{two_refused, two_table, two_verdict, enter_refused
 use Rattle.rules.specs.Table.{close_refused, close_table, close_bytes, opened_in, open_room, open_length}
 use Rattle.rules.proofs.Histories.Opening.{opening}
 use Rattle.waiting.specs.Changes.{lent, unless_refused}
+use Rattle.waiting.specs.Changes as sent
+use Rattle.waiting.specs.declared.writing.Sent.{Sent}
 use Rattle.opening.specs.Calls.{Opens}
 use Rattle.closing.specs.Calls as closing
 use Rattle.state.specs.Calls as state
@@ -55,11 +57,9 @@ decision_tie : (a : Result Decision Refusal) → (fault_of a ≡ 0 → ⊥) → 
 decision_tie (Ok d) n = absurd (n refl)
 decision_tie (Err e) n = refl
 
--- a call that is not refused writes n bytes
-answered_by : {A : Type 0} (a : Result A Refusal) (f n : ℕ) → fault_of a ≡ f → outcome_of (result_and a (Ok n)) ≡ answered f n
-unfolding answered
-answered_by (Ok x) f n e = rw (← e)
-answered_by (Err e) f n q = rw (← q, ne_eqb (number_of e) 0 (number_nonzero e))
+sent_tie : (a : Result Sent Refusal) → (fault_of a ≡ 0 → ⊥) → sent.change_of a ≡ None
+sent_tie (Ok x) n = absurd (n refl)
+sent_tie (Err e) n = refl
 
 -- ---- a share
 module _ (m : List ℕ) (r s : ℕ) (out : List ℕ) where
@@ -67,26 +67,41 @@ module _ (m : List ℕ) (r s : ℕ) (out : List ℕ) where
   unfolding share_refused
   share_refuses = unsound_refused (λ T. share_refusal document01 (table_state document01 T) m r s (length out))
 
-module _ (ys : List Slot) {t es m : List ℕ} {r s : ℕ} {out : List ℕ} (a : Result Change Refusal) {es' out' : List ℕ}
+module _ (ys : List Slot) {t es m : List ℕ} {r s : ℕ} {out : List ℕ} (a : Result Sent Refusal) {es' out' : List ℕ}
     (h : Shares (lent t (eight_of ys) es) m r s out a es' out') where
-  pub share_in_range : IfSome (result_ok a) (λ x. x.at < length ys)
+  pub share_in_range : IfSome (sent.change_of a) (λ x. x.at < length ys)
   share_in_range =
       in_range (λ T. share_refused document01 T m r s (length out)) (share_refuses m r s out) t ys es
-      (λ T. share_table document01 T m r s) (fault_of a) (result_ok a) (tie a) t es' h.changes
+      (λ T. share_table document01 T m r s) (fault_of a) (sent.change_of a) (sent_tie a) t es' h.changes
 
-  pub shares : (w : ℕ) {ys' : List Slot} {n w' : ℕ} → ys' ≡ applied ys (result_ok a) → n ≡ fault_of {A = ℕ} (result_and a (Ok 22))
-      → w' ≡ length_of (result_and a (Ok 22)) w → TakesShare (lent t ys es) m r s out w n (lent t ys' es') out' w'
+  -- w' stands behind the pointer then
+  pub shares : (w : ℕ) {ys' : List Slot} {w' : ℕ} → ys' ≡ applied ys (sent.change_of a) → w' ≡ if_done (fault_of a) 22 w
+      → TakesShare (lent t ys es) m r s out w (fault_of a) (lent t ys' es') out' w'
   unfolding only_if
-  shares w {ys'} {n} {w'} e q l =
+  shares w {ys'} {w'} e q =
       let fault : Lent → ℕ = λ T. share_refused document01 T m r s (length out) in
       let refuses = share_refuses m r s out in
       let new : Lent → Lent = λ T. share_table document01 T m r s in
-      let given : Lent = lent t ys es in (
-        leaves fault refuses t ys es new (fault_of a) (result_ok a) (tie a) t es' h.changes ys' e,
-        writes (fault given) (share_bytes document01 given m r s) 22 out w (result_and a (Ok 22)) n out' w'
-            (answered_by a (fault given) 22 (answer_is fault refuses t ys es new (fault_of a) (result_ok a) (tie a) t es' h.changes))
-            (h.out_is ∙ left_same fault refuses t ys es (λ T. splice out 0 (share_bytes document01 T m r s)) out) q l,
+      let same = answer_is fault refuses t ys es new (fault_of a) (sent.change_of a) (sent_tie a) t es' h.changes in (
+        leaves fault refuses t ys es new (fault_of a) (sent.change_of a) (sent_tie a) t es' h.changes ys' e,
+        record {
+          answer_is = same;
+          out_is = h.out_is ∙ left_same fault refuses t ys es (λ T. splice out 0 (share_bytes document01 T m r s)) out;
+          written_is = rw same at q;
+        },
       )
+
+module _ (ys : List Slot) {t es m : List ℕ} {r s : ℕ} {out : List ℕ} (w : ℕ) {es' out' : List ℕ} where
+  -- a share that is taken
+  pub share_sent : (x : Sent) → Shares (lent t (eight_of ys) es) m r s out (Ok x) es' out' → (ys' : List Slot)
+      → ys' ≡ applied ys (Some x.change) → TakesShare (lent t ys es) m r s out w 0 (lent t ys' es') out' x.written
+  unfolding if_done
+  share_sent x h ys' e = shares ys (Ok x) h w e h.written_is
+
+  pub share_kept : (e : Refusal) → Shares (lent t (eight_of ys) es) m r s out (Err e) es' out'
+      → TakesShare (lent t ys es) m r s out w (number_of e) (lent t ys es') out' w
+  unfolding if_done
+  share_kept e h = shares ys (Err e) h w refl (rw (ne_eqb (number_of e) 0 (number_nonzero e)))
 
 -- ---- round one
 module _ (id : ℕ) (joined out : List ℕ) where
@@ -94,26 +109,40 @@ module _ (id : ℕ) (joined out : List ℕ) where
   unfolding one_refused
   one_refuses = unsound_refused (λ T. one_refusal document01 (table_state document01 T) id joined (length out))
 
-module _ (ys : List Slot) {t es : List ℕ} {id : ℕ} {joined out : List ℕ} (a : Result Change Refusal) {out' : List ℕ}
+module _ (ys : List Slot) {t es : List ℕ} {id : ℕ} {joined out : List ℕ} (a : Result Sent Refusal) {out' : List ℕ}
     (h : RoundOne (lent t (eight_of ys) es) id joined out a out') where
-  pub one_in_range : IfSome (result_ok a) (λ x. x.at < length ys)
+  pub one_in_range : IfSome (sent.change_of a) (λ x. x.at < length ys)
   one_in_range =
       in_range (λ T. one_refused document01 T id joined (length out)) (one_refuses id joined out) t ys es
-      (λ T. one_table document01 T id joined) (fault_of a) (result_ok a) (tie a) t es h.changes
+      (λ T. one_table document01 T id joined) (fault_of a) (sent.change_of a) (sent_tie a) t es h.changes
 
-  pub ones : (w : ℕ) {ys' : List Slot} {n w' : ℕ} → ys' ≡ applied ys (result_ok a) → n ≡ fault_of {A = ℕ} (result_and a (Ok 14))
-      → w' ≡ length_of (result_and a (Ok 14)) w → TakesOne (lent t ys es) id joined out w n (lent t ys' es) out' w'
+  pub ones : (w : ℕ) {ys' : List Slot} {w' : ℕ} → ys' ≡ applied ys (sent.change_of a) → w' ≡ if_done (fault_of a) 14 w
+      → TakesOne (lent t ys es) id joined out w (fault_of a) (lent t ys' es) out' w'
   unfolding only_if
-  ones w {ys'} {n} {w'} e q l =
+  ones w {ys'} {w'} e q =
       let fault : Lent → ℕ = λ T. one_refused document01 T id joined (length out) in
       let refuses = one_refuses id joined out in
       let new : Lent → Lent = λ T. one_table document01 T id joined in
-      let given : Lent = lent t ys es in (
-        leaves fault refuses t ys es new (fault_of a) (result_ok a) (tie a) t es h.changes ys' e,
-        writes (fault given) (one_bytes document01 given id joined) 14 out w (result_and a (Ok 14)) n out' w'
-            (answered_by a (fault given) 14 (answer_is fault refuses t ys es new (fault_of a) (result_ok a) (tie a) t es h.changes))
-            (h.out_is ∙ left_same fault refuses t ys es (λ T. splice out 0 (one_bytes document01 T id joined)) out) q l,
+      let same = answer_is fault refuses t ys es new (fault_of a) (sent.change_of a) (sent_tie a) t es h.changes in (
+        leaves fault refuses t ys es new (fault_of a) (sent.change_of a) (sent_tie a) t es h.changes ys' e,
+        record {
+          answer_is = same;
+          out_is = h.out_is ∙ left_same fault refuses t ys es (λ T. splice out 0 (one_bytes document01 T id joined)) out;
+          written_is = rw same at q;
+        },
       )
+
+module _ (ys : List Slot) {t es : List ℕ} {id : ℕ} {joined out : List ℕ} (w : ℕ) {out' : List ℕ} where
+  -- round one that is taken
+  pub one_sent : (x : Sent) → RoundOne (lent t (eight_of ys) es) id joined out (Ok x) out' → (ys' : List Slot)
+      → ys' ≡ applied ys (Some x.change) → TakesOne (lent t ys es) id joined out w 0 (lent t ys' es) out' x.written
+  unfolding if_done
+  one_sent x h ys' e = ones ys (Ok x) h w e h.written_is
+
+  pub one_kept : (e : Refusal) → RoundOne (lent t (eight_of ys) es) id joined out (Err e) out'
+      → TakesOne (lent t ys es) id joined out w (number_of e) (lent t ys es) out' w
+  unfolding if_done
+  one_kept e h = ones ys (Err e) h w refl (rw (ne_eqb (number_of e) 0 (number_nonzero e)))
 
 -- ---- round two
 module _ (id : ℕ) (joined : List ℕ) where
@@ -269,9 +298,9 @@ opened_err m zero n e = cc
 opened_err m (suc f) n e = let q = rw (ne_eqb (suc f) 0 (λ z. omega arith)) at e in cc
 
 module _ {servers own : ℕ} {sheet : List ℕ} {returns least : ℕ} {t : List ℕ} {es : List ℕ} {t' es' : List ℕ} (ys : List Slot) where
-  pub opens_eight : (n : ℕ) → Opens servers own sheet returns least t (length ys) es (Ok n) t' es' → length ys ≡ 8
+  some_eight : (n : ℕ) → Opens servers own sheet returns least t (length ys) es (Ok n) t' es' → length ys ≡ 8
   unfolding open_room
-  opens_eight n h =
+  some_eight n h =
       let z = (opened_ok n _ _ h.answer_is).0 in
       let known = opening document01 servers own sheet returns least (length t) (length ys) (length es) z in
       let long : Bool = leb (open_length document01 sheet returns) (length t) in
@@ -279,11 +308,15 @@ module _ {servers own : ℕ} {sheet : List ℕ} {returns least : ℕ} {t : List 
       let run : Bool = leb (run_size (columns_of sheet)) (length es) in
       eqb-true (length ys) 8 (and_left eight run (and_right long (eight && run) known.enough))
 
-  pub opens : (w n : ℕ) {ys' : List Slot} → Opens servers own sheet returns least t (length ys) es (Ok n) t' es'
+  pub opens_eight : (a : Result ℕ Refusal) → Opens servers own sheet returns least t (length ys) es a t' es' → fault_of a ≡ 0 → length ys ≡ 8
+  opens_eight (Ok n) h z = some_eight n h
+  opens_eight (Err r) h z = absurd (number_nonzero r z)
+
+  opens_some : (w n : ℕ) {ys' : List Slot} → Opens servers own sheet returns least t (length ys) es (Ok n) t' es'
       → ys' ≡ replicate 8 free_slot
       → promise.Opens servers own sheet returns least (lent t ys es) w 0 (lent t' ys' es') n
   unfolding only_if if_done unless_refused
-  opens w n h e =
+  opens_some w n h e =
       let z = opened_ok n _ _ h.answer_is in
       record {
         answer_is = sym z.0;
@@ -291,7 +324,7 @@ module _ {servers own : ℕ} {sheet : List ℕ} {returns least : ℕ} {t : List 
         written_is = rw (z.0, z.1);
       }
 
-  pub opens_none : (w : ℕ) (r : Refusal) → Opens servers own sheet returns least t (length ys) es (Err r) t' es'
+  opens_none : (w : ℕ) (r : Refusal) → Opens servers own sheet returns least t (length ys) es (Err r) t' es'
       → promise.Opens servers own sheet returns least (lent t ys es) w (number_of r) (lent t' ys es') w
   unfolding only_if if_done unless_refused
   opens_none w r h =
@@ -302,3 +335,12 @@ module _ {servers own : ℕ} {sheet : List ℕ} {returns least : ℕ} {t : List 
         table_is = rw (h.table_is, h.numbers_are, z, f) refl;
         written_is = rw (z, f);
       }
+
+  pub opens : (w : ℕ) (a : Result ℕ Refusal) {ys' : List Slot} → Opens servers own sheet returns least t (length ys) es a t' es'
+      → ys' ≡ cleared ys (fault_of a)
+      → promise.Opens servers own sheet returns least (lent t ys es) w (fault_of a) (lent t' ys' es') (length_of a w)
+  unfolding cleared
+  opens w (Ok n) h e = opens_some w n h e
+  opens w (Err r) h e =
+      let kept = e ∙ ap (λ (b : Bool). cond b (replicate 8 free_slot) ys) (ne_eqb (number_of r) 0 (number_nonzero r)) in
+      rw kept (opens_none w r h)

@@ -10,7 +10,6 @@ ghost use Rattle.state.specs.Calls.{eight};
 ghost use Rattle.pool_server.specs.Calls.{Opens, TakesShare, TakesOne, Decides, Enters, Drops, Closes, TellsState};
 
 use records::{hand_back, number_of};
-use round_message::{LENGTH_ONE, LENGTH_TWO};
 use slots::Slot;
 
 pub fn pool_open(
@@ -29,16 +28,11 @@ pub fn pool_open(
         result (lent table.new slots.new elements.new) written.new }
 {
     let records = slots.len();
-    match opening::open(
+    let answer = opening::open(
         servers, own, sheet, returns, least, table, records, elements,
-    ) {
-        Ok(length) => {
-            slots::clear(slots);
-            *written = length;
-            0
-        }
-        Err(refusal) => refusal.number(),
-    }
+    );
+    slots::clear(slots, number_of(answer));
+    hand_back(answer, written)
 }
 
 pub fn pool_share(
@@ -56,9 +50,14 @@ pub fn pool_share(
         result (lent table.now slots.new elements.new) out.new written.new }
 {
     let list = slots::copied(slots);
-    let answer = shares::share(table, list, elements, message, r, s, out);
-    slots::apply(slots, answer.ok());
-    hand_back(answer.and(Ok(LENGTH_ONE)), written)
+    match shares::share(table, list, elements, message, r, s, out) {
+        Ok(taken) => {
+            slots::apply(slots, Some(taken.change));
+            *written = taken.written;
+            0
+        }
+        Err(refusal) => refusal.number(),
+    }
 }
 
 pub fn pool_round_one(
@@ -75,9 +74,14 @@ pub fn pool_round_one(
         result (lent table.now slots.new elements.now) out.new written.new }
 {
     let list = slots::copied(slots);
-    let answer = round_one::round_one(table, list, elements, id, joined, out);
-    slots::apply(slots, answer.ok());
-    hand_back(answer.and(Ok(LENGTH_TWO)), written)
+    match round_one::round_one(table, list, elements, id, joined, out) {
+        Ok(summed) => {
+            slots::apply(slots, Some(summed.change));
+            *written = summed.written;
+            0
+        }
+        Err(refusal) => refusal.number(),
+    }
 }
 
 pub fn pool_round_two(

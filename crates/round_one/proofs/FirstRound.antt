@@ -1,12 +1,12 @@
 -- Round one: the refusal, the record and the message in the numbers of code are those of rules, for the return that the id names.
 -- A call that names none is refused 11 (`one_refusal_lem` of the crate rounds). Assumes nothing.
 use mathlib.Core.Path.{◌≡◌, refl, sym, ap, ◌∙◌}
-use mathlib.Core.Bool.{false, cond, ◌&&◌}
+use mathlib.Core.Bool.{cond, ◌&&◌}
 use mathlib.Core.List.{List, [], ◌∷◌}
 use Prim.Native.Nat.{ℕ, ◌≤◌, ◌<◌}
 use native.Mathlib.Omega.{arith}
 use borrow.Author.Tests.{le-leb, lt-leb, leb-true, ne_eqb}
-use lib.Dec.{eqb, leb}
+use lib.Dec.{leb}
 use lib.ListN.{length}
 use Rattle.std.specs.Prelude.{Result, Ok, Err, Some}
 use Rattle.std.specs.Result.{IsErrAnd}
@@ -18,7 +18,6 @@ use Rattle.records.specs.Refusals.{number_of}
 use Rattle.records.specs.declared.Refusal.{Refusal}
 use Rattle.records.proofs.Outcome.{or_none, or_zero}
 use Rattle.records.proofs.Refusals.{number_nonzero, first_counts, second_counts}
-use Rattle.slots.specs.declared.Change.{Change}
 use Rattle.slots.specs.declared.Slot.{Slot}
 use Rattle.slots.specs.Slots.{applied}
 use Rattle.field.specs.Residues.{prime}
@@ -37,6 +36,7 @@ use Rattle.round_message.proofs.Rounds.{rounds_summable}
 use Rattle.layout.specs.Numbers.{table_of, Limited}
 use Rattle.layout.specs.declared.Table.{Table}
 use Rattle.waiting.specs.declared.Waiting.{Waiting}
+use Rattle.waiting.specs.declared.writing.Sent.{Sent}
 use Rattle.waiting.specs.Held.{held_at}
 use Rattle.waiting.specs.Changes.{records_at, lent}
 use Rattle.waiting.proofs.Changes.{refused_changes, done_changes}
@@ -129,14 +129,15 @@ module _ (T : Lent) (id : ℕ) (joined : List ℕ) where
           refused_changes (one_refused document01 T id joined (length out)) (one_table document01 T id joined) T (number_of e) q
           (number_nonzero e);
       out_is = rw (q, ne_eqb (number_of e) 0 (number_nonzero e));
+      written_is = tt;
     }
 
     -- a refusal e, which the answer a passes on
-    refused_as : (a : Result Change Refusal) (e : Refusal) → IsErrAnd a (λ y. y ≡ e)
+    refused_as : (a : Result Sent Refusal) (e : Refusal) → IsErrAnd a (λ y. y ≡ e)
         → one_refused document01 T id joined (length out) ≡ number_of e → RoundOne T id joined out a out
     refused_as a e h q = let p = err_from_is_err_and a h in rw (p.1, p.2) (refused_by_lem e q)
 
-    pub first_unnamed : (a : Result Change Refusal) (e : Refusal) → IsErrAnd a (λ y. y ≡ e) → refused (number_of e) ≡ named_in T id 1
+    pub first_unnamed : (a : Result Sent Refusal) (e : Refusal) → IsErrAnd a (λ y. y ≡ e) → refused (number_of e) ≡ named_in T id 1
         → RoundOne T id joined out a out
     first_unnamed a e h q =
         let b = not_found T id 1 (number_of e) q in
@@ -166,7 +167,7 @@ module _ (T : Lent) (id : ℕ) (joined : List ℕ) where
 
         pub first_done : (y : Slot) (out' : List ℕ) → y ≡ summed_slot v.table v.waiting joined
             → out' ≡ splice out 0 (message_at v.table v.waiting ns joined)
-            → RoundOne T id joined out (Ok (records_at v.at y)) out'
+            → RoundOne T id joined out (Ok (record { change = records_at v.at y; written = 14 })) out'
         unfolding only_if
         first_done y out' q o =
             let refusal = one_refused document01 T id joined (length out) in
@@ -179,8 +180,9 @@ module _ (T : Lent) (id : ℕ) (joined : List ℕ) where
                   done_changes refusal (one_table document01 T id joined) T v.at y T.bytes T.elements none
                   (omega (arith, n.waits.within, s.eight)) t;
               out_is = o ∙ rw (none, s.says, n.says, m) (ap (splice out 0) (bytes_at v.at n.place_is));
+              written_is = refl;
             }
 
-    pub first_refused : (v : Named) → Names T id 1 v.table v.at v.waiting → (a : Result Change Refusal) (e : Refusal)
+    pub first_refused : (v : Named) → Names T id 1 v.table v.at v.waiting → (a : Result Sent Refusal) (e : Refusal)
         → IsErrAnd a (λ y. y ≡ e) → number_of e ≡ one_fault_at v.table v.waiting joined (length out) → RoundOne T id joined out a out
     first_refused v n a e h q = refused_as a e h (fault_is v n (number_of e) q)

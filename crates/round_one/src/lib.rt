@@ -17,8 +17,8 @@ use records::Refusal;
 use round_message::{LENGTH_ONE, LENGTH_TWO, Round};
 use rounds::named::{find, numbers_at};
 use rounds::own::sigma_of;
-use slots::{Change, Slot};
-use waiting::writing::records;
+use slots::Slot;
+use waiting::writing::{Sent, records};
 use waiting::{Stage, Waiting};
 
 // Checks the joined messages, then their challenges, then the room for the message that is written.
@@ -72,7 +72,7 @@ pub fn round_one(
     id: u32,
     joined: &[u8],
     out: &mut [u8],
-) -> Result<Change, Refusal>
+) -> Result<Sent, Refusal>
     ensures { RoundOne (lent table.now list numbers.now) id joined.now out.old
         result out.new }
 {
@@ -81,5 +81,8 @@ pub fn round_one(
     check_one(joined, k, named.waiting, out.len())?;
     let ns = numbers_at(numbers, k, named.at);
     let slot = take_one(joined, k, named.waiting, ns, out);
-    Ok(records(named.at, slot))
+    Ok(Sent {
+        change: records(named.at, slot),
+        written: LENGTH_TWO,
+    })
 }

@@ -1,7 +1,7 @@
 -- A share: refused where the table is unsound or a check refuses, which leaves all as it was (`refused_as`), else taken
 -- (`share_done`). One that no check refuses keeps to the limits that taking asks for, and a record is free for it, since fewer
 -- than eight wait (`takable`). Assumes nothing.
-use mathlib.Core.Path.{◌≡◌, sym, ◌∙◌}
+use mathlib.Core.Path.{◌≡◌, refl, sym, ◌∙◌}
 use mathlib.Core.Bool.{true, not}
 use mathlib.Core.List.{List}
 use Prim.Native.Nat.{ℕ, ◌≤◌, ◌<◌}
@@ -35,6 +35,7 @@ use Rattle.limits.specs.Sheets.{size_of, pair_sound}
 use Rattle.limits.proofs.Sheets.{pair_below}
 use Rattle.layout.specs.declared.Table.{Table}
 use Rattle.waiting.specs.Changes.{lent, records_at}
+use Rattle.waiting.specs.declared.writing.Sent.{Sent}
 use Rattle.waiting.proofs.Changes.{refused_changes, done_changes}
 use Rattle.table.specs.Reading.{found_in, Sound}
 use Rattle.table.proofs.Answers.{unsound, not_refused}
@@ -63,13 +64,14 @@ module _ (T : Lent) (m : List ℕ) (r s : ℕ) (out : List ℕ) where
         refused_changes (share_refused document01 T m r s (length out)) (share_table document01 T m r s) T (number_of e) q
         (number_nonzero e);
     out_is = rw (q, ne_eqb (number_of e) 0 (number_nonzero e));
+    written_is = tt;
   }
 
-  refused_as : (a : Result Change Refusal) (e : Refusal) → IsErrAnd a (λ y. y ≡ e)
+  refused_as : (a : Result Sent Refusal) (e : Refusal) → IsErrAnd a (λ y. y ≡ e)
       → share_refused document01 T m r s (length out) ≡ number_of e → Shares T m r s out a T.elements out
   refused_as a e h q = let p = err_from_is_err_and a h in rw (p.1, p.2) (refused_by_lem e q)
 
-  pub share_unsound : (a : Result Change Refusal) (e : Refusal) → IsErrAnd a (λ y. y ≡ e) → refused (number_of e) ≡ found_in T
+  pub share_unsound : (a : Result Sent Refusal) (e : Refusal) → IsErrAnd a (λ y. y ≡ e) → refused (number_of e) ≡ found_in T
       → Shares T m r s out a T.elements out
   unfolding share_refused
   share_unsound a e h q = let u = unsound T (number_of e) (sym q) in refused_as a e h (rw u.0 (or_first (number_of e) _ u.1))
@@ -144,7 +146,8 @@ module _ (T : Lent) (m : List ℕ) (r s : ℕ) (out : List ℕ) where
       unfolding share_table
       table_is es e = rw e
 
-      pub share_done : (c : Change) (es out' : List ℕ) → Takes T m r s out c es out' → Shares T m r s out (Ok c) es out'
+      pub share_done : (c : Change) (es out' : List ℕ) → Takes T m r s out c es out'
+          → Shares T m r s out (Ok (record { change = c; written = 22 })) es out'
       unfolding only_if
       share_done c es out' t =
           let z : share_refused document01 T m r s (length out) ≡ 0 = refusal_is ∙ none in
@@ -155,9 +158,10 @@ module _ (T : Lent) (m : List ℕ) (r s : ℕ) (out : List ℕ) where
                 (done_changes (share_refused document01 T m r s (length out)) (share_table document01 T m r s) T taken.at taken.slot
                 T.bytes es z l (table_is es t.numbers_is));
             out_is = rw z t.out_is;
+            written_is = refl;
           }
 
   -- what no check lets pass
-  pub share_refused_lem : (k : Table) → Sound T k → (a : Result Change Refusal) (e : Refusal) → IsErrAnd a (λ y. y ≡ e)
+  pub share_refused_lem : (k : Table) → Sound T k → (a : Result Sent Refusal) (e : Refusal) → IsErrAnd a (λ y. y ≡ e)
       → number_of e ≡ share_refusal document01 (table_state document01 T) m r s (length out) → Shares T m r s out a T.elements out
   share_refused_lem k h a e p q = refused_as a e p (refusal_is k h (number_of e) q)

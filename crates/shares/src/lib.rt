@@ -16,11 +16,12 @@ ghost use Rattle.shares.specs.Taking.{Judgeable, Brought, Takable, Takes};
 use layout::Table;
 use layout::places::sheet_part;
 use records::Refusal;
+use round_message::LENGTH_ONE;
 use share_checks::check_share;
 use slots::{Change, Slot};
 use snip::judging::{Judged, Shape, judge};
 use waiting::Stage;
-use waiting::writing::{read_share, records, write_last};
+use waiting::writing::{Sent, read_share, records, write_last};
 
 // What the server works out from the elements xs of a share with the pair r, s.
 fn judged(t: &[u8], k: Table, xs: &[u32], r: u32, s: u32) -> Judged
@@ -96,12 +97,15 @@ pub fn share(
     r: u64,
     s: u64,
     out: &mut [u8],
-) -> Result<Change, Refusal>
+) -> Result<Sent, Refusal>
     ensures { Shares (lent table.now list numbers.old) m.now r s out.old
         result numbers.new out.new }
 {
     let k = table::read(table, list, numbers)?;
     let x = share_message::share_part(m, k.share_size(), k.own);
     check_share(table, k, list, m, x, r, s, out.len())?;
-    Ok(take(table, list, numbers, k, m, x, r, s, out))
+    Ok(Sent {
+        change: take(table, list, numbers, k, m, x, r, s, out),
+        written: LENGTH_ONE,
+    })
 }

@@ -2,8 +2,8 @@
 // rules work on them by value, and one change is applied.
 #![tactic(auto)]
 
-ghost use Rattle.std.specs.Prelude.{◌≡◌, ◌<◌, length, replicate, IfSome};
-ghost use Rattle.slots.specs.Slots.{free_slot, eight_of, applied};
+ghost use Rattle.std.specs.Prelude.{◌≡◌, ◌<◌, length, IfSome};
+ghost use Rattle.slots.specs.Slots.{eight_of, applied, cleared};
 
 // A return that waits: its stage is 0 where the record is free.
 #[repr(C)]
@@ -48,11 +48,10 @@ pub struct Change {
 pub fn copied(slots: &[Slot]) -> [Slot; 8]
     ensures { result ≡ eight_of slots.now }
 {
-    let mut eight = [BROKEN_SLOT; 8];
     if slots.len() == 8 {
-        eight.copy_from_slice(slots);
+        return <[Slot; 8]>::try_from(slots).unwrap();
     }
-    eight
+    [BROKEN_SLOT; 8]
 }
 
 // None is the change of a call that is refused.
@@ -65,10 +64,13 @@ pub fn apply(slots: &mut [Slot], change: Option<Change>)
     }
 }
 
-// What opening does to the list.
-pub fn clear(slots: &mut [Slot])
-    requires { length slots.old ≡ 8 }
-    ensures { slots.new ≡ replicate 8 free_slot }
+// What opening does to the list: nothing where it is refused, else eight free records.
+#[tactic(auto, unfolding(crate::specs::Slots::cleared))]
+pub fn clear(slots: &mut [Slot], refusal: u32)
+    requires { refusal ≡ 0 → length slots.old ≡ 8 }
+    ensures { slots.new ≡ cleared slots.old refusal }
 {
-    slots.fill(FREE_SLOT);
+    if refusal == 0 {
+        slots.fill(FREE_SLOT);
+    }
 }

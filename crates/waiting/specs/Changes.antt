@@ -2,14 +2,21 @@
 -- the list with its change.
 -- Assumes nothing.
 use Rattle.std.specs.Prelude.{◌≡◌, cond, List, ℕ, ◌<◌, eqb, length, IfSome}
-use Rattle.std.specs.Prelude.{Option}
+use Rattle.std.specs.Prelude.{Option, None, Some, Result, Ok, Err}
 use Rattle.slots.specs.declared.Slot.{Slot}
 use Rattle.slots.specs.declared.Change.{Change}
 use Rattle.slots.specs.Slots.{applied}
 use Rattle.rules.specs.Table.{Lent}
+use Rattle.waiting.specs.declared.writing.Sent.{Sent}
 
 abbrev pub records_at : ℕ → Slot → Change
 records_at at slot = record { at = at; slot = slot }
+
+-- what a call that writes a message does to the list
+module _ {E : Type 0} where
+  abbrev pub change_of : Result Sent E → Option Change
+  change_of (Ok x) = Some x.change
+  change_of (Err e) = None
 
 -- the three parts
 abbrev pub lent : List ℕ → List Slot → List ℕ → Lent

@@ -6,6 +6,13 @@ ghost use Rattle.waiting.specs.Changes.{records_at};
 
 use slots::{Change, FREE_SLOT, Slot};
 
+// What a call that writes a message comes to: the record that changes, and the length of the message.
+#[derive(Clone, Copy)]
+pub struct Sent {
+    pub change: Change,
+    pub written: usize,
+}
+
 // Reads the element bytes x of a share into the numbers from `at`.
 pub fn read_share(numbers: &mut [u32], at: usize, x: &[u8], size: usize)
     requires { (length x.now ≡ 4 * size) × (at + size ≤ length numbers.old) }

@@ -44,9 +44,9 @@ impl Server {
     fn share(self, m: &[u8; 42], r: u64) -> Result<Server, Refusal> {
         let mut numbers = self.numbers;
         let mut one = [0; LENGTH_ONE];
-        let change = shares::share(&self.table, self.list, &mut numbers, m, r, 0, &mut one)?;
+        let taken = shares::share(&self.table, self.list, &mut numbers, m, r, 0, &mut one)?;
         Ok(Server {
-            list: after(self.list, change),
+            list: after(self.list, taken.change),
             numbers,
             one,
             ..self
@@ -56,7 +56,7 @@ impl Server {
     // Round one, with the messages of both servers.
     fn round_one(self, joined: &[u8; 2 * LENGTH_ONE]) -> Result<Server, Refusal> {
         let mut two = [0; LENGTH_TWO];
-        let change = round_one::round_one(
+        let summed = round_one::round_one(
             &self.table,
             self.list,
             &self.numbers,
@@ -65,7 +65,7 @@ impl Server {
             &mut two,
         )?;
         Ok(Server {
-            list: after(self.list, change),
+            list: after(self.list, summed.change),
             two,
             ..self
         })

@@ -1,13 +1,15 @@
 -- `pool_share`: what `shares::share` says of the eight records it says of those lent, with its change applied. Assumes nothing.
-use Rattle.pool_server.proofs.Facts.{share_in_range, shares}
+use Rattle.pool_server.proofs.Facts.{share_in_range, share_sent, share_kept}
 use Rattle.pool_server.proofs.pool_share.Goals as goal
 
 pub apply-requires : goal.apply-requires
-apply-requires c =
-    rw c.ok.ensures.value (share_in_range c.args.slots.now _ (rw c.copied-list.ensures at c.share-answer.ensures))
+apply-requires c = share_in_range c.args.slots.now _ (rw c.copied-list.ensures at c.in-Ok.ensures)
 
-pub returns : goal.returns
-returns c =
-    shares c.args.slots.now _ (rw c.copied-list.ensures at c.share-answer.ensures) c.args.written.now
-    (rw c.ok.ensures.value at c.apply.ensures) (rw c.and.ensures at c.hand_back.ensures.number)
-    (rw c.and.ensures at c.hand_back.ensures.length)
+pub returns-in-Ok : goal.returns-in-Ok
+returns-in-Ok c =
+    share_sent c.args.slots.now c.args.written.now c.in-Ok.taken (rw c.copied-list.ensures at c.in-Ok.ensures) _ c.apply.ensures
+
+pub returns-in-Err : goal.returns-in-Err
+returns-in-Err c =
+    rw c.number.ensures
+    (share_kept c.args.slots.now c.args.written.now c.in-Err.refusal (rw c.copied-list.ensures at c.in-Err.ensures))

@@ -20,23 +20,33 @@ ghost use Rattle.walk.specs.Walks.{Entries, Outputs, Asked};
 use columns::{Column, bit_length, counts_of};
 use sheet::cursor;
 
-// n members of x from `first`, then `last`
+// out[i] = x[first + i]
+fn copy(x: &[u32], first: usize, out: &mut [u32])
+    requires { first + length out.old ≤ length x.now }
+    ensures { out.new ≡ tabulate (λ i. members x.now (first + i)) (length out.old) }
+{
+    for (i, place) in out.iter_mut().enumerate() {
+        *place = x[first + i];
+    }
+}
+
+// out[i] = x[first + i] for the first n, then out[n] = last
 fn copy_then(x: &[u32], first: usize, n: usize, last: u32, out: &mut [u32])
     requires { (first + n ≤ length x.now) × (length out.old ≡ suc n) }
     ensures { out.new ≡ tabulate (λ i. members x.now (first + i)) n ++ (last ∷ []) }
 {
-    out[..n].copy_from_slice(&x[first..first + n]);
+    copy(x, first, &mut out[..n]);
     out[n] = last;
 }
 
-// n members of x from `first`, then a and b
+// out[i] = x[first + i] for the first n, then a and b
 fn copy_two(x: &[u32], first: usize, n: usize, a: u32, b: u32, out: &mut [u32])
     requires { (first + n ≤ length x.now) × (length out.old ≡ suc (suc n)) }
     ensures { out.new ≡ tabulate (λ i. members x.now (first + i)) n ++ (a ∷ b ∷ []) }
 {
-    out[..n].copy_from_slice(&x[first..first + n]);
-    out[n] = a;
-    out[n + 1] = b;
+    let end = n + 1;
+    copy_then(x, first, n, a, &mut out[..end]);
+    out[end] = b;
 }
 
 // start + x[first] + .. + x[first + n - 1]
@@ -72,11 +82,11 @@ fn column_lefts(x: &[u32], e: usize, column: Column, out: &mut [u32])
     requires { (e + entries_of (from_code column) ≤ length x.now) × (length out.old ≡ gates_of (from_code column)) }
     ensures { out.new ≡ column_lefts document01 (plain 0 (members x.now)) e (from_code column) }
 {
-    let bits = out.len();
     match column {
         Column::YesNo => out[0] = x[e],
-        Column::Choice(_) => out.copy_from_slice(&x[e..e + bits]),
-        Column::Number(_) | Column::Top(_) => out.copy_from_slice(&x[e + 1..e + 1 + bits]),
+        Column::Choice(_) => copy(x, e, out),
+        Column::Number(_) => copy(x, e + 1, out),
+        Column::Top(_) => copy(x, e + 1, out),
         Column::Point(n) => copy_two(x, e + 4, 2 * n, x[e], x[e], out),
     }
 }

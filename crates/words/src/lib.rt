@@ -42,7 +42,9 @@ pub fn copy(s: &mut [u8], at: usize, from: &[u8])
     requires { at + length from.now ≤ length s.old }
     ensures { s.new ≡ splice s.old at from.now }
 {
-    s[at..at + from.len()].copy_from_slice(from);
+    for (i, byte) in from.iter().enumerate() {
+        s[at + i] = *byte;
+    }
 }
 
 // Whether two runs of bytes are equal.

@@ -136,7 +136,7 @@ pub fn fill_weights(out: &mut [u32])
     weigh(&tables::INVERSES, out);
 }
 
-// Both as `fill_weights` fills one.
+// Both as `fill_weights` fills one, with the table named once.
 pub fn fill_two(first: &mut [u32], second: &mut [u32])
     requires first_nonzero { (0 < length first.old) × (length first.old ≤ 513) }
     requires second_nonzero { (0 < length second.old) × (length second.old ≤ 513) }
@@ -145,6 +145,7 @@ pub fn fill_two(first: &mut [u32], second: &mut [u32])
     ensures second_after { second.new
         ≡ tabulate (weight residues (length second.old - 1)) (length second.old) }
 {
-    fill_weights(first);
-    fill_weights(second);
+    let inverses = &tables::INVERSES;
+    weigh(inverses, first);
+    weigh(inverses, second);
 }

@@ -1,35 +1,28 @@
--- `seeded::shares::take_seeds` meets its contract. The loop's invariant: the elements of the first i seeds are taken (`less_next`).
--- Assumes nothing.
-use mathlib.Core.Path.{◌≡◌, refl, ap, ◌∙◌}
-use Prim.Native.Nat.{ℕ, ◌*◌}
-use native.Mathlib.Omega.{arith}
+-- `seeded::shares::take_seeds` meets its contract: what is lent to `subtract` are just the sums. Assumes nothing.
+use mathlib.Core.Path.{sym, ap, ◌∙◌}
+use Prim.Native.Nat.{ℕ}
 use lib.ListN.{length}
-use Rattle.steps.proofs.Parts.{span}
-use Rattle.seeded.specs.Pieces.{lessened, seed_sums}
-use Rattle.seeded.proofs.Sums.{less_none, less_next, less_elements, seed_within, seed_whole}
+use lib.Seq.{length-take-le}
+use Rattle.seeded.specs.Pieces.{seed_sums}
+use Rattle.seeded.proofs.Sums.{first_zeros, length_sums, sums_elements}
 use Rattle.seeded.proofs.shares.take_seeds.Goals as goal
 
-pub loop-i-init : goal.loop-i-init
-loop-i-init c = less_none _ _ _ _ refl c.requires.1
+pub slice_bounds-sum-end : goal.slice_bounds-sum-end
+slice_bounds-sum-end c = sym (length-take-le _ _ c.requires.2)
 
-pub slice_bounds-take_seed-end : goal.slice_bounds-take_seed-end
-slice_bounds-take_seed-end c = seed_within c.requires.0 c.loop-i.i c.loop-i-test.true
+pub sum_seeds-requires : goal.sum_seeds-requires
+sum_seeds-requires c =
+    rw (length-take-le _ _ c.requires.2) (c.requires.0, c.requires.2, first_zeros (length c.args.w.now) 774 c.requires.2)
 
-pub take_seed-requires : goal.take_seed-requires
-take_seed-requires c =
-    let l = c.loop-i in
-    (seed_whole c.requires.0 l.i c.loop-i-test.true, rw l.invariant (less_elements _ _), rw l.auto.w c.requires.2)
-
-pub loop-i-preserved : goal.loop-i-preserved
-loop-i-preserved c =
+-- the sums are as many as the elements of w
+pub subtract-requires : goal.subtract-requires
+subtract-requires c =
     let a = c.args in
-    let l = c.loop-i in
-    c.take_seed.ensures
-    ∙ rw (span (32 * l.i) 32 a.seeds.now, l.auto.w, l.invariant) (less_next a.seeds.now a.id _ a.w.now refl c.requires.1 l.i)
+    let given = c.sum_seeds.ensures ∙ ap (λ (n : ℕ). seed_sums a.seeds.now a.id n a.others) (length-take-le _ _ c.requires.2) in
+    rw given (c.requires.1, sums_elements _ _ _ _, length_sums _ _ _ _)
 
 pub returns : goal.returns
 returns c =
     let a = c.args in
-    let l = c.loop-i in
-    let e : l.i ≡ a.others = omega arith in
-    l.invariant ∙ ap (λ (n : ℕ). lessened a.w.now (seed_sums a.seeds.now a.id (length a.w.now) n)) e
+    let given = c.sum_seeds.ensures ∙ ap (λ (n : ℕ). seed_sums a.seeds.now a.id n a.others) (length-take-le _ _ c.requires.2) in
+    rw (c.subtract.ensures, given)

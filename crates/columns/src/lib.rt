@@ -62,6 +62,18 @@ impl Kind {
             _ => None,
         }
     }
+
+    // The bytes of a column of the kind, its kind byte too.
+    #[tactic(auto, unfolding(rules::specs::Columns::column_body, crate::specs::Kinds::bytes_of_kind))]
+    pub fn bytes(self) -> usize
+        ensures { result ≡ bytes_of_kind (code_of self) }
+    {
+        match self {
+            Kind::YesNo => 1,
+            Kind::Choice | Kind::Number | Kind::Point => 2,
+            Kind::Top => 5,
+        }
+    }
 }
 
 // No column at all: what the default is, in the words of the rules.
@@ -71,19 +83,18 @@ pub fn none() -> Counts
     Counts::default()
 }
 
-// The bytes of a column, its kind byte too.
-#[tactic(auto, unfolding(rules::specs::Columns::column_body, crate::specs::Kinds::bytes_of_kind))]
-pub fn bytes_of(kind: Kind) -> usize
-    ensures { result ≡ bytes_of_kind (code_of kind) }
+// The bytes of a column, its kind byte too; 0 for an unknown kind.
+pub fn bytes_of(kind: u8) -> usize
+    ensures { result ≡ bytes_of_kind kind }
 {
-    match kind {
-        Kind::YesNo => 1,
-        Kind::Choice | Kind::Number | Kind::Point => 2,
-        Kind::Top => 5,
+    match Kind::of(kind) {
+        Some(known) => known.bytes(),
+        None => 0,
     }
 }
 
 // A column of the number n, where n is from `least` to `most`.
+#[inline(always)]
 #[tactic(auto, unfolding(rules::specs::Columns::limited_column))]
 fn limited(n: usize, least: usize, most: usize, column: Column) -> Result<Column, Refusal>
     ensures { outcome_of result ≡ judged_of (limited_column (within least most n) (from_code column)) }
@@ -96,6 +107,7 @@ fn limited(n: usize, least: usize, most: usize, column: Column) -> Result<Column
 
 // What a record with a whole body says.
 #[tactic(auto, unfolding(rules::specs::Columns::column_of, rules::specs::Columns::column_body, crate::specs::Kinds::bytes_of_kind))]
+#[inline(always)]
 pub fn column_of(kind: Kind, body: &[u8]) -> Result<Column, Refusal>
     requires { bytes_of_kind (code_of kind) ≡ length body.now + 1 }
     ensures { outcome_of result ≡ judged_of (column_of (code_of kind) body.now) }

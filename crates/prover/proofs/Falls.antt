@@ -6,21 +6,24 @@ use Prim.Native.Nat.{ℕ, suc, ◌+◌, ◌≤◌, ◌<◌}
 use native.Mathlib.Nat.{add-zero}
 use native.Mathlib.Numerals.{add-one}
 use native.Mathlib.Omega.{arith}
-use lib.ListN.{length, get_or, set, drop}
+use lib.ListN.{length, get_or, set, drop, get_or-append}
 use Rattle.algebra.specs.Interpolation.{ascending}
 use Rattle.algebra.specs.Lists.{tabulate}
-use Rattle.algebra.proofs.Tables.{get_d_tabulate}
+use Rattle.algebra.proofs.Tables.{length_tabulate, get_d_tabulate}
 use Rattle.field.specs.Residues.{prime, residues}
 use Rattle.field.proofs.Below.{product_below}
 use Rattle.walk.proofs.Filling.{Filling, start as fill_start, turn as fill_turn, finish as fill-finish}
 use Rattle.prover.specs.Curves.{fall_at}
 use Rattle.prover.proofs.Extrapolation.{fall_next}
 
--- the first is the last of a table of the shorter products
-pub fall_first : (ps : List ℕ) (n k : ℕ) → ps ≡ tabulate (λ j. ascending residues 0 j (n + 1)) k → k ≡ n + 2
-    → get_or ps (n + 1) 0 ≡ fall_at n 0
-fall_first ps n k e q =
-    ap (λ (l : List ℕ). get_or l (n + 1) 0) e
+-- the first, where a table of the products stands before other members
+pub fall_first : (ps rest : List ℕ) (n k : ℕ) → ps ≡ tabulate (λ j. ascending residues 0 j (n + 1)) k → k ≡ n + 2
+    → get_or (ps ++ rest) (n + 1) 0 ≡ fall_at n 0
+fall_first ps rest n k e q =
+    let l : length ps ≡ k = ap length e ∙ length_tabulate _ k in
+    let h : n + 1 < length ps = omega arith in
+    get_or-append ps rest 0 (n + 1) h
+    ∙ ap (λ (l : List ℕ). get_or l (n + 1) 0) e
     ∙ get_d_tabulate (λ j. ascending residues 0 j (n + 1)) k (n + 1) 0 (omega arith)
     ∙ ap₂ (λ (a b : ℕ). ascending residues 0 a b) (add-one n) (add-one n ∙ sym (add-zero (suc n)))
 

@@ -17,8 +17,8 @@ ghost use Rattle.walk.specs.Walks.{plain, members, Entries};
 ghost use Rattle.prover.specs.Curves.{scaled_at, value_at, product_of, Weights, Curve};
 ghost use Rattle.prover.specs.Tables.{degree};
 
-mod correcting;
-mod tables;
+pub mod correcting;
+pub mod tables;
 
 use tables::Tables;
 

@@ -45,6 +45,17 @@ impl Round {
     }
 }
 
+// The bytes of a round's message, by its kind byte; those of round two for a byte that is no round's.
+pub fn length_of(kind: u8) -> usize
+    ensures { result ≡ round_length document01 kind }
+{
+    if kind == Round::One as u8 {
+        LENGTH_ONE
+    } else {
+        LENGTH_TWO
+    }
+}
+
 // Whether bytes are a message of a round for an id, of one of the servers, with nothing but elements behind that.
 fn round_sound(m: &[u8], servers: u8, round: Round, id: u32) -> bool
     requires { round_length document01 35 ≤ length m.now }

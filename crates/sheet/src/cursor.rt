@@ -7,7 +7,7 @@ ghost use Rattle.rules.specs.Columns.{read_sheet, columns_of};
 ghost use Rattle.sheet.specs.Cursor.{begin, Stands, Walks, step_at};
 ghost use Rattle.sheet.specs.Walk.{Goes};
 
-use columns::{Column, Kind, bytes_of, column_of, counts_of};
+use columns::{Column, Kind, column_of, counts_of};
 
 // Before a column: its index and its byte place, the entries, the published entries and the multiplications before it.
 #[derive(Clone, Copy, Debug, PartialEq, Eq)]
@@ -39,7 +39,8 @@ pub fn start() -> Cursor
     }
 }
 
-// The column under the cursor, and the next cursor.
+// The column under the cursor, and the next cursor. Each walk has it within its loop: a call would hand both over in memory.
+#[inline(always)]
 pub fn next(s: &[u8], c: Cursor) -> Step
     requires { Stands s.now c }
     ensures { result ≡ step_at s.now c.index }
@@ -47,7 +48,7 @@ pub fn next(s: &[u8], c: Cursor) -> Step
     let at = c.at;
     let kind = Kind::of(s[at]).unwrap();
     let start = at + 1;
-    let end = at + bytes_of(kind);
+    let end = at + kind.bytes();
     let column = column_of(kind, &s[start..end]).unwrap();
     let counts = counts_of(column);
     let next = Cursor {
@@ -96,6 +97,7 @@ impl<'a> Iterator for Walk<'a> {
 
     ghost remaining = { λ w. at_most (length (columns_of w.sheet.now) - w.next.index) };
 
+    #[inline(always)]
     fn next(&mut self) -> Option<Place> {
         let before = self.next;
         if self.sheet.len() <= before.at {

@@ -10,7 +10,7 @@ ghost use Rattle.sheet.specs.Reading.{more, Countable, limited, reading_of};
 pub mod cursor;
 pub mod returns;
 
-use columns::{Column, Counts, Kind, bytes_of, column_of, counts_of, none};
+use columns::{Column, Counts, Kind, column_of, counts_of, none};
 use records::Refusal;
 
 // One column more, but for its constants. Past the limit of entries nothing is counted any more.
@@ -64,7 +64,7 @@ pub fn read(s: &[u8]) -> Result<Counts, Refusal>
             continue;
         }
         let kind = Kind::of(s[at]).ok_or(Refusal::Kind)?;
-        let size = bytes_of(kind);
+        let size = kind.bytes();
         if s.len() - at < size {
             return Err(Refusal::Kind);
         }

@@ -122,7 +122,7 @@ returns-then-s-at-2 c =
     let s = c.args.s.now in
     let byte_is = rw c.in_ok-kind.ensures.ok_part at c.of.ensures in
     sym (answer_refused s 1 (c.loop-at.invariant.2.2
-    ∙ cut s c.loop-at.at c.loop-at.invariant.2.0 (omega arith) c.in_ok-kind.kind byte_is _ c.bytes_of-size.ensures c.if-s-at-2.true))
+    ∙ cut s c.loop-at.at c.loop-at.invariant.2.0 (omega arith) c.in_ok-kind.kind byte_is _ c.bytes-size.ensures c.if-s-at-2.true))
 
 pub slice_bounds-column_of-count : goal.slice_bounds-column_of-count
 slice_bounds-column_of-count c = let l = kind_some c.in_ok-kind.kind in omega arith
@@ -134,7 +134,7 @@ pub column_of-requires : goal.column_of-requires
 column_of-requires c =
     let byte_is = rw c.in_ok-kind.ensures.ok_part at c.of.ensures in
     body_long c.args.s.now c.loop-at.at c.loop-at.invariant.2.0 (omega arith) c.in_ok-kind.kind byte_is
-    c.bytes_of-size.result c.bytes_of-size.ensures c.if-s-at-2.false
+    c.bytes-size.result c.bytes-size.ensures c.if-s-at-2.false
 
 pub returns-in_err-column : goal.returns-in_err-column
 returns-in_err-column c =
@@ -143,7 +143,7 @@ returns-in_err-column c =
     outcome_passed _ _ c.from_residual-in_err-column.ensures.1
     ∙ sym (answer_refused s _ (c.loop-at.invariant.2.2
     ∙ refuse s c.loop-at.at c.loop-at.invariant.2.0 (omega arith) c.in_ok-kind.kind byte_is
-    c.bytes_of-size.result c.bytes_of-size.ensures c.if-s-at-2.false _ (sym c.in_err-column.ensures)))
+    c.bytes-size.result c.bytes-size.ensures c.if-s-at-2.false _ (sym c.in_err-column.ensures)))
 
 pub counts_of-requires-in-loop-at : goal.counts_of-requires-in-loop-at
 counts_of-requires-in-loop-at c = (taken _ _ _ (sym c.in_ok-column.ensures)).in_limits
@@ -167,7 +167,7 @@ loop-at-preserved c =
         rw (c.with-counts-in-loop-at.ensures.0, c.counts_of-in-loop-at.ensures)
             (tracks_next c.loop-at.counts d (from_code a) c.loop-at.invariant.2.1),
         c.loop-at.invariant.2.2
-            ∙ goes_on_lem c.args.s.now c.loop-at.at d (omega arith) c.in_ok-kind.kind byte_is _ c.bytes_of-size.ensures
+            ∙ goes_on_lem c.args.s.now c.loop-at.at d (omega arith) c.in_ok-kind.kind byte_is _ c.bytes-size.ensures
             c.if-s-at-2.false a (sym c.in_ok-column.ensures),
       ),
     )

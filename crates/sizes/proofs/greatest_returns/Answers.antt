@@ -3,6 +3,10 @@ use native.Mathlib.Omega.{arith}
 use Rattle.sizes.specs.Room.{greatest_of}
 use Rattle.sizes.proofs.greatest_returns.Goals as goal
 
-pub returns : goal.returns
+pub returns-then-most-lt-MAX_RETURNS : goal.returns-then-most-lt-MAX_RETURNS
 unfolding greatest_of
-returns c = omega (arith, c.min.ensures)
+returns-then-most-lt-MAX_RETURNS c = omega arith
+
+pub returns-else-most-lt-MAX_RETURNS : goal.returns-else-most-lt-MAX_RETURNS
+unfolding greatest_of
+returns-else-most-lt-MAX_RETURNS c = omega arith

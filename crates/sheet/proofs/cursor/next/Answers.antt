@@ -27,7 +27,7 @@ use Rattle.sheet.specs.declared.cursor.Step.{Step}
 use Rattle.sheet.specs.Cursor.{step_at}
 use Rattle.sheet.proofs.Cursors.{Place, place}
 use Rattle.sheet.proofs.cursor.next.Goals as goal
-use Rattle.sheet.proofs.cursor.next.Goals.{After-bytes_of, After-counts_of-counts}
+use Rattle.sheet.proofs.cursor.next.Goals.{After-bytes, After-counts_of-counts}
 
 -- the counts behind a column stay small
 record Sums (c : Cursor) (counts : Counts) : Type 0 where
@@ -109,10 +109,10 @@ some_kind (Some k) b e l = search rules
 some_kind None b e l = let z : bytes_of_kind b ≡ 0 = rw e refl in absurd (omega arith)
 
 -- what is known of the bytes under the cursor, and then of the column that they tell
-bytes : (c : After-bytes_of) → c.bytes_of.result ≡ bytes_of_kind (get_or c.args.s.now c.args.c.at 0)
+bytes : (c : After-bytes) → c.bytes.result ≡ bytes_of_kind (get_or c.args.s.now c.args.c.at 0)
 bytes c =
     size_here c.args.s.now c.args.c (place c.requires) c.unwrap-kind.result (rw c.unwrap-kind.ensures at c.of.ensures)
-    c.bytes_of.result c.bytes_of.ensures
+    c.bytes.result c.bytes.ensures
 
 pub bounds-s-at : goal.bounds-s-at
 bounds-s-at c = let p = place c.requires in omega arith
@@ -124,39 +124,39 @@ pub overflow_add-start : goal.overflow_add-start
 overflow_add-start c = let p = place c.requires in omega arith
 
 pub overflow_add-end : goal.overflow_add-end
-overflow_add-end c = let p = place c.requires in let b = bytes (goal.at.overflow_add-end c).After-bytes_of in omega arith
+overflow_add-end c = let p = place c.requires in let b = bytes (goal.at.overflow_add-end c).After-bytes in omega arith
 
 pub slice_bounds-column_of-count : goal.slice_bounds-column_of-count
 slice_bounds-column_of-count c =
-    let p = place c.requires in let b = bytes (goal.at.slice_bounds-column_of-count c).After-bytes_of in omega arith
+    let p = place c.requires in let b = bytes (goal.at.slice_bounds-column_of-count c).After-bytes in omega arith
 
 pub slice_bounds-column_of-start : goal.slice_bounds-column_of-start
 slice_bounds-column_of-start c =
-    let p = place c.requires in let b = bytes (goal.at.slice_bounds-column_of-start c).After-bytes_of in omega arith
+    let p = place c.requires in let b = bytes (goal.at.slice_bounds-column_of-start c).After-bytes in omega arith
 
 pub slice_bounds-column_of-end : goal.slice_bounds-column_of-end
 slice_bounds-column_of-end c =
-    let p = place c.requires in let b = bytes (goal.at.slice_bounds-column_of-end c).After-bytes_of in omega arith
+    let p = place c.requires in let b = bytes (goal.at.slice_bounds-column_of-end c).After-bytes in omega arith
 
 pub column_of-requires : goal.column_of-requires
 column_of-requires c =
     body_long c.args.s.now c.args.c (place c.requires) c.unwrap-kind.result (rw c.unwrap-kind.ensures at c.of.ensures)
-    c.bytes_of.result c.bytes_of.ensures
+    c.bytes.result c.bytes.ensures
 
 pub unwrap-column-requires : goal.unwrap-column-requires
 unwrap-column-requires c =
     told c.args.s.now c.args.c (place c.requires) c.unwrap-kind.result (rw c.unwrap-kind.ensures at c.of.ensures)
-    c.bytes_of.result c.bytes_of.ensures c.column_of.result c.column_of.ensures
+    c.bytes.result c.bytes.ensures c.column_of.result c.column_of.ensures
 
 pub counts_of-counts-requires : goal.counts_of-counts-requires
 counts_of-counts-requires c =
     limited c.args.s.now c.args.c (place c.requires) c.unwrap-kind.result (rw c.unwrap-kind.ensures at c.of.ensures)
-    c.bytes_of.result c.bytes_of.ensures c.unwrap-column.result (rw c.unwrap-column.ensures at c.column_of.ensures)
+    c.bytes.result c.bytes.ensures c.unwrap-column.result (rw c.unwrap-column.ensures at c.column_of.ensures)
 
 small : (c : After-counts_of-counts) → Sums c.args.c c.counts_of-counts.result
 small c =
     sums c.args.s.now c.args.c (place c.requires) c.unwrap-kind.result (rw c.unwrap-kind.ensures at c.of.ensures)
-    c.bytes_of.result c.bytes_of.ensures c.unwrap-column.result (rw c.unwrap-column.ensures at c.column_of.ensures)
+    c.bytes.result c.bytes.ensures c.unwrap-column.result (rw c.unwrap-column.ensures at c.column_of.ensures)
     c.counts_of-counts.result c.counts_of-counts.ensures
 
 pub overflow_add-next : goal.overflow_add-next
@@ -174,5 +174,5 @@ overflow_add-next-4 c = let q = small (goal.at.overflow_add-next-4 c).After-coun
 pub returns : goal.returns
 returns c =
     finish c.args.s.now c.args.c (place c.requires) c.unwrap-kind.result (rw c.unwrap-kind.ensures at c.of.ensures)
-    c.bytes_of.result c.bytes_of.ensures c.unwrap-column.result (rw c.unwrap-column.ensures at c.column_of.ensures)
+    c.bytes.result c.bytes.ensures c.unwrap-column.result (rw c.unwrap-column.ensures at c.column_of.ensures)
     c.counts_of-counts.result c.counts_of-counts.ensures

@@ -91,12 +91,7 @@ fn greatest_returns(largest: u32) -> u32
     requires { 0 < largest }
     ensures { result ≡ greatest_of largest }
 {
-    let most = (field::P - 1) / largest;
-    if most < limits::MAX_RETURNS {
-        most
-    } else {
-        limits::MAX_RETURNS
-    }
+    ((field::P - 1) / largest).min(limits::MAX_RETURNS)
 }
 
 // What the counts of a sheet that is read come to.

@@ -30,7 +30,7 @@ fn copy(x: &[u32], first: usize, out: &mut [u32])
     }
 }
 
-// out[i] = x[first + i] for the first n, then out[n] = last
+// n members of x from `first`, then `last`
 fn copy_then(x: &[u32], first: usize, n: usize, last: u32, out: &mut [u32])
     requires { (first + n ≤ length x.now) × (length out.old ≡ suc n) }
     ensures { out.new ≡ tabulate (λ i. members x.now (first + i)) n ++ (last ∷ []) }
@@ -39,14 +39,14 @@ fn copy_then(x: &[u32], first: usize, n: usize, last: u32, out: &mut [u32])
     out[n] = last;
 }
 
-// out[i] = x[first + i] for the first n, then a and b
+// n members of x from `first`, then a and b
 fn copy_two(x: &[u32], first: usize, n: usize, a: u32, b: u32, out: &mut [u32])
     requires { (first + n ≤ length x.now) × (length out.old ≡ suc (suc n)) }
     ensures { out.new ≡ tabulate (λ i. members x.now (first + i)) n ++ (a ∷ b ∷ []) }
 {
-    let end = n + 1;
-    copy_then(x, first, n, a, &mut out[..end]);
-    out[end] = b;
+    copy(x, first, &mut out[..n]);
+    out[n] = a;
+    out[n + 1] = b;
 }
 
 // start + x[first] + .. + x[first + n - 1]
@@ -85,8 +85,7 @@ fn column_lefts(x: &[u32], e: usize, column: Column, out: &mut [u32])
     match column {
         Column::YesNo => out[0] = x[e],
         Column::Choice(_) => copy(x, e, out),
-        Column::Number(_) => copy(x, e + 1, out),
-        Column::Top(_) => copy(x, e + 1, out),
+        Column::Number(_) | Column::Top(_) => copy(x, e + 1, out),
         Column::Point(n) => copy_two(x, e + 4, 2 * n, x[e], x[e], out),
     }
 }

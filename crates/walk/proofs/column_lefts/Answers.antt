@@ -1,6 +1,7 @@
 -- `walk::column_lefts` meets its contract: by the kinds of columns, the entries from the first bit on, and behind those of a point
 -- its two products. Assumes nothing.
 use mathlib.Core.Path.{◌≡◌, sym, ap, ap₂, ◌∙◌}
+use mathlib.Core.Logic.{◌⊎◌, inl, inr}
 use mathlib.Core.List.{List}
 use Prim.Native.Nat.{ℕ, ◌+◌}
 use native.Mathlib.Nat.{add-zero}
@@ -12,6 +13,7 @@ use Rattle.rules.specs.Columns.{entries_of}
 use Rattle.rules.specs.Circuit.{bits_of, products_at, gates_of, products_of}
 use Rattle.rules.specs.Walk.{bits_at, column_lefts}
 use Rattle.columns.specs.declared.Column as code
+use Rattle.columns.specs.declared.Column.TheVariants as kind
 use Rattle.columns.specs.Kinds.{from_code}
 use Rattle.walk.specs.Walks.{plain, members}
 use Rattle.walk.proofs.Filling.{one_place}
@@ -41,6 +43,13 @@ from_bits a xs e b n none p q =
     ap₂ (λ (b n : ℕ). tabulate (λ i. members xs (b + i)) n) (sym p) q
     ∙ sym (lefts_bits (from_code a) e none (plain 0 (members xs)))
 
+-- a number and a top have their bits behind the first entry, and check nothing else
+behind_number : (a : code.Column) → ((n : ℕ) × (a ≡ kind.Number n)) ⊎ ((n : ℕ) × (a ≡ kind.Top n))
+    → (products_of (from_code a) ≡ 0) × ((e : ℕ) → bits_at e (from_code a) ≡ e + 1)
+unfolding bits_at products_of products_at
+behind_number a (inl q) = (products q.1, λ e. bits e q.1 ∙ sym (add-one e))
+behind_number a (inr q) = (products q.1, λ e. bits e q.1 ∙ sym (add-one e))
+
 -- they are then the last entries
 last_bits : (a : code.Column) (e : ℕ) → products_of (from_code a) ≡ 0
     → bits_at e (from_code a) + gates_of (from_code a) ≡ e + entries_of (from_code a)
@@ -64,18 +73,10 @@ copy-requires c =
     omega (arith, c.requires.0, c.requires.1, bits c.args.e told, last)
 
 pub copy-requires-in-Number : goal.copy-requires-in-Number
-unfolding bits_at products_of products_at
 copy-requires-in-Number c =
-    let told = c.in-Number.is in
-    let last = last_bits c.args.column c.args.e (products told) in
-    omega (arith, c.requires.0, c.requires.1, bits c.args.e told, last)
-
-pub copy-requires-in-Top : goal.copy-requires-in-Top
-unfolding bits_at products_of products_at
-copy-requires-in-Top c =
-    let told = c.in-Top.is in
-    let last = last_bits c.args.column c.args.e (products told) in
-    omega (arith, c.requires.0, c.requires.1, bits c.args.e told, last)
+    let told = behind_number c.args.column c.in-Number.is in
+    let last = last_bits c.args.column c.args.e told.0 in
+    omega (arith, c.requires.0, c.requires.1, told.1 c.args.e, last)
 
 pub overflow_add-e-in-Point : goal.overflow_add-e-in-Point
 unfolding entries_of
@@ -117,26 +118,15 @@ unfolding bits_at products_of products_at
 returns-in-Choice c =
     let a = c.args in
     let told = c.in-Choice.is in
-    let first = bits a.e told in
-    c.copy.ensures ∙ from_bits a.column a.x.now a.e a.e _ (products told) first c.requires.1
+    c.copy.ensures
+    ∙ from_bits a.column a.x.now a.e a.e _ (products told) (bits a.e told) c.requires.1
 
 pub returns-in-Number : goal.returns-in-Number
-unfolding bits_at products_of products_at
 returns-in-Number c =
     let a = c.args in
-    let told = c.in-Number.is in
-    let first = bits a.e told ∙ sym (add-one a.e) in
+    let told = behind_number a.column c.in-Number.is in
     c.copy-in-Number.ensures
-    ∙ from_bits a.column a.x.now a.e (a.e + 1) _ (products told) first c.requires.1
-
-pub returns-in-Top : goal.returns-in-Top
-unfolding bits_at products_of products_at
-returns-in-Top c =
-    let a = c.args in
-    let told = c.in-Top.is in
-    let first = bits a.e told ∙ sym (add-one a.e) in
-    c.copy-in-Top.ensures
-    ∙ from_bits a.column a.x.now a.e (a.e + 1) _ (products told) first c.requires.1
+    ∙ from_bits a.column a.x.now a.e (a.e + 1) _ told.0 (told.1 a.e) c.requires.1
 
 pub returns-in-Point : goal.returns-in-Point
 unfolding column_lefts bits_at bits_of products_at
